@@ -514,13 +514,10 @@ static PyObject *prepared_done_many(PyObject *self, PyObject *rows)
 static PyObject *prepared_names(PyObject *self, PyObject *Py_UNUSED(none))
 {
     Prepared *prepared = (Prepared *)self;
-    Statement *statement = &prepared->statement;
     Handle *handle = turn_of(prepared);
-    PyObject *names = NULL;
     if (handle == NULL)
         return is_closed();
-    if (statement_prepare(handle, statement) == 0 && statement_know_shape(handle, statement) == 0)
-        names = Py_NewRef(statement->shape == NULL ? Py_None : PyTuple_GetItem(statement->shape, 1));
+    PyObject *names = statement_names(handle, &prepared->statement);
     end_turn(handle);
     return names;
 }
@@ -533,7 +530,7 @@ static PyMethodDef prepared_methods[] = {
       "Does it with these parameters, and gives its rows, or how many rows it was about." },
     { "_done", prepared_done, METH_O, "Does it with these values." },
     { "_done_many", prepared_done_many, METH_O, "Does it with each of these rows of values." },
-    { "_names", prepared_names, METH_NOARGS, "The names of its columns, with the values that are bound." },
+    { "_names", prepared_names, METH_NOARGS, "The names of its columns, whatever its parameters are." },
     { NULL, NULL, 0, NULL },
 };
 

@@ -75,9 +75,12 @@ int statement_prepare(Handle *handle, Statement *statement);
 /* Lets a statement go, which may be prepared again. */
 void statement_finalize(Handle *handle, Statement *statement);
 
-/* Asks for the columns where they aren't known, once the values are bound. Where it is refused, they stay unknown, and
-   the execution is refused too. */
+/* Asks for the columns where they aren't known. Where it is refused, they stay unknown, and the execution is refused
+   too. */
 int statement_know_shape(Handle *handle, Statement *statement);
+
+/* The names of its columns, whatever its values are. What refuses them tells why of a line whose places have nulls. */
+PyObject *statement_names(Handle *handle, Statement *statement);
 
 /* Does a statement with the values of a tuple. Gives its rows, or how many rows it was about. */
 PyObject *statement_done(Handle *handle, Statement *statement, PyObject *values);

@@ -351,18 +351,40 @@ static PyObject **values_of(PyObject *tuple, PyObject **room, Py_ssize_t *count)
     return values;
 }
 
-int statement_prepare(Handle *handle, Statement *statement)
+/* Takes a step with a statement, whose values are nulls, which are for the words of a refusal. */
+static int with_nulls(Handle *handle, Statement *statement,
+                      int (*step)(Handle *, Statement *, PyObject *const *, Py_ssize_t))
 {
     PyObject *room[MOST_VALUES], *nulls = PyTuple_New(statement->places);
     Py_ssize_t count;
     for (Py_ssize_t at = 0; nulls != NULL && at < statement->places; at++)
         PyTuple_SetItem(nulls, at, Py_NewRef(Py_None));
     PyObject **values = nulls == NULL ? NULL : values_of(nulls, room, &count);
-    int status = values == NULL ? -1 : prepare(handle, statement, values, count);
+    int status = values == NULL ? -1 : step(handle, statement, values, count);
     if (values != room)
         PyMem_Free(values);
     Py_XDECREF(nulls);
     return status;
+}
+
+int statement_prepare(Handle *handle, Statement *statement)
+{
+    return with_nulls(handle, statement, prepare);
+}
+
+/* Makes the columns known. */
+static int know_names(Handle *handle, Statement *statement, PyObject *const *values, Py_ssize_t count)
+{
+    if (prepare(handle, statement, values, count) < 0 || statement_know_shape(handle, statement) < 0)
+        return -1;
+    return statement->shape != NULL ? 0 : refused(handle, statement, MMDB_REFUSED, values, count);
+}
+
+PyObject *statement_names(Handle *handle, Statement *statement)
+{
+    if (with_nulls(handle, statement, know_names) < 0)
+        return NULL;
+    return Py_NewRef(PyTuple_GetItem(statement->shape, 1));
 }
 
 PyObject *statement_done(Handle *handle, Statement *statement, PyObject *tuple)

@@ -320,7 +320,7 @@ class _Statement:
         return size
 
     def know_shape(self, handle: Handle) -> None:
-        """Asks for the columns where they aren't known. It is asked once the values are bound."""
+        """Asks for the columns where they aren't known."""
         if self.shape is not None and self.declarations == handle._declarations:
             return
         self.shape, self.declarations = None, handle._declarations
@@ -448,14 +448,17 @@ class Prepared:
         with handle._turn:
             return self._statement.done_many(handle, rows)
 
-    def _names(self) -> Optional[Tuple[str, ...]]:
-        """The names of its columns, with the values that are bound. None where it is refused with these."""
-        handle = self._open_handle()
+    def _names(self) -> Tuple[str, ...]:
+        """The names of its columns, whatever its parameters are."""
+        handle, statement = self._open_handle(), self._statement
         with handle._turn:
-            self._statement.prepare(handle, (None,) * self._statement.placed.places)
-            self._statement.know_shape(handle)
-            shape = self._statement.shape
-            return None if shape is None else shape.names
+            values = (None,) * statement.placed.places
+            statement.prepare(handle, values)
+            statement.know_shape(handle)
+            if statement.shape is None:
+                statement.failed(handle, _REFUSED, values)
+            assert statement.shape is not None
+            return statement.shape.names
 
     def _open_handle(self) -> Handle:
         if self._handle is None:

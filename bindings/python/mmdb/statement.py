@@ -2,7 +2,6 @@
 
 from __future__ import annotations
 
-import re
 from typing import TYPE_CHECKING, Any, Iterable, Mapping, Tuple
 
 from .errors import WrongUse
@@ -12,9 +11,6 @@ from .values import Value
 
 if TYPE_CHECKING:
     from .database import Parameters
-
-# Where the conditions of a select begin, in front of which there are no texts.
-_WHERE = re.compile(r"\bwhere\b", re.ASCII)
 
 
 class Statement(Prepared):
@@ -28,7 +24,6 @@ class Statement(Prepared):
         check_kind("prepare", line, *STATEMENTS)
         #: The line that it was made of.
         self.line = line
-        self._database = database
         self._placed = placed(line)
         super().__init__(database, self._placed)
 
@@ -58,15 +53,7 @@ class Statement(Prepared):
         Raises `Refused` where it is refused whatever its parameters are.
         """
         self._check()
-        if not self._placed.is_select:
-            return ()
-        # (they hang on no condition, and so on no parameter)
-        asked = Prepared(self._database, placed(_WHERE.split(self.line, maxsplit=1)[0]))
-        try:
-            names: Tuple[str, ...] = asked._names() or asked._done(()).names
-            return names
-        finally:
-            asked.close()
+        return self._names() if self._placed.is_select else ()
 
     def __enter__(self) -> Statement:
         return self

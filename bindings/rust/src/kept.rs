@@ -7,7 +7,7 @@ use std::sync::Arc;
 use crate::bound::Bound;
 use crate::error::{Error, Result};
 use crate::library::{Declined, Handle, Prepared};
-use crate::line::{bind, fill, find_places, is_select, with_marks, without_conditions, Place};
+use crate::line::{bind, fill, find_places, is_select, with_marks, Place};
 use crate::params::Params;
 use crate::rows::RowsRef;
 use crate::session::refused;
@@ -96,13 +96,8 @@ impl Kept {
     /// The names of the columns that its rows have, whatever its values are. There are none of a change.
     pub(crate) fn names(&mut self, handle: &Handle, declared: u64) -> Result<&[String]> {
         if self.is_select && self.named_at != Some(declared) {
-            let line = without_conditions(&self.written.line);
-            let why = |declined| refusal_of(handle, declined, line.to_string(), true);
-            let mut all = handle.prepare(line.as_bytes()).map_err(why)?;
-            let names = handle.columns(&mut all);
-            let names = names.map_err(why);
-            handle.finalize(&mut all);
-            self.names = Arc::new(names?);
+            let names = handle.columns(&mut self.prepared);
+            self.names = Arc::new(names.map_err(|declined| why_not_prepared(handle, &self.written.line, declined))?);
             self.named_at = Some(declared);
         }
         Ok(&self.names)
@@ -146,7 +141,7 @@ impl Written {
     }
 }
 
-/// Why a line was declined to be prepared. It is told with nulls in its places.
+/// Why a line was declined whatever its values are. It is told with nulls in its places.
 #[cold]
 pub(crate) fn why_not_prepared(handle: &Handle, line: &str, declined: Declined) -> Error {
     let (mut places, mut filled) = (Vec::new(), String::new());

@@ -204,21 +204,6 @@ pub(crate) fn is_select(line: &str) -> bool {
     first_word(line) == "select"
 }
 
-/// A select without its conditions, which are the one part of it that has values and texts.
-pub(crate) fn without_conditions(line: &str) -> &str {
-    let word = "where";
-    let is_apart = |at: usize| {
-        let before = line[..at].chars().next_back();
-        before.map_or(true, |before| !is_of_name(before)) && word_at(line, at) == word
-    };
-    let conditions = line.match_indices(word).map(|(at, _)| at).find(|at| is_apart(*at));
-    &line[..conditions.unwrap_or(line.len())]
-}
-
-fn is_of_name(character: char) -> bool {
-    character.is_ascii_alphanumeric() || character == '_'
-}
-
 fn first_token(line: &str) -> &str {
     line.trim_start_matches(BLANKS)
 }

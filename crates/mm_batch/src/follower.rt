@@ -121,29 +121,37 @@ impl Follower {
         }
     }
 
-    /// Takes the bytes up to the end of the request, or all where it doesn't end in them. It tells how many it took, and whether
-    /// the request is whole.
-    pub fn take(&mut self, bytes: &[u8]) -> (usize, bool)
-        ensures within { result.0 ≤ length bytes.now }
-        ensures some { 0 < length bytes.now → 0 < result.0 }
+    // Takes the bytes up to the end of a line or of a block, or all where neither ends in them. It tells how many it took.
+    fn take(&mut self, bytes: &[u8]) -> usize
+        ensures within { result ≤ length bytes.now }
+        ensures some { 0 < length bytes.now → 0 < result }
     {
         if self.to_come > 0 {
             let length = self.to_come.min(bytes.len() as u64) as usize;
             let (front, _) = bytes.split_at(length);
             self.take_block(front);
-            return (length, self.to_come == 0);
+            return length;
         }
         match split_line(bytes) {
             Some((front, _)) => {
                 self.take_line(front);
                 self.count_lines(1);
                 self.begin_block();
-                (front.len() + 1, self.to_come == 0)
+                front.len() + 1
             }
             None => {
                 self.take_line(bytes);
-                (bytes.len(), false)
+                bytes.len()
             }
+        }
+    }
+
+    /// Follows bytes of the request, up to its end at most.
+    pub fn follow(&mut self, bytes: &[u8]) {
+        let mut rest = bytes;
+        while !rest.is_empty() {
+            let n = self.take(rest);
+            rest = rest.split_at(n).1;
         }
     }
 }

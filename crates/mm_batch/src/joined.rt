@@ -8,6 +8,12 @@ ghost use Rattle.mm_batch.specs.Joining.{left, joined_known};
 use std::io;
 use std::io::Read;
 
+/// A reader that reads several, one behind the other.
+pub trait Parts {
+    /// The number of the reader that the last bytes are of. A line feed between two is of the first.
+    fn given(&self) -> usize;
+}
+
 /// Readers, one read behind the other. Where the bytes of one end inside a line and another stands behind it, a line feed comes
 /// between them.
 #[derive(Drop)]
@@ -25,9 +31,10 @@ impl<R> Joined<R> {
     pub fn current(&self) -> Option<&R> {
         self.readers.get(self.place)
     }
+}
 
-    /// The number of the reader that the last bytes are of. A line feed between two is of the first.
-    pub fn given(&self) -> usize {
+impl<R> Parts for Joined<R> {
+    fn given(&self) -> usize {
         self.given
     }
 }

@@ -3,8 +3,10 @@ ghost use Rattle.std.specs.Prelude.{◌≡◌, ◌++◌, ◌∷◌, ◌+◌, ◌
 ghost use Rattle.plain_tables.specs.Stored.{link_number};
 ghost use Rattle.plain_tables.specs.declared.value.Value.TheVariants as value;
 ghost use Rattle.std.specs.List.{All};
-ghost use Rattle.mm_cells.specs.Reading.{cell_value, IsReadable};
+ghost use Rattle.mm_cells.specs.Parts.{values_of};
+ghost use Rattle.mm_cells.specs.Reading.{cell_value};
 
+use crate::parts::Parts;
 use no_memory::NoMemory;
 use plain_tables::{SeenValue, StoredValue, Value};
 use std::alloc::Global;
@@ -31,6 +33,24 @@ pub struct Cell {
 }
 
 const _: () = prove!(size_of::<Cell>() == 16);
+
+// Appends a full name, a table's and a column's with a dot between them, to the bytes of texts: all of it, or nothing.
+fn append_name(texts: &mut Vec<u8>, table: &str, column: &str) -> Result<(), NoMemory>
+    ensures appended { OnOk result (texts.new.items ≡ texts.old.items ++ (table.now ++ 46 ∷ column.now)) }
+    ensures unchanged { OnErr result (texts.new.items ≡ texts.old.items) }
+{
+    let Some(length) = table.len().checked_add(1) else {
+        return Err(NoMemory);
+    };
+    let Some(length) = length.checked_add(column.len()) else {
+        return Err(NoMemory);
+    };
+    texts.reserve(length)?;
+    texts.extend_from_slice(table.as_bytes())?;
+    texts.push(b'.')?;
+    texts.extend_from_slice(column.as_bytes())?;
+    Ok(())
+}
 
 /// Values as cells. Contracts see the values that are read.
 #[derive(Drop)]
@@ -69,12 +89,20 @@ impl Cells {
         self.cells.len()
     }
 
-    /// The cells, and the bytes of their texts, to be read where they lie.
-    pub fn parts(&self) -> (&Vec<Cell>, &Vec<u8>)
-        ensures values { map (cell_value result.1.now.items) result.0.now.items ≡ self.now }
-        ensures readable { All (IsReadable result.1.now.items) result.0.now.items }
+    /// The values that parts are.
+    pub fn from_parts(parts: Parts) -> Cells
+        ensures { result ≡ values_of parts }
     {
-        (&self.cells, &self.texts)
+        let Parts { cells, texts } = parts;
+        Cells { cells, texts }
+    }
+
+    /// The cells, and the bytes of their texts, to be read where they lie.
+    pub fn into_parts(self) -> Parts
+        ensures { values_of result ≡ self }
+    {
+        let Cells { cells, texts } = self;
+        Parts { cells, texts }
     }
 
     // Puts a cell that is no text behind the others.
@@ -128,6 +156,30 @@ impl Cells {
         };
         self.cells.reserve(1)?;
         self.texts.extend_from_slice(text.as_bytes())?;
+        self.cells.push(Cell {
+            integer: 0,
+            at,
+            length,
+            kind: TEXT,
+        })?;
+        Ok(())
+    }
+
+    /// Appends a full name as a text: a table's name, a dot and a column's. It fails as `push_text` does, and then appends nothing.
+    pub fn push_name(&mut self, table: &str, column: &str) -> Result<(), NoMemory>
+        ensures pushed { OnOk result (self.new ≡ self.old ++ value.Text (table.now ++ 46 ∷ column.now) ∷ []) }
+        ensures unchanged { OnErr result (self.new ≡ self.old) }
+    {
+        let before = self.texts.len();
+        let Ok(at) = u32::try_from(before) else {
+            return Err(NoMemory);
+        };
+        self.cells.reserve(1)?;
+        append_name(&mut self.texts, table, column)?;
+        let Ok(length) = u16::try_from(self.texts.len() - before) else {
+            self.texts.truncate(before);
+            return Err(NoMemory);
+        };
         self.cells.push(Cell {
             integer: 0,
             at,

@@ -7,7 +7,6 @@ use Rattle.std.proofs.lemmas.Grind.{flat_map-append}
 use Rattle.std.proofs.lemmas.List.{append-nil, length-append, get_or_append_left}
 use Rattle.std.proofs.Math.Seq.{get_or-append_seam}
 use Rattle.mm_catalog.specs.Indexes.{TellsIndex}
-use Rattle.mm_catalog.specs.Resolve.{table_number}
 use Rattle.mm_catalog.specs.State.{CatalogState}
 use Rattle.mm_catalog.specs.declared.indexes.TableIndex.{TableIndex}
 
@@ -31,6 +30,6 @@ records_more f before after now xs x was added =
     ∙ ap (λ text. now ++ (flat_map f xs ++ text)) (sym (append-nil (f x))) ∙ ap (λ text. now ++ text) (sym (flat_map-append f xs (x ∷ [])))
 
 -- where no table has a number, none has a place
-pub no_place : (place : Option ℕ) → option_map table_number place ≡ None → place ≡ None
-no_place None is = refl
-no_place (Some n) is = absurd (cc)
+pub no_place : {X : Type 0} (number : ℕ → X) (place : Option ℕ) → option_map number place ≡ None → place ≡ None
+no_place number None is = refl
+no_place number (Some n) is = absurd (cc)

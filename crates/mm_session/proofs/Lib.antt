@@ -3,6 +3,7 @@ pub mod AskLemmas
 pub mod BatchLemmas
 pub mod BesideLemmas
 pub mod DumpLemmas
+pub mod EachLemmas
 pub mod IndexLemmas
 pub mod KeptLemmas
 pub mod LineLemmas
@@ -24,7 +25,9 @@ pub mod ScannedLemmas
 pub mod SelectLemmas
 pub mod ShortTexts
 pub mod ShowLemmas
+pub mod StreamLemmas
 pub mod TakeLemmas
+pub mod TurnLemmas
 pub mod WalkedLemmas
 pub mod WholeLemmas
 pub mod WritingLemmas

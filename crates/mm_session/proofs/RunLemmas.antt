@@ -18,7 +18,8 @@ use Rattle.plain_streams.proofs.Asking.{asks_or_not, asks_one, takes_one}
 use Rattle.plain_streams.proofs.DivisionLemmas.{Divides-append, Divides-unfinished, Divides-whole, Divides-nil, divides_in_one_way, every_stream_divides, request_of-line, request_of-bytes}
 use Rattle.plain_streams.proofs.RunSteps.{AnswersAll-append}
 use Rattle.mm_session.specs.Kept.{Keeps, nothing, is_nothing}
-use Rattle.mm_session.specs.Sessions.{State, StandsIn, Feeds, Finishes, IsFrontOfRun, BreaksOff, new_session}
+use Rattle.mm_session.specs.Sessions.{State, StandsIn, Feeds, Finishes, IsRequests, IsBrokenOff, BreaksOff, new_session}
+use Rattle.mm_session.specs.WholeRuns.{IsFrontOfRun}
 use Rattle.mm_session.proofs.AskLemmas.{has_block-asked, has_block-unasked}
 use Rattle.mm_session.proofs.KeptLemmas.{keeps-unfinished, keeps-nothing, nothing-kept, something-kept}
 
@@ -94,28 +95,65 @@ all-fit (request ∷ requests) finished rest each unfinished = (whole-fits reque
 
 -- ---- runs
 
--- a run that has not finished may go on whatever comes
-pub run_goes_on : (limits : Limits) (from : Database) (stream more : List ℕ) (finished : Bool) (a : List ℕ) (d : Database)
-    → RunOf limits from stream false a d → IsFrontOfRun limits from (stream ++ more) finished a
-run_goes_on limits from stream more finished a d (requests, rest, divides, all) =
-    let (others, last, further) = every_stream_divides (rest ++ more) in
-    let (b, to, then) = answers_of limits d (others ++ last_request finished last) (all-fit others finished last further.each further.unfinished) in (
-      a ++ b,
+-- what fits behind some requests
+fit-behind : (first others : List Request) → AllByRecursion Fits (first ++ others) → AllByRecursion Fits others
+fit-behind [] others fit = fit
+fit-behind (request ∷ first) others fit = fit-behind first others fit.1
+
+-- A run that broke off may go on to the end of the stream.
+pub broken_goes_on : (limits : Limits) (from : Database) (stream : List ℕ) (finished : Bool) (bytes : List ℕ) (after : Database)
+    → IsBrokenOff limits from stream finished bytes after → IsFrontOfRun limits from stream finished bytes
+broken_goes_on limits from stream finished bytes after broken =
+    let (requests, rest, divides, are) = broken.requests in
+    let fit : AllByRecursion Fits (broken.first ++ (broken.cut ++ broken.others)) =
+    subst (AllByRecursion Fits) (sym are) (all-fit requests finished rest divides.each divides.unfinished) in
+    let (b, to, then) = answers_of limits after broken.others (fit-behind broken.cut broken.others (fit-behind broken.first (broken.cut ++ broken.others) fit)) in
+    let last = AnswersAll-append limits broken.between broken.cut broken.others (broken.sent ++ broken.unsent) b after to broken.begun then in
+    let all = AnswersAll-append limits from broken.first (broken.cut ++ broken.others) broken.whole ((broken.sent ++ broken.unsent) ++ b) broken.between to broken.answered last in
+    let behind : List ℕ = broken.unsent ++ b in (
+      broken.whole ++ ((broken.sent ++ broken.unsent) ++ b),
       to,
+      (requests, rest, divides, subst (λ rs. AnswersAll limits from rs (broken.whole ++ ((broken.sent ++ broken.unsent) ++ b)) to) are all),
       (
-        requests ++ others,
-        last,
-        Divides-append stream more requests rest others last divides further,
-        rw append_assoc (AnswersAll-append limits from requests (others ++ last_request finished last) a b d to (rw append-nil at all) then),
+        behind,
+        ap (λ t. broken.whole ++ t) (append_assoc broken.sent broken.unsent b) ∙ sym (append_assoc broken.whole broken.sent behind)
+            ∙ ap (λ t. t ++ behind) (sym broken.gained),
       ),
-      (b, refl),
     )
 
-pub front_goes_on : (limits : Limits) (from : Database) (stream more : List ℕ) (finished : Bool) (bytes : List ℕ)
-    → IsFrontOfRun limits from stream false bytes → IsFrontOfRun limits from (stream ++ more) finished bytes
-front_goes_on limits from stream more finished bytes (a, d, run, (behind, is)) =
-    let (all, to, longer, (b, joined)) = run_goes_on limits from stream more finished a d run in
-    (all, to, longer, (behind ++ b, joined ∙ ap (λ t. t ++ b) is ∙ append_assoc bytes behind b))
+-- However the stream goes on, it broke off there.
+pub broken-longer : (limits : Limits) (from : Database) (stream more bytes : List ℕ) (after : Database)
+    → IsBrokenOff limits from stream false bytes after → IsBrokenOff limits from (stream ++ more) false bytes after
+broken-longer limits from stream more bytes after broken =
+    let (requests, rest, divides, are) = broken.requests in
+    let (further, last, divided) = every_stream_divides (rest ++ more) in
+    record {
+      first = broken.first;
+      cut = broken.cut;
+      others = broken.others ++ further;
+      requests = (
+        requests ++ further,
+        last,
+        Divides-append stream more requests rest further last divides divided,
+        longer requests further are,
+      );
+      one = broken.one;
+      whole = broken.whole;
+      sent = broken.sent;
+      unsent = broken.unsent;
+      between = broken.between;
+      answered = broken.answered;
+      begun = broken.begun;
+      gained = broken.gained;
+    }
+  where
+    longer : (requests further : List Request) → broken.first ++ (broken.cut ++ broken.others) ≡ requests ++ []
+        → broken.first ++ (broken.cut ++ (broken.others ++ further)) ≡ (requests ++ further) ++ []
+    longer requests further are =
+        ap (λ rs. broken.first ++ rs) (sym (append_assoc broken.cut broken.others further))
+        ∙ sym (append_assoc broken.first (broken.cut ++ broken.others) further)
+        ∙ ap (λ rs. rs ++ further) (are ∙ append-nil requests)
+        ∙ sym (append-nil (requests ++ further))
 
 -- ---- a session in a run
 
@@ -196,64 +234,124 @@ feeds_rest old new bytes keeps database going_on limits = record {
 
 -- ---- writes that failed
 
-pub breaks_off : (old new : State) (piece answer sent unsent : List ℕ) → Feeds old new piece answer → answer ≡ sent ++ unsent → BreaksOff old piece false sent
-breaks_off old new piece answer sent unsent feeds is from stream answers st = (
-  answers ++ answer,
-  new.database,
-  rw feeds.limits at (feeds.run from stream answers st).run,
-  (unsent, ap (λ t. answers ++ t) is ∙ sym (append_assoc answers sent unsent)),
-)
+-- all requests of a stream were answered, and no other
+pub all-answered : (limits : Limits) (from : Database) (stream : List ℕ) (finished : Bool) (bytes : List ℕ) (after : Database)
+    → RunOf limits from stream finished bytes after → IsBrokenOff limits from stream finished bytes after
+all-answered limits from stream finished bytes after (requests, rest, divides, all) = record {
+  first = requests ++ last_request finished rest;
+  cut = [];
+  others = [];
+  requests = (requests, rest, divides, append-nil (requests ++ last_request finished rest));
+  one = omega arith;
+  whole = bytes;
+  sent = [];
+  unsent = [];
+  between = after;
+  answered = all;
+  begun = (refl, refl);
+  gained = sym (append-nil bytes);
+}
 
-pub breaks_off_later : (a b : State) (x y more g h : List ℕ) (finished : Bool) → Feeds a b x g → BreaksOff b y false h → BreaksOff a (x ++ (y ++ more)) finished (g ++ h)
-breaks_off_later a b x y more g h finished feeds breaks from stream answers st =
+-- the last request of a stream was cut off
+pub cut_off : (limits : Limits) (from : Database) (stream : List ℕ) (finished : Bool) (requests : List Request) (request : Request)
+    (answers sent unsent : List ℕ) (between after : Database) → IsRequests stream finished (requests ++ request ∷ [])
+    → AnswersAll limits from requests answers between → Answers limits between request (sent ++ unsent) after
+    → IsBrokenOff limits from stream finished (answers ++ sent) after
+cut_off limits from stream finished requests request answers sent unsent between after are all answered = record {
+  first = requests;
+  cut = request ∷ [];
+  others = [];
+  requests = are;
+  one = omega arith;
+  whole = answers;
+  sent = sent;
+  unsent = unsent;
+  between = between;
+  answered = all;
+  begun = AnswersAll-one limits between request (sent ++ unsent) after answered;
+  gained = refl;
+}
+
+-- all was written, and then it failed
+pub breaks_off : (old new : State) (piece gained : List ℕ) → Feeds old new piece gained → BreaksOff old new piece false gained
+breaks_off old new piece gained feeds from stream answers st =
+    all-answered old.limits from (stream ++ piece) false (answers ++ gained) new.database (rw feeds.limits at (feeds.run from stream answers st).run)
+
+-- bytes that complete a request, whose answer was not written whole
+pub breaks_off_request : (old new : State) (bytes answer sent unsent : List ℕ)
+    → ((rest : List ℕ) → Keeps old.limits rest old.kept → (request : Request) × IsWhole request × (rest ++ bytes ≡ request_bytes request) × Answers old.limits old.database request answer new.database)
+    → answer ≡ sent ++ unsent → BreaksOff old new bytes false sent
+breaks_off_request old new bytes answer sent unsent completes is from stream answers st =
+    let s = standing old from stream answers st in
+    let (request, whole, joined, answered) = completes s.rest s.keeps in
+    let all : List Request = s.requests ++ request ∷ [] in
+    cut_off old.limits from (stream ++ bytes) false s.requests request answers sent unsent old.database new.database
+    (all, [], Divides-whole stream bytes s.requests s.rest request whole joined s.divides, sym (append-nil all))
+    s.answered (subst (λ a. Answers old.limits old.database request a new.database) is answered)
+
+pub breaks_off_later : (a b c : State) (x y more g h : List ℕ) → Feeds a b x g → BreaksOff b c y false h → BreaksOff a c (x ++ (y ++ more)) false (g ++ h)
+breaks_off_later a b c x y more g h feeds breaks from stream answers st =
     let front = breaks from (stream ++ x) (answers ++ g) (feeds.run from stream answers st) in
     rw (← append_assoc stream x (y ++ more), ← append_assoc (stream ++ x) y more, ← append_assoc answers g h)
-    (front_goes_on a.limits from ((stream ++ x) ++ y) more finished ((answers ++ g) ++ h) (rw feeds.limits at front))
+    (broken-longer a.limits from ((stream ++ x) ++ y) more ((answers ++ g) ++ h) c.database (rw feeds.limits at front))
 
 -- ---- the end of the stream
 
-pub finishes_nothing : (s : State) → is_nothing s.kept ≡ true → Finishes s []
-finishes_nothing s h from stream answers st =
-    let t = standing s from stream answers st in
-    let none : [] ≡ t.rest = nothing-kept s.limits t.rest s.kept h t.keeps in (
-      s.database,
-      (
-        t.requests,
-        t.rest,
-        t.divides,
-        subst (λ r. AnswersAll s.limits from (t.requests ++ last_request true r) (answers ++ []) s.database) none (rw (append-nil, append-nil) t.answered),
-      ),
+pub finishes_nothing : (old new : State) → is_nothing old.kept ≡ true → new.database ≡ old.database → Finishes old new []
+finishes_nothing old new h same from stream answers st =
+    let t = standing old from stream answers st in
+    let none : [] ≡ t.rest = nothing-kept old.limits t.rest old.kept h t.keeps in (
+      t.requests,
+      t.rest,
+      t.divides,
+      rw same (subst (λ r. AnswersAll old.limits from (t.requests ++ last_request true r) (answers ++ []) old.database) none (rw (append-nil, append-nil) t.answered)),
     )
 
 last-some : (rest : List ℕ) → rest ≢ [] → last_request true rest ≡ request_of rest ∷ []
 last-some [] some = absurd (some refl)
 last-some (b ∷ rest) some = refl
 
-pub finishes_last : (s : State) (answer : List ℕ) (after : Database) → is_nothing s.kept ≡ false
-    → ((rest : List ℕ) → Keeps s.limits rest s.kept → rest ≢ [] → Answers s.limits s.database (request_of rest) answer after) → Finishes s answer
-finishes_last s answer after h answered from stream answers st =
-    let t = standing s from stream answers st in
-    let some = something-kept s.limits t.rest s.kept h t.keeps in (
-      after,
-      (
-        t.requests,
-        t.rest,
-        t.divides,
-        rw (last-some t.rest some) (AnswersAll-append s.limits from t.requests (request_of t.rest ∷ []) answers answer s.database after t.answered
-            (AnswersAll-one s.limits s.database (request_of t.rest) answer after (answered t.rest t.keeps some))),
-      ),
+-- Whatever the rest is, if it isn't empty, that answers the request that begins with it.
+abbrev AnswersRest : State → State → List ℕ → Type 0
+AnswersRest old new answer = (rest : List ℕ) → Keeps old.limits rest old.kept → rest ≢ [] → Answers old.limits old.database (request_of rest) answer new.database
+
+pub finishes_last : (old new : State) (answer : List ℕ) → is_nothing old.kept ≡ false → AnswersRest old new answer → Finishes old new answer
+finishes_last old new answer h answered from stream answers st =
+    let t = standing old from stream answers st in
+    let some = something-kept old.limits t.rest old.kept h t.keeps in (
+      t.requests,
+      t.rest,
+      t.divides,
+      rw (last-some t.rest some) (AnswersAll-append old.limits from t.requests (request_of t.rest ∷ []) answers answer old.database new.database t.answered
+          (AnswersAll-one old.limits old.database (request_of t.rest) answer new.database (answered t.rest t.keeps some))),
     )
 
-pub breaks_off_at_end : (s : State) (answer sent unsent : List ℕ) → Finishes s answer → answer ≡ sent ++ unsent → BreaksOff s [] true sent
-breaks_off_at_end s answer sent unsent finishes is from stream answers st =
-    let (after, run) = finishes from stream answers st in
-    (answers ++ answer, after, rw append-nil run, (unsent, ap (λ t. answers ++ t) is ∙ sym (append_assoc answers sent unsent)))
+-- The answer to the last request was not written whole.
+pub breaks_off_last : (old new : State) (answer sent unsent : List ℕ) → is_nothing old.kept ≡ false → AnswersRest old new answer
+    → answer ≡ sent ++ unsent → BreaksOff old new [] true sent
+breaks_off_last old new answer sent unsent h answered is from stream answers st =
+    let t = standing old from stream answers st in
+    let some = something-kept old.limits t.rest old.kept h t.keeps in
+    rw append-nil (cut_off old.limits from stream true t.requests (request_of t.rest) answers sent unsent old.database new.database
+    (t.requests, t.rest, t.divides, ap (λ rs. t.requests ++ rs) (sym (last-some t.rest some)))
+    t.answered (subst (λ a. Answers old.limits old.database (request_of t.rest) a new.database) is (answered t.rest t.keeps some)))
+
+-- all was written, and then it failed
+pub breaks_off_at_end : (old new : State) (gained : List ℕ) → Finishes old new gained → BreaksOff old new [] true gained
+breaks_off_at_end old new gained finishes from stream answers st =
+    rw append-nil (all-answered old.limits from stream true (answers ++ gained) new.database (finishes from stream answers st))
 
 pub stands_new : (limits : Limits) → StandsIn (new_session limits []) [] [] []
 stands_new limits = record { keeps = ([], [], Divides-nil, keeps-nothing limits); run = ([], [], Divides-nil, (refl, refl)) }
 
-pub front_at_end : (s : State) (limits : Limits) (from : Database) (stream answers sent : List ℕ) → s.limits ≡ limits → BreaksOff s [] true sent
-    → StandsIn s from stream answers → IsFrontOfRun limits from stream true (answers ++ sent)
-front_at_end s limits from stream answers sent same breaks st =
-    subst (λ l. IsFrontOfRun l from stream true (answers ++ sent)) same
-    (subst (λ t. IsFrontOfRun s.limits from t true (answers ++ sent)) (append-nil stream) (breaks from stream answers st))
+-- ---- a run that broke off
+
+pub front_in_stream : (old new : State) (limits : Limits) (from : Database) (stream piece answers sent : List ℕ) → old.limits ≡ limits
+    → BreaksOff old new piece false sent → StandsIn old from stream answers → IsFrontOfRun limits from (stream ++ piece) false (answers ++ sent)
+front_in_stream old new limits from stream piece answers sent same breaks st =
+    broken_goes_on limits from (stream ++ piece) false (answers ++ sent) new.database (rw same at (breaks from stream answers st))
+
+pub front_at_end : (old new : State) (limits : Limits) (from : Database) (stream answers sent : List ℕ) → old.limits ≡ limits
+    → BreaksOff old new [] true sent → StandsIn old from stream answers → IsFrontOfRun limits from stream true (answers ++ sent)
+front_at_end old new limits from stream answers sent same breaks st =
+    broken_goes_on limits from stream true (answers ++ sent) new.database (rw (same, append-nil) at (breaks from stream answers st))

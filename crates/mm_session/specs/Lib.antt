@@ -4,12 +4,14 @@ pub mod Buffers
 pub mod Changing
 pub mod Columns
 pub mod Dumps
+pub mod Each
 pub mod IndexAnswers
 pub mod Judging
 pub mod Kept
 pub mod Listed
 pub mod Listing
 pub mod Members
+pub mod NextRequest
 pub mod OneRequest
 pub mod OnlyRow
 pub mod Passing
@@ -18,6 +20,8 @@ pub mod Refused
 pub mod Responding
 pub mod Sessions
 pub mod Shown
+pub mod StreamLaws
+pub mod Turns
 pub mod Walked
 pub mod WholeRuns
 pub mod Writing

@@ -1,13 +1,13 @@
 -- What a session is seen as, and what its calls do to the run that it is in.
-use Rattle.std.specs.Prelude.{◌≡◌, ℕ, List, ◌++◌, Bool, true, false, Option}
+use Rattle.std.specs.Prelude.{◌≡◌, ℕ, ◌≤◌, List, ◌++◌, length, Bool, true, false, Option}
 use Rattle.std.specs.Io.KnownBytes.{Appends}
 use Rattle.mm_session.specs.Kept.{Keeps, nothing}
 use Rattle.mm_session.specs.declared.stream.kept.Kept.{Kept}
 use Rattle.plain_tables.specs.Databases.{Database}
 use Rattle.plain_tables.specs.declared.command.Limits.{Limits}
 use Rattle.plain_streams.specs.Requests.{Request}
-use Rattle.plain_streams.specs.Division.{Divides}
-use Rattle.plain_streams.specs.Runs.{RunOf}
+use Rattle.plain_streams.specs.Division.{Divides, last_request}
+use Rattle.plain_streams.specs.Runs.{AnswersAll, RunOf}
 
 -- A session is seen as its limits, its tables, whether it has ended, and what it keeps of the request that has not.
 pub record State : Type 0 where
@@ -37,24 +37,40 @@ pub record Feeds (old new : State) (piece gained : List ℕ) : Type 0 where
   pub run : (from : Database) (stream answers : List ℕ) → StandsIn old from stream answers
       → StandsIn new from (stream ++ piece) (answers ++ gained)
 
--- in whichever run the session stood, the finished stream has the answers so far and what was gained
-abbrev pub Finishes : State → List ℕ → Type 0
-Finishes old gained =
+-- in whichever run the session stood, the finished stream has the answers so far and what was gained, and leaves the session's
+-- tables
+abbrev pub Finishes : State → State → List ℕ → Type 0
+Finishes old new gained =
     (from : Database) (stream answers : List ℕ) → StandsIn old from stream answers
-    → (after : Database) × RunOf old.limits from stream true (answers ++ gained) after
+    → RunOf old.limits from stream true (answers ++ gained) new.database
 
--- the bytes are the front of the answers of some run over that stream
-abbrev pub IsFrontOfRun : Limits → Database → List ℕ → Bool → List ℕ → Type 0
-IsFrontOfRun limits from stream finished bytes =
-    (answers : List ℕ) × (after : Database) × RunOf limits from stream finished answers after
-    × ((more : List ℕ) × (answers ≡ bytes ++ more))
+-- the stream, which is finished or not, is these requests
+abbrev pub IsRequests : List ℕ → Bool → List Request → Type 0
+IsRequests stream finished all =
+    (requests : List Request) × (rest : List ℕ) × Divides stream requests rest × (all ≡ requests ++ last_request finished rest)
 
--- in whichever run the session stood, the answers so far and what was gained are the front of those of some run over
--- the stream with the piece behind it
-abbrev pub BreaksOff : State → List ℕ → Bool → List ℕ → Type 0
-BreaksOff old piece finished gained =
+-- Of the stream some first requests were answered, and one more at most, of whose answer a front is there. The bytes are that,
+-- and the tables are those that these requests leave.
+pub record IsBrokenOff (limits : Limits) (from : Database) (stream : List ℕ) (finished : Bool) (bytes : List ℕ) (after : Database) : Type 0 where
+  pub first : List Request
+  pub cut : List Request
+  pub others : List Request
+  pub requests : IsRequests stream finished (first ++ (cut ++ others))
+  pub one : length cut ≤ 1
+  pub whole : List ℕ
+  pub sent : List ℕ
+  pub unsent : List ℕ
+  pub between : Database
+  pub answered : AnswersAll limits from first whole between
+  pub begun : AnswersAll limits between cut (sent ++ unsent) after
+  pub gained : bytes ≡ whole ++ sent
+
+-- in whichever run the session stood, the stream with the piece behind it broke off at the answers so far and what was gained, and
+-- at the session's tables
+abbrev pub BreaksOff : State → State → List ℕ → Bool → List ℕ → Type 0
+BreaksOff old new piece finished gained =
     (from : Database) (stream answers : List ℕ) → StandsIn old from stream answers
-    → IsFrontOfRun old.limits from (stream ++ piece) finished (answers ++ gained)
+    → IsBrokenOff old.limits from (stream ++ piece) finished (answers ++ gained) new.database
 
 -- a session over these tables that has been fed nothing
 abbrev pub new_session : Limits → Database → State

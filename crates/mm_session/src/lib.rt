@@ -4,7 +4,7 @@
 //!  pieces of bytes ──▶ requests ──▶ command ──▶ effect on the tables ──▶ answer ──▶ bytes
 //!   session             stream:      execute:    execute: search, query,   answer:    stream:
 //!   stream: whole_run   responder,   respond     select, listing, blocks   records    writing
-//!                       lines, kept, and parse   and mm_catalog            and mm_csv
+//!    outlet             lines, kept, and parse   and mm_catalog            and mm_csv
 //!                       pending_block
 //! ```
 //!
@@ -15,6 +15,7 @@
 //! - What is kept between two pieces is the unfinished request and nothing else: its line in a buffer that never grows, and its
 //!   block in memory that is asked for once, when the line has ended. A block that cannot be kept is counted down.
 //! - A command is done whole or not at all: a refused change leaves all as it was, and the answer to one that is done needs no memory.
+//! - A whole run reads only while the outlet of its answers holds nothing back.
 //! - An answer is whole before its first byte is written, so that a refusal can still stand in its place.
 //! - A session that met a write fault has ended, and writes nothing more.
 //! - A request can be asked by itself, with its answer in a buffer of the caller's. It leaves the stream where it is.
@@ -25,6 +26,7 @@
 mod answer;
 mod execute;
 mod fault;
+pub mod laws;
 mod session;
 mod stream;
 
@@ -33,4 +35,6 @@ pub use execute::search::rows_passing;
 pub use fault::{NotOneRequest, RunFault, SessionFault};
 pub use session::Session;
 pub use stream::lines::{Judged, LONGEST_LINE, judge_line, split_line};
-pub use stream::whole_run::run;
+pub use stream::outlet::{Outlet, PromptRead};
+pub use stream::whole_run::{run, run_promptly};
+pub use stream::writing::WriteFault;

@@ -1,12 +1,12 @@
 //! A session: tables, and a stream of requests that comes in pieces.
 
-ghost use Rattle.std.specs.Prelude.{◌≡◌, ◌<◌, ◌≤◌, ◌++◌, ◌∷◌, ◌↔◌, [], Err, true, false, IsTrue, IsErrOf, IfOk, IfErr, OnOk, OnErr};
+ghost use Rattle.std.specs.Prelude.{◌≡◌, ◌<◌, ◌≤◌, ◌+◌, ◌++◌, ◌∷◌, ◌↔◌, [], ℕ, List, Err, true, false, length, IsTrue, IsErrOf, IfNone, IfOk, IfErr, IfSome, OnOk, OnErr};
 ghost use Rattle.std.specs.Io.KnownBytes.{Keeps};
 
 use crate::answer::Answer;
 use crate::fault::{NotOneRequest, SessionFault};
+use crate::stream::outlet::{Lent, Outlet};
 use crate::stream::responder::Responder;
-use crate::stream::writing::write_whole;
 use mm_catalog::Catalog;
 use mm_cells::Cells;
 use plain_tables::{Limits, NoMemory, Query, Refusal, Resolved, TableNumber, Value};
@@ -14,6 +14,7 @@ use plan_chooser::Policy;
 use std::alloc::Global;
 use std::io::Write;
 use std::marker::Model;
+use std::mem;
 
 /// A session answers each request that is fed to it, however the stream is cut into pieces.
 #[derive(Drop)]
@@ -34,6 +35,8 @@ impl Model for Session {
 impl Session {
     ghost use Rattle.mm_catalog.specs.Seen.{database_of};
     ghost use Rattle.plain_streams.specs.Division.{IsWhole};
+    ghost use Rattle.mm_session.specs.NextRequest.{AnswersLast, AnswersNext, KeepsMore};
+    ghost use Rattle.mm_session.specs.Responding.{waits};
     ghost use Rattle.mm_session.specs.OneRequest.{AnswersOne, StaysInStream, GoesBetween};
     ghost use Rattle.mm_catalog.specs.State.{CatalogState};
     ghost use Rattle.mm_session.specs.IndexAnswers.{AnswersIndexes};
@@ -42,7 +45,7 @@ impl Session {
     ghost use Rattle.plain_tables.specs.declared.resolved.Resolved.TheVariants as resolved;
     ghost use Rattle.mm_session.specs.Changing.{HasChanged, HasDeclined, IsChange, ShowsValues};
     ghost use Rattle.mm_session.specs.Columns.{columns_told};
-    ghost use Rattle.mm_session.specs.Sessions.{Gains, Feeds, Finishes, BreaksOff, new_session};
+    ghost use Rattle.mm_session.specs.Sessions.{State, Gains, Feeds, Finishes, BreaksOff, new_session};
 
     /// A session with no tables, under the standard limits.
     pub fn new(alloc: Global, policy: Policy) -> Result<Session, NoMemory>
@@ -106,6 +109,39 @@ impl Session {
         self.responder.answer_request(line, block, answer)
     }
 
+    /// Takes the next bytes of the stream up to the end of a request, makes its answer, and gives the bytes behind it. Where no
+    /// request ends in them, it takes them all. It is `feed` request by request, and writes nothing.
+    pub fn answer_next<'a>(&mut self, bytes: &'a [u8], answer: &mut Answer) -> Option<&'a [u8]>
+        requires { self.old.ended ≡ false }
+        ensures some { IfSome result (λ others. (front : List ℕ) × (bytes.now ≡ front ++ others.now) × AnswersNext self.old self.new front answer.new) }
+        ensures none { IfNone result (KeepsMore self.old self.new bytes.now) }
+        ensures unchanged { IfNone result (answer.new ≡ answer.old) }
+
+        // Each call takes a byte, or ends a block that has begun.
+        ensures shorter { IfSome result (λ others. length others.now < length bytes.now + waits self.old.kept) }
+    {
+        let others = self.responder.take(bytes)?;
+        mem::swap(&mut self.responder.answer, answer);
+        Some(others)
+    }
+
+    /// Makes the answer to the last request of the stream, which it ends in; where there is none, the empty one. The session has
+    /// ended then. It is `end`, and writes nothing.
+    pub fn answer_last(&mut self, answer: &mut Answer)
+        requires { self.old.ended ≡ false }
+        ensures answers { AnswersLast self.old self.new answer.new }
+        ensures over { IsTrue self.new.ended }
+        ensures limits { self.new.limits ≡ self.old.limits }
+    {
+        self.ended = true;
+        if self.responder.kept.is_nothing() {
+            answer.clear();
+            return;
+        }
+        self.responder.finish();
+        mem::swap(&mut self.responder.answer, answer);
+    }
+
     /// Does an insert, an update or a delete beside the stream, and tells how many rows it was about. The stream goes on as before.
     pub fn change(&mut self, command: &Resolved) -> Result<usize, Refusal>
         requires meant { IsMeant self.old.limits self.old.database command.now }
@@ -166,16 +202,39 @@ impl Session {
         ensures ok { OnOk result (Gains (W.contents w.old) (W.contents w.new) (Feeds self.old self.new piece.now)) }
 
         // A write failed, and the answers stop somewhere.
-        ensures write { IsErrOf result SessionFault.Write → Gains (W.contents w.old) (W.contents w.new) (BreaksOff self.old piece.now false) }
+        ensures write { IsErrOf result SessionFault.Write → Gains (W.contents w.old) (W.contents w.new) (BreaksOff self.old self.new piece.now false) }
         ensures over { IsErrOf result SessionFault.Write → IsTrue self.new.ended }
         ensures limits { self.new.limits ≡ self.old.limits }
+    {
+        self.feed_into(
+            piece,
+            &mut Lent {
+                writer: w,
+                is_flushed: true,
+            },
+        )
+    }
+
+    // Feeds a piece, and writes the answers to an outlet.
+    pub(crate) fn feed_into<O: Outlet>(
+        &mut self,
+        piece: &[u8],
+        outlet: &mut O,
+    ) -> Result<(), SessionFault>
+        ensures ended { IsErrOf result SessionFault.Ended ↔ IsTrue self.old.ended }
+        ensures unchanged { IsErrOf result SessionFault.Ended → (self.new ≡ self.old) × Keeps (O.contents outlet.old) (O.contents outlet.new) }
+        ensures ok { OnOk result (Gains (O.contents outlet.old) (O.contents outlet.new) (Feeds self.old self.new piece.now)) }
+        ensures write { IsErrOf result SessionFault.Write → Gains (O.contents outlet.old) (O.contents outlet.new) (BreaksOff self.old self.new piece.now false) }
+        ensures over { IsErrOf result SessionFault.Write → IsTrue self.new.ended }
+        ensures limits { self.new.limits ≡ self.old.limits }
+        ensures name { O.name outlet.new ≡ O.name outlet.old }
     {
         if self.ended {
             return Err(SessionFault::Ended);
         }
         let mut rest = piece;
         while let Some(others) = self.responder.take(rest) {
-            if write_whole(w, self.responder.answer.as_slice()).is_err() {
+            if outlet.put(self.responder.answer.as_slice()).is_err() {
                 self.ended = true;
                 return Err(SessionFault::Write);
             }
@@ -188,10 +247,27 @@ impl Session {
     /// answers `Ended` and writes nothing.
     pub fn end<W: Write>(&mut self, w: &mut W) -> Result<(), SessionFault>
         ensures ended { IsErrOf result SessionFault.Ended ↔ IsTrue self.old.ended }
-        ensures unchanged { IsErrOf result SessionFault.Ended → Keeps (W.contents w.old) (W.contents w.new) }
-        ensures ok { OnOk result (Gains (W.contents w.old) (W.contents w.new) (Finishes self.old)) }
-        ensures write { IsErrOf result SessionFault.Write → Gains (W.contents w.old) (W.contents w.new) (BreaksOff self.old [] true) }
+        ensures unchanged { IsErrOf result SessionFault.Ended → (self.new ≡ self.old) × Keeps (W.contents w.old) (W.contents w.new) }
+        ensures ok { OnOk result (Gains (W.contents w.old) (W.contents w.new) (Finishes self.old self.new)) }
+        ensures write { IsErrOf result SessionFault.Write → Gains (W.contents w.old) (W.contents w.new) (BreaksOff self.old self.new [] true) }
         ensures over { IsTrue self.new.ended }
+        ensures limits { self.new.limits ≡ self.old.limits }
+    {
+        self.end_into(&mut Lent {
+            writer: w,
+            is_flushed: true,
+        })
+    }
+
+    // Ends the stream, and writes its last answer to an outlet.
+    pub(crate) fn end_into<O: Outlet>(&mut self, outlet: &mut O) -> Result<(), SessionFault>
+        ensures ended { IsErrOf result SessionFault.Ended ↔ IsTrue self.old.ended }
+        ensures unchanged { IsErrOf result SessionFault.Ended → (self.new ≡ self.old) × Keeps (O.contents outlet.old) (O.contents outlet.new) }
+        ensures ok { OnOk result (Gains (O.contents outlet.old) (O.contents outlet.new) (Finishes self.old self.new)) }
+        ensures write { IsErrOf result SessionFault.Write → Gains (O.contents outlet.old) (O.contents outlet.new) (BreaksOff self.old self.new [] true) }
+        ensures over { IsTrue self.new.ended }
+        ensures limits { self.new.limits ≡ self.old.limits }
+        ensures name { O.name outlet.new ≡ O.name outlet.old }
     {
         if self.ended {
             return Err(SessionFault::Ended);
@@ -201,7 +277,7 @@ impl Session {
             return Ok(());
         }
         self.responder.finish();
-        if write_whole(w, self.responder.answer.as_slice()).is_err() {
+        if outlet.put(self.responder.answer.as_slice()).is_err() {
             return Err(SessionFault::Write);
         }
         Ok(())
@@ -211,8 +287,8 @@ impl Session {
     pub fn finish<W: Write>(mut self, w: &mut W) -> Result<(), SessionFault>
         ensures ended { IsErrOf result SessionFault.Ended ↔ IsTrue self.ended }
         ensures unchanged { IsErrOf result SessionFault.Ended → Keeps (W.contents w.old) (W.contents w.new) }
-        ensures ok { OnOk result (Gains (W.contents w.old) (W.contents w.new) (Finishes self)) }
-        ensures write { IsErrOf result SessionFault.Write → Gains (W.contents w.old) (W.contents w.new) (BreaksOff self [] true) }
+        ensures ok { OnOk result (Gains (W.contents w.old) (W.contents w.new) (λ gained. (last : State) × Finishes self last gained)) }
+        ensures write { IsErrOf result SessionFault.Write → Gains (W.contents w.old) (W.contents w.new) (λ sent. (last : State) × BreaksOff self last [] true sent) }
     {
         self.end(w)
     }

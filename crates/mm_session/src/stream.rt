@@ -2,6 +2,7 @@
 
 pub mod kept;
 pub mod lines;
+pub mod outlet;
 pub mod pending_block;
 pub mod responder;
 pub mod whole_run;

@@ -25,7 +25,7 @@ use Rattle.mm_session.specs.Sessions.{State}
 use Rattle.mm_statements.specs.Databases.{IsUnchanged, KeptStatement}
 use Rattle.mm_statements.specs.Executing.{IsDeclined, IsEffectOf}
 use Rattle.mm_statements.specs.Kept.{IsKnown, NamesNow, SameSeen, named, seen}
-use Rattle.mm_statements.specs.Resolving.{IsFinished, IsUnfinished, IsUnmeant}
+use Rattle.mm_statements.specs.Resolving.{IsFinished, IsRefusing, IsUnfinished, IsUnmeant, IsUnresolved}
 use Rattle.mm_statements.specs.Resolving as resolving
 use Rattle.mm_statements.specs.Right.{AreRight, IsRight}
 use Rattle.mm_statements.specs.declared.faults.ExecuteFault.{ExecuteFault}
@@ -59,17 +59,25 @@ pub known-resolves : (tables : Database) (p : Prepared) (r : Resolution) (right 
     → Resolves tables right.statement r
 known-resolves tables p r right known = subst (λ o. IfSome o (Resolves tables right.statement)) known right.resolved
 
--- a statement whose line is declined is declined so
-pub unmeant-finished : (tables : Database) (statements : Statements) (number : ℕ) (p : Prepared) (why : Refusal)
-    → named statements number ≡ Some p → IsRight tables p → IsUnmeant tables p.line why → IsFinished tables statements number (Err why)
-unmeant-finished tables statements number p why there right (resolving.no_statement none) = absurd (none right.statement right.spelled)
-unmeant-finished tables statements number p why there right (resolving.refuses s e spelled refused) = record {
+-- a statement whose line is declined is declined so, whatever is bound
+pub unmeant-refusing : (tables : Database) (statements : Statements) (number : ℕ) (p : Prepared) (why : Refusal)
+    → named statements number ≡ Some p → IsRight tables p → IsUnmeant tables p.line why → IsRefusing tables statements number why
+unmeant-refusing tables statements number p why there right (resolving.no_statement none) = absurd (none right.statement right.spelled)
+unmeant-refusing tables statements number p why there right (resolving.refuses s e spelled refused) = record {
   prepared = p;
   there = there;
   statement = s;
   spelled = spelled;
-  means = refused p.bound;
+  refuses = refused;
 }
+
+-- and so it is with the values that are bound
+pub unresolved-unfinished : (tables : Database) (statements : Statements) (number : ℕ) (e : ExecuteFault)
+    → IsUnresolved tables statements number e → IsUnfinished tables statements number e
+unresolved-unfinished tables statements number fault.NoSuchStatement none = none
+unresolved-unfinished tables statements number (fault.Refused why) says = λ other.
+    let r = says other in
+    record { prepared = r.prepared; there = r.there; statement = r.statement; spelled = r.spelled; means = r.refuses r.prepared.bound }
 
 -- ---- where its meaning is worked out before
 

@@ -26,12 +26,14 @@ template-rows : (values : List Value) (t : Template) → IsOfRows (filled_templa
 template-rows values (template.Select query) = tt
 template-rows values other = tt
 
+-- where nothing refuses the values, it is the template with these in its holes
+pub finished-is : (values : List Value) (r : Resolution) (c : Resolved) → finished values r ≡ Ok c → filled_template values r.template ≡ c
+finished-is values r c is =
+    unless-rows (list_any (comes is_wrong values) r.wants) (list_any (comes is_past values) r.wants) r.last (filled_template values r.template) c is
+
 -- what a resolution is with values is an insert, an update, a delete or a select
 pub finished-rows : (values : List Value) (r : Resolution) (c : Resolved) → finished values r ≡ Ok c → IsOfRows c
-finished-rows values r c is =
-    subst IsOfRows
-    (unless-rows (list_any (comes is_wrong values) r.wants) (list_any (comes is_past values) r.wants) r.last (filled_template values r.template) c is)
-    (template-rows values r.template)
+finished-rows values r c is = subst IsOfRows (finished-is values r c is) (template-rows values r.template)
 
 -- the one that is no select is a change
 pub rows-change : (c : Resolved) → IsOfRows c → ((query : Query) → c ≢ resolved.Select query) → IsChange c

@@ -47,15 +47,15 @@ is-prepared tables line places r readable counted (s, spelled, resolves) = recor
 
 -- a line that isn't read is not kept
 pub unread-unprepared : (tables : Database) (line : List ℕ) (why : Refusal) → IsUnread line why → IsUnprepared tables line why
-unread-unprepared tables line why (querying.broken feed) = preparing.no_statement (λ s spells. feed (spelled-unbroken line s spells))
 unread-unprepared tables line why (querying.too_long long) = preparing.too_long long
 unread-unprepared tables line why (querying.not_utf8 short bad) = preparing.not_utf8 short bad
-unread-unprepared tables line why (querying.silent readable is) = preparing.no_statement (silent-none line is)
+unread-unprepared tables line why (querying.broken readable feed) = preparing.no_statement readable (λ s spells. feed (spelled-unbroken line s spells))
+unread-unprepared tables line why (querying.silent readable is) = preparing.no_statement readable (silent-none line is)
 
 -- a line that can be read and has no meaning is not kept
 pub unmeant-unprepared : (tables : Database) (line : List ℕ) (why : Refusal) → IsReadable line → IsUnmeant tables line why
     → IsUnprepared tables line why
-unmeant-unprepared tables line why readable (resolving.no_statement none) = preparing.no_statement none
+unmeant-unprepared tables line why readable (resolving.no_statement none) = preparing.no_statement readable none
 unmeant-unprepared tables line why readable (resolving.refuses s e spelled refused) = preparing.refuses s e readable spelled refused
 
 -- ---- faults

@@ -1,5 +1,5 @@
 -- Executing: what comes of the statement of a number.
-use Rattle.std.specs.Prelude.{◌≡◌, ◌≢◌, ℕ, ◌<◌, List, [], Some, None, Result, Ok, Err}
+use Rattle.std.specs.Prelude.{◌≡◌, ◌≢◌, ℕ, ◌<◌, List, [], Some, None, Ok}
 use Rattle.plain_tables.specs.Databases.{Database}
 use Rattle.plain_tables.specs.Effects.{Effect, refused}
 use Rattle.plain_tables.specs.Resolving.{resolved_of}
@@ -12,6 +12,7 @@ use Rattle.plain_tables.specs.declared.value.Value.{Value}
 use Rattle.plain_tables.specs.declared.refusal.Refusal.TheVariants.{NoMemory}
 use Rattle.plain_statements.specs.declared.statement.Statement.{Statement}
 use Rattle.plain_statements.specs.Executing.{executed}
+use Rattle.plain_statements.specs.Laws.{Refuses}
 use Rattle.plain_statements.specs.StatementSpelling.{SpellsStatement}
 use Rattle.mm_session.specs.Changing.{HasChanged, ShowsValues}
 use Rattle.mm_session.specs.Sessions.{State}
@@ -41,25 +42,30 @@ IsDeclined database number fault.NoSuchStatement = statement_at database number 
 IsDeclined database number (fault.Refused why) =
     why ≢ NoMemory → IsEffectOf database number (refused database.session.database why)
 
--- The number names a statement, which with the values that are bound means this of the tables, before a row is looked at.
-pub record IsMeaningOf (database : DatabaseState) (number : ℕ) (command : Result Resolved Refusal) : Type 0 where
-  pub kept : KeptStatement
-  pub there : statement_at database number ≡ Some kept
-  pub statement : Statement
-  pub spelled : SpellsStatement kept.line statement
-  pub is : resolved_of [] database.session.database (filled kept.values statement) ≡ command
-
 -- the columns of what a resolved command shows of these tables
 abbrev pub columns_of : Database → Resolved → List Value
 columns_of tables (resolved.Select query) = columns_told tables query
 columns_of tables command = []
 
--- the values are the columns of what the statement of a number shows
-abbrev pub TellsColumns : DatabaseState → ℕ → List Value → Type 0
-TellsColumns database number values =
-    (command : Resolved) × IsMeaningOf database number (Ok command) × (values ≡ columns_of database.session.database command)
+-- The number names a statement, and these are the columns of what it shows, whatever is bound: those of each command that values make of
+-- it.
+pub record TellsColumns (database : DatabaseState) (number : ℕ) (columns : List Value) : Type 0 where
+  pub kept : KeptStatement
+  pub there : statement_at database number ≡ Some kept
+  pub statement : Statement
+  pub spelled : SpellsStatement kept.line statement
+  pub shown : (values : List Value) (command : Resolved) → resolved_of [] database.session.database (filled values statement) ≡ Ok command
+      → columns ≡ columns_of database.session.database command
 
--- The number names no statement; or the statement is refused so before a row is looked at, unless there was no memory.
+-- The number names a statement, which is refused so, whatever is bound.
+pub record IsRefusedEver (database : DatabaseState) (number : ℕ) (why : Refusal) : Type 0 where
+  pub kept : KeptStatement
+  pub there : statement_at database number ≡ Some kept
+  pub statement : Statement
+  pub spelled : SpellsStatement kept.line statement
+  pub refuses : Refuses database.session.database statement why
+
+-- The number names no statement; or the statement is refused so, whatever is bound, unless there was no memory.
 abbrev pub IsUntold : DatabaseState → ℕ → ExecuteFault → Type 0
 IsUntold database number fault.NoSuchStatement = statement_at database number ≡ None
-IsUntold database number (fault.Refused why) = why ≢ NoMemory → IsMeaningOf database number (Err why)
+IsUntold database number (fault.Refused why) = why ≢ NoMemory → IsRefusedEver database number why

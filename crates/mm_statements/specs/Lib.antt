@@ -1,4 +1,5 @@
 pub mod Cells
+pub mod Columns
 pub mod Databases
 pub mod Declaring
 pub mod Executing

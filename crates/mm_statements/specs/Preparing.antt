@@ -25,12 +25,12 @@ pub record IsPrepared (tables : Database) (line : List ℕ) (places : ℕ) : Typ
 abbrev pub SpellsNone : List ℕ → Type 0
 SpellsNone line = (s : Statement) → ¬ (SpellsStatement line s)
 
--- Why a line is not kept: it is too long, or it isn't, and is not UTF-8; or it spells no statement; or it can be read and spells one
--- that is refused so, whatever its values are.
+-- Why a line is not kept: it is too long; or it isn't, and is not UTF-8; or it can be read, and spells no statement, or one that is
+-- refused so, whatever its values are.
 pub data IsUnprepared (tables : Database) (line : List ℕ) : Refusal → Type 0 where
   too_long : 8192 < length line → IsUnprepared tables line LineTooLong
   not_utf8 : length line ≤ 8192 → ¬ (IsUtf8 line) → IsUnprepared tables line NotUtf8
-  no_statement : SpellsNone line → IsUnprepared tables line NotACommand
+  no_statement : IsReadable line → SpellsNone line → IsUnprepared tables line NotACommand
   refuses : (s : Statement) (why : Refusal) → IsReadable line → SpellsStatement line s → Refuses tables s why → IsUnprepared tables line why
 
 -- so it is, or there was no memory

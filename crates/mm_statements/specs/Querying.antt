@@ -23,12 +23,12 @@ is_statement (Delete table conditions) = true
 is_statement (Select distinct items table joins conditions) = true
 is_statement c = false
 
--- Why no command is read in a line: it has a line feed in it; or it is too long; or it isn't, and is not UTF-8; or it is blanks
--- alone or a comment.
+-- Why no command is read in a line: it is too long; or it isn't, and is not UTF-8; or it can be read, and has a line feed in it, or is
+-- blanks alone or a comment.
 pub data IsUnread (line : List ℕ) : Refusal → Type 0 where
-  broken : ¬ (IsUnbroken line) → IsUnread line NotACommand
   too_long : 8192 < length line → IsUnread line LineTooLong
   not_utf8 : length line ≤ 8192 → ¬ (IsUtf8 line) → IsUnread line NotUtf8
+  broken : IsReadable line → ¬ (IsUnbroken line) → IsUnread line NotACommand
   silent : IsReadable line → IsTrue (is_silent line) → IsUnread line NotACommand
 
 -- The line can be read, and spells an insert, an update, a delete or a select, whose effect this is.

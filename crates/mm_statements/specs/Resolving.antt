@@ -36,6 +36,19 @@ pub record IsFinished (tables : Database) (statements : Statements) (number : �
   pub spelled : SpellsStatement prepared.line statement
   pub means : resolved_of [] tables (filled prepared.bound statement) ≡ command
 
+-- The number names a statement, which is refused so, whatever is bound.
+pub record IsRefusing (tables : Database) (statements : Statements) (number : ℕ) (why : Refusal) : Type 0 where
+  pub prepared : Prepared
+  pub there : named statements number ≡ Some prepared
+  pub statement : Statement
+  pub spelled : SpellsStatement prepared.line statement
+  pub refuses : Refuses tables statement why
+
+-- The number names no statement; or the statement is refused so, whatever is bound, unless there was no memory.
+abbrev pub IsUnresolved : Database → Statements → ℕ → ExecuteFault → Type 0
+IsUnresolved tables statements number fault.NoSuchStatement = named statements number ≡ None
+IsUnresolved tables statements number (fault.Refused why) = why ≢ NoMemory → IsRefusing tables statements number why
+
 -- an insert, an update, a delete or a select
 abbrev pub IsOfRows : Resolved → Type 0
 IsOfRows (resolved.Select query) = Unit {0}

@@ -3,7 +3,7 @@ ghost use Rattle.std.specs.Prelude.{◌≡◌, ◌≢◌, ◌<◌, ◌≤◌, Er
 ghost use Rattle.std.specs.List.{All};
 ghost use Rattle.plain_tables.specs.ResolvedLaws.{HasWidth};
 ghost use Rattle.plain_tables.specs.declared.value.Value.TheVariants as value;
-ghost use Rattle.mm_statements.specs.Cells.{cell_value};
+ghost use Rattle.mm_statements.specs.Cells.{IsSmall, cell_value};
 ghost use Rattle.mm_statements.specs.declared.declined.Declined.TheVariants as declined;
 
 use crate::cell::Cell;
@@ -57,12 +57,13 @@ impl Bound {
         *self.values.allocator()
     }
 
-    /// Binds a value to the hole of a place. A text is copied.
+    /// Binds a value to the hole of a place. A text is copied. Only a text of more than 14 bytes needs memory.
     pub fn bind(&mut self, place: usize, cell: Cell<'_>) -> Result<(), Declined>
         ensures bound { OnOk result (self.new ≡ slice_set self.old place (cell_value cell.entry)) }
         ensures within { OnOk result (place < length self.old) }
         ensures past { length self.old ≤ place → result ≡ Err declined.NoSuchPlace }
         ensures declined { IfErr result (λ e. e ≢ declined.NoMemory → length self.old ≤ place) }
+        ensures small { IsSmall cell.entry → result ≢ Err declined.NoMemory }
         ensures unchanged { OnErr result (self.new ≡ self.old) }
     {
         if place >= self.values.len() {

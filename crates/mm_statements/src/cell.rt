@@ -1,7 +1,7 @@
 //! A value as a program hands it in and reads it.
-ghost use Rattle.std.specs.Prelude.{◌≡◌, IfOk};
+ghost use Rattle.std.specs.Prelude.{◌≡◌, IfOk, IsOk};
 ghost use Rattle.plain_tables.specs.ResolvedLaws.{HasWidth};
-ghost use Rattle.mm_statements.specs.Cells.{cell_value};
+ghost use Rattle.mm_statements.specs.Cells.{IsSmall, cell_value};
 
 use no_memory::NoMemory;
 use plain_tables::{Text, Value};
@@ -27,10 +27,11 @@ impl<'a> Cell<'a> {
         }
     }
 
-    /// The value, as one's own.
+    /// The value, as one's own. A null, an integer and a text of at most 14 bytes need no memory.
     pub fn to_value(self, alloc: Global) -> Result<Value, NoMemory>
         ensures value { IfOk result (λ v. v ≡ cell_value self.entry) }
         ensures width { IfOk result (λ v. HasWidth v) }
+        ensures small { IsSmall self.entry → IsOk result }
     {
         Ok(match self {
             Cell::Null => Value::Null,

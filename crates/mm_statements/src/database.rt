@@ -1,6 +1,7 @@
 //! A database with statements: a session, and the statements that are kept of its tables.
 
 use crate::cell::Cell;
+use crate::columns::push_columns;
 use crate::commands::Commands;
 use crate::declaring::may_declare;
 use crate::declined::Declined;
@@ -9,10 +10,11 @@ use crate::kept::Statements;
 use crate::lent::Lent;
 use crate::querying::command_of_line;
 use crate::reading::{count_marks, meaning, readable};
-use crate::resolving::{command_of, resolve};
+use crate::resolving::{command_of, resolution_of, resolve};
 use mm_cells::Cells;
 use mm_session::{Answer, NotOneRequest, Session, SessionFault};
 use no_memory::NoMemory;
+use plain_statements::Template;
 use plain_tables::{Limits, Refusal, Resolved};
 use plan_chooser::Policy;
 use std::alloc::Global;
@@ -62,7 +64,7 @@ impl Database {
     ghost use Rattle.plain_streams.specs.Requests.{without_return};
     ghost use Rattle.mm_session.specs.OneRequest.{AnswersOne, GoesBetween, StaysInStream};
     ghost use Rattle.mm_session.specs.Sessions.{BreaksOff, Feeds, Finishes, Gains, new_session};
-    ghost use Rattle.mm_statements.specs.Cells.{cell_value};
+    ghost use Rattle.mm_statements.specs.Cells.{IsSmall, cell_value};
     ghost use Rattle.mm_statements.specs.Databases.{KeptStatement, statement_at, IsUnchanged, NowNames, SameStatements};
     ghost use Rattle.mm_statements.specs.Executing.{HasGiven, IsDeclined, IsEffectOf, IsUntold, TellsColumns};
     ghost use Rattle.mm_statements.specs.Preparing.{IsPrepared, IsUnpreparedFor};
@@ -134,7 +136,7 @@ impl Database {
         ensures ok { OnOk result (Gains (W.contents w.old) (W.contents w.new) (Feeds self.old.session self.new.session piece.now)) }
 
         // A write failed, and the answers stop somewhere.
-        ensures write { IsErrOf result SessionFault.Write → Gains (W.contents w.old) (W.contents w.new) (BreaksOff self.old.session piece.now false) }
+        ensures write { IsErrOf result SessionFault.Write → Gains (W.contents w.old) (W.contents w.new) (BreaksOff self.old.session self.new.session piece.now false) }
         ensures over { IsErrOf result SessionFault.Write → IsTrue self.new.session.ended }
         ensures limits { self.new.session.limits ≡ self.old.session.limits }
 
@@ -150,10 +152,11 @@ impl Database {
     /// answers `Ended` and writes nothing.
     pub fn end<W: Write>(&mut self, w: &mut W) -> Result<(), SessionFault>
         ensures ended { IsErrOf result SessionFault.Ended ↔ IsTrue self.old.session.ended }
-        ensures unchanged { IsErrOf result SessionFault.Ended → Keeps (W.contents w.old) (W.contents w.new) }
-        ensures ok { OnOk result (Gains (W.contents w.old) (W.contents w.new) (Finishes self.old.session)) }
-        ensures write { IsErrOf result SessionFault.Write → Gains (W.contents w.old) (W.contents w.new) (BreaksOff self.old.session [] true) }
+        ensures unchanged { IsErrOf result SessionFault.Ended → (self.new.session ≡ self.old.session) × Keeps (W.contents w.old) (W.contents w.new) }
+        ensures ok { OnOk result (Gains (W.contents w.old) (W.contents w.new) (Finishes self.old.session self.new.session)) }
+        ensures write { IsErrOf result SessionFault.Write → Gains (W.contents w.old) (W.contents w.new) (BreaksOff self.old.session self.new.session [] true) }
         ensures over { IsTrue self.new.session.ended }
+        ensures limits { self.new.session.limits ≡ self.old.session.limits }
         ensures statements { SameStatements self.old self.new }
     {
         let ended = self.session.end(w);
@@ -202,12 +205,14 @@ impl Database {
         self.statements.finalize(number)
     }
 
-    /// Binds a value to the hole of a place in the statement that a number names. A text is copied.
+    /// Binds a value to the hole of a place in the statement that a number names. A text is copied. Only one of more than 14 bytes needs
+    /// memory.
     pub fn bind(&mut self, number: usize, place: usize, cell: Cell<'_>) -> Result<(), Declined>
         ensures bound { OnOk result ((p : KeptStatement) → statement_at self.old number ≡ Some p → NowNames self.old self.new number (Some (record p { values = slice_set p.values place (cell_value cell.entry) }))) }
         ensures missing { statement_at self.old number ≡ None → result ≡ Err declined.NoSuchStatement }
         ensures past { (p : KeptStatement) → statement_at self.old number ≡ Some p → length p.values ≤ place → result ≡ Err declined.NoSuchPlace }
         ensures declined { IfErr result (λ e. e ≢ declined.NoMemory → (p : KeptStatement) → statement_at self.old number ≡ Some p → length p.values ≤ place) }
+        ensures small { IsSmall cell.entry → result ≢ Err declined.NoMemory }
         ensures session { self.new.session ≡ self.old.session }
         ensures unchanged { OnErr result (IsUnchanged self.old self.new) }
     {
@@ -245,9 +250,9 @@ impl Database {
         Ok(Executed::Changed(count))
     }
 
-    /// Makes the cells the columns of the rows that the statement of a number shows with the values that are bound: of each its name,
-    /// behind its table's, and then the number of the kind of its values: 1 of integers, 2 of texts. There are none where it shows no
-    /// rows; where it fails they may be any. It is refused as an execution would be before a row is looked at.
+    /// Makes the cells the columns of the rows that the statement of a number shows, whatever values are bound: of each its name, after
+    /// its table's, and then the number of the kind of its values: 1 of integers, 2 of texts. There are none where it shows no rows; after
+    /// an error they may be any. It is refused only where every execution is, by what the names and the given values are refused by.
     pub fn columns(&mut self, number: usize, cells: &mut Cells) -> Result<(), ExecuteFault>
         ensures told { OnOk result (TellsColumns self.old number cells.new) }
         ensures missing { statement_at self.old number ≡ None → result ≡ Err fault.NoSuchStatement }
@@ -256,16 +261,11 @@ impl Database {
     {
         cells.clear();
         resolve(&self.session, &mut self.statements, number)?;
-        let kept = self.commands.at(number);
-        let lent = command_of(&self.statements, number, kept)?;
-        let command = match lent {
-            Lent::Insert { .. } => return Ok(()),
-            Lent::Command(command) => command,
-        };
-        if let Resolved::Select(query) = command {
-            self.session.columns(query, cells)?;
+        let resolution = resolution_of(&self.statements, number);
+        let Template::Select(query) = &resolution.template else {
             return Ok(());
-        }
+        };
+        push_columns(cells, self.session.catalog(), query)?;
         Ok(())
     }
 

@@ -2,7 +2,7 @@
 ghost use Rattle.std.specs.Prelude.{◌≡◌, ◌≢◌, ◌≤◌, ℕ, Err, IfErr, IfOk, None, OnErr, OnOk, Some, length, option_copied, replicate, slice_set};
 ghost use Rattle.std.specs.Option.{option_map};
 ghost use Rattle.plain_tables.specs.declared.value.Value.TheVariants as value;
-ghost use Rattle.mm_statements.specs.Cells.{cell_value};
+ghost use Rattle.mm_statements.specs.Cells.{IsSmall, cell_value};
 ghost use Rattle.mm_statements.specs.Kept.{NamesNow, SameNamed, named, unresolved};
 ghost use Rattle.mm_statements.specs.declared.declined.Declined.TheVariants as declined;
 ghost use Rattle.mm_statements.specs.declared.kept.Prepared.{Prepared as PlainPrepared};
@@ -92,12 +92,14 @@ impl Statements {
         self.kept.get(number)
     }
 
-    /// Binds a value to the hole of a place in the statement that a number names. A text is copied.
+    /// Binds a value to the hole of a place in the statement that a number names. A text is copied. Only one of more than 14 bytes needs
+    /// memory.
     pub fn bind(&mut self, number: usize, place: usize, cell: Cell<'_>) -> Result<(), Declined>
         ensures bound { OnOk result ((p : PlainPrepared) → named self.old number ≡ Some p → NamesNow self.old self.new number (Some (record p { bound = slice_set p.bound place (cell_value cell.entry) }))) }
         ensures missing { named self.old number ≡ None → result ≡ Err declined.NoSuchStatement }
         ensures past { (p : PlainPrepared) → named self.old number ≡ Some p → length p.bound ≤ place → result ≡ Err declined.NoSuchPlace }
         ensures declined { IfErr result (λ e. e ≢ declined.NoMemory → (p : PlainPrepared) → named self.old number ≡ Some p → length p.bound ≤ place) }
+        ensures small { IsSmall cell.entry → result ≢ Err declined.NoMemory }
         ensures unchanged { OnErr result (SameNamed self.old self.new) }
     {
         let Some(prepared) = self.kept.get_mut(number) else {

@@ -19,6 +19,7 @@
 
 mod bound;
 mod cell;
+mod columns;
 mod commands;
 mod database;
 mod declaring;

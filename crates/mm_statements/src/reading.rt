@@ -2,6 +2,7 @@
 ghost use Rattle.std.specs.Prelude.{◌≡◌, ◌≢◌, IfErr, IfOk};
 ghost use Rattle.std.specs.List.{Contains};
 ghost use Rattle.plain_tables.specs.declared.refusal.Refusal.TheVariants as refusal;
+ghost use Rattle.plain_streams.specs.Division.{IsUnbroken};
 ghost use Rattle.plain_streams.specs.Requests.{IsReadable, without_return};
 ghost use Rattle.plain_statements.specs.StatementSpelling.{marks};
 ghost use Rattle.mm_catalog.specs.Seen.{database_of};
@@ -10,13 +11,38 @@ ghost use Rattle.mm_statements.specs.Resolving.{IsUnmeant, LineMeans};
 
 use mm_catalog::Catalog;
 use mm_lang::{Line, ParseRefusal, parse_statement};
-use mm_session::{Judged, judge_line};
+use mm_session::{Judged, LONGEST_LINE, judge_line};
 use plain_statements::Resolution;
 use plain_tables::Refusal;
 use std::alloc::Global;
 
-/// The line as it is read, without a carriage return at its end: 10 where it is too long, 11 where it isn't UTF-8, and 20 where it has
-/// a line feed in it, or is blanks alone or a comment.
+// The line without one carriage return at its end.
+fn trim_return(line: &[u8]) -> &[u8]
+    ensures { result.now ≡ without_return line.now }
+{
+    match line.last() {
+        Some(b'\r') => &line[..line.len() - 1],
+        _ => line,
+    }
+}
+
+// Why a line with a line feed in it is not read: 10 where it is too long, else 11 where it isn't UTF-8, and else 20.
+fn why_broken(line: &[u8]) -> Refusal
+    requires { ¬ (IsUnbroken line.now) }
+    ensures { IsUnread (without_return line.now) result }
+{
+    let text = trim_return(line);
+    if text.len() > LONGEST_LINE {
+        return Refusal::LineTooLong;
+    }
+    match str::from_utf8(text) {
+        Ok(_) => Refusal::NotACommand,
+        Err(_) => Refusal::NotUtf8,
+    }
+}
+
+/// The line as it is read, without a carriage return at its end: 10 where it is too long, else 11 where it isn't UTF-8, and else 20
+/// where it has a line feed in it, or is blanks alone or a comment.
 pub fn readable(line: &[u8]) -> Result<Line<'_>, Refusal>
     ensures text { IfOk result (λ text. text ≡ without_return line.now) }
     ensures readable { IfOk result (λ text. IsReadable text) }
@@ -28,7 +54,7 @@ pub fn readable(line: &[u8]) -> Result<Line<'_>, Refusal>
         Some(Judged::TooLong) => Err(Refusal::LineTooLong),
         Some(Judged::NotUtf8) => Err(Refusal::NotUtf8),
         Some(Judged::Silent) => Err(Refusal::NotACommand),
-        None => Err(Refusal::NotACommand),
+        None => Err(why_broken(line)),
     }
 }
 

@@ -1,12 +1,13 @@
 //! From the statement of a number to the resolved command that it is with its values.
-ghost use Rattle.std.specs.Prelude.{◌≡◌, Err, IfErr, IfOk, None, OnOk, Ok};
+ghost use Rattle.std.specs.Prelude.{◌≡◌, Err, IfErr, IfOk, None, OnOk, Ok, Some};
 ghost use Rattle.plain_tables.specs.Databases.{Database};
 ghost use Rattle.plain_tables.specs.ResolvedLaws.{IsMeant};
 ghost use Rattle.plain_tables.specs.declared.command.Limits.{Limits};
 ghost use Rattle.mm_statements.specs.Kept.{IsKnown, SameSeen, named};
 ghost use Rattle.mm_statements.specs.Lent.{lent_command};
-ghost use Rattle.mm_statements.specs.Resolving.{IsFinished, IsOfRows, IsUnfinished};
+ghost use Rattle.mm_statements.specs.Resolving.{IsFinished, IsOfRows, IsUnfinished, IsUnresolved};
 ghost use Rattle.mm_statements.specs.Right.{AreRight};
+ghost use Rattle.mm_statements.specs.declared.kept.Prepared.{Prepared as PlainPrepared};
 ghost use Rattle.mm_statements.specs.declared.faults.ExecuteFault.TheVariants as fault;
 
 use crate::faults::ExecuteFault;
@@ -15,6 +16,7 @@ use crate::lent::{Lent, lend};
 use crate::reading::meaning;
 use mm_lang::Line;
 use mm_session::Session;
+use plain_statements::Resolution;
 use plain_tables::{Refusal, Resolved};
 
 /// Works out what the statement of a number means of the tables, where that isn't known.
@@ -28,7 +30,7 @@ pub fn resolve(
     ensures same { SameSeen statements.old statements.new }
     ensures known { OnOk result (IsKnown statements.new number) }
     ensures missing { named statements.old number ≡ None → result ≡ Err fault.NoSuchStatement }
-    ensures refused { IfErr result (IsUnfinished session.now.database statements.old number) }
+    ensures refused { IfErr result (IsUnresolved session.now.database statements.old number) }
 {
     let Some(prepared) = statements.get(number) else {
         return Err(ExecuteFault::NoSuchStatement);
@@ -41,6 +43,20 @@ pub fn resolve(
     // The number names a statement, so this is never declined.
     let _ = statements.set_resolution(number, resolution);
     Ok(())
+}
+
+/// What the statement of a number means of the tables, whatever values are bound.
+pub fn resolution_of(statements: &Statements, number: usize) -> &Resolution
+    requires { IsKnown statements.now number }
+    ensures { (p : PlainPrepared) → named statements.now number ≡ Some p → p.resolution ≡ Some result.now }
+{
+    let Some(prepared) = statements.get(number) else {
+        unreachable!();
+    };
+    let Some(resolution) = &prepared.resolution else {
+        unreachable!();
+    };
+    resolution
 }
 
 /// The resolved command that the statement of a number is with the values that are bound. Where these are lent the command that is kept

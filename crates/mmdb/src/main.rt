@@ -10,8 +10,8 @@ mod words;
 use crate::told::{Told, tell_read_fault};
 use crate::words::{Wish, all_words, read_words};
 use clap::error::ErrorKind;
-use mm_batch::{Ending, Joined, Noted, Origin, Source, answer_watched};
-use mm_session::{RunFault, run};
+use mm_batch::{Ending, Joined, Origin, Source, answer_watched};
+use mm_session::{RunFault, run_promptly};
 use std::io::BufWriter;
 use std::process::ExitCode;
 
@@ -47,12 +47,9 @@ fn answer(
         return Err(RunFault::NoMemory);
     };
     if !wish.explain && !wish.stop {
-        run(rt.alloc(), stream, &mut writer, wish.policy)?;
+        run_promptly(rt.alloc(), stream, &mut writer, wish.policy)?;
         return Ok(Ending::Whole);
     }
-    let Ok(mut writer) = Noted::new(rt.alloc(), writer) else {
-        return Err(RunFault::NoMemory);
-    };
     let mut told = Told::new(rt, wish);
     answer_watched(rt.alloc(), stream, &mut writer, wish.policy, &mut told)
 }

@@ -19,6 +19,8 @@ impl<'a> Told<'a> {
 }
 
 impl Watch for Told<'_> {
+    ghost stops = { λ told. λ _. told.wish.now.stop };
+
     fn goes_on(&mut self, refused: &Refused<'_>) -> bool {
         let origin = self
             .wish

@@ -33,12 +33,19 @@ Becomes (Some old) (Some new) says = says old new
 Becomes (Some old) None says = ⊥
 Becomes None new says = ⊥
 
+-- What each statement and the line last queried have shown, and the columns last asked for, lie where they lay, and are what they were.
+pub record KeepsRows (old new : Database) : Type 0 where
+  pub shown : new.shown ≡ old.shown
+  pub queried : new.queried ≡ old.queried
+  pub columns : new.columns ≡ old.columns
+
 -- The session answered the request beside its stream, and the answer is kept.
 pub record AnswersRequest (asked : Request) (old new : Database) : Type 0 where
   pub answers : AnswersOne old.inner.session.limits old.inner.session.database asked new.answer new.inner.session.database
   pub stays : StaysInStream old.inner.session new.inner.session
   pub between : GoesBetween old.inner.session new.inner.session asked new.answer
   pub statements : SameStatements old.inner new.inner
+  pub rows : KeepsRows old new
 
 -- How the indexes of the table of that name stand is kept as the answer, and nothing else changed.
 pub record TellsIndexes (name : List ℕ) (old new : Database) : Type 0 where
@@ -46,22 +53,25 @@ pub record TellsIndexes (name : List ℕ) (old new : Database) : Type 0 where
   pub catalog : CatalogState
   pub tables : database_of catalog ≡ old.inner.session.database
   pub answer : AnswersIndexes catalog name new.answer
+  pub rows : KeepsRows old new
 
 -- The session took the piece, and the answers that it gained are kept.
 pub record TakesPiece (piece : List ℕ) (old new : Database) : Type 0 where
   pub feeds : Feeds old.inner.session new.inner.session piece new.answer
   pub statements : SameStatements old.inner new.inner
+  pub rows : KeepsRows old new
 
--- The answers to the piece broke off, what was gained of them is kept, and the stream is over.
+-- The answers to the piece broke off, what was gained of them is kept, the tables are those of the requests that they answer, and
+-- the stream is over.
 pub record LosesStream (piece : List ℕ) (old new : Database) : Type 0 where
-  pub breaks_off : BreaksOff old.inner.session piece false new.answer
+  pub breaks_off : BreaksOff old.inner.session new.inner.session piece false new.answer
   pub over : IsTrue new.inner.session.ended
   pub limits : new.inner.session.limits ≡ old.inner.session.limits
   pub statements : SameStatements old.inner new.inner
+  pub rows : KeepsRows old new
 
--- The session, its statements, what these and the last query have shown and the answers are as they were.
+-- The session, its statements, all rows and the answers are as they were.
 pub record IsAsBefore (old new : Database) : Type 0 where
   pub inner : new.inner ≡ old.inner
-  pub shown : new.shown ≡ old.shown
-  pub queried : new.queried ≡ old.queried
+  pub rows : KeepsRows old new
   pub answer : new.answer ≡ old.answer

@@ -1,5 +1,9 @@
 -- What the calls of C on statements do with a handle, in the words of the calls of the database.
-use Rattle.std.specs.Prelude.{◌≡◌, ◌≢◌, ◌<◌, ◌≤◌, ◌/◌, ℕ, List, [], Option, Some, None, length, replicate, slice_index_or, slice_set}
+use Rattle.std.specs.Prelude.{◌≡◌, ◌≢◌, ◌<◌, ◌≤◌, ◌/◌, ℕ, List, [], Some, None, IsSomeAnd, length, replicate, slice_get, slice_set}
+use Rattle.std.specs.Option.{option_map_or}
+use Rattle.std.specs.Vec.{vec_ptr}
+use Rattle.mm_cells.specs.Parts.{values_of}
+use Rattle.mm_cells.specs.declared.parts.Parts.{Parts}
 use Rattle.plain_tables.specs.AnswerText.{refusal_text}
 use Rattle.plain_tables.specs.Effects.{Effect}
 use Rattle.plain_tables.specs.declared.refusal.Refusal.{Refusal}
@@ -20,6 +24,7 @@ use Rattle.mm_statements.specs.declared.database.Executed.TheVariants as gives
 use Rattle.mm_statements.specs.declared.declined.Declined.{Declined}
 use Rattle.mm_statements.specs.declared.declined.Declined.TheVariants as declined
 use Rattle.mm_statements.specs.declared.faults.ExecuteFault.TheVariants as fault
+use Rattle.mmdb_c.specs.Calls.{KeepsRows}
 use Rattle.mmdb_c.specs.declared.database.Database.{Database}
 use Rattle.mmdb_c.specs.declared.statements.Statement.{Statement}
 use Rattle.mmdb_c.specs.declared.rows.Rows.{Rows}
@@ -27,6 +32,29 @@ use Rattle.mmdb_c.specs.declared.rows.Rows.{Rows}
 -- the session and the statements are as they were
 abbrev pub KeepsAll : Database → Database → Type 0
 KeepsAll old new = IsUnchanged old.inner new.inner
+
+-- Session, statements, answer and all rows are as they were.
+pub record KeepsEach (old new : Database) : Type 0 where
+  pub all : KeepsAll old new
+  pub answer : new.answer ≡ old.answer
+  pub rows : KeepsRows old new
+
+-- What every other statement and the line last queried have shown, and the columns last asked for, lie where they lay, and are what they
+-- were.
+pub record KeepsOthers (number : ℕ) (old new : Database) : Type 0 where
+  pub others : (other : ℕ) (parts : Parts) → other ≢ number → slice_get old.shown.items other ≡ Some parts → slice_get new.shown.items other ≡ Some parts
+  pub queried : new.queried ≡ old.queried
+  pub columns : new.columns ≡ old.columns
+
+-- What every statement has shown, and the columns last asked for, lie where they lay, and are what they were.
+pub record KeepsStatements (old new : Database) : Type 0 where
+  pub shown : new.shown ≡ old.shown
+  pub columns : new.columns ≡ old.columns
+
+-- What every statement and the line last queried have shown lies where it lay, and is what it was.
+pub record KeepsShown (old new : Database) : Type 0 where
+  pub shown : new.shown ≡ old.shown
+  pub queried : new.queried ≡ old.queried
 
 -- The line is kept as the statement that it spells, under a number that named none, with a null for each of its places; and the answer is
 -- empty.
@@ -36,12 +64,14 @@ pub record Prepares (line : List ℕ) (old new : Database) (told : Statement) : 
   pub kept : NowNames old.inner new.inner told.number (Some (record { line = without_return line; values = replicate told.places value.Null }))
   pub session : new.inner.session ≡ old.inner.session
   pub answer : new.answer ≡ []
+  pub rows : KeepsRows old new
 
 -- The line spells no statement that can be kept, and the answer is the refusal.
 pub record IsUnprepared (line : List ℕ) (old new : Database) : Type 0 where
   pub why : Refusal
   pub refused : preparing.IsUnprepared old.inner.session.database (without_return line) why
   pub answer : new.answer ≡ refusal_text why
+  pub rows : KeepsRows old new
 
 -- the number names no statement
 abbrev pub IsMissing : ℕ → Database → Type 0
@@ -64,16 +94,19 @@ pub record Binds (number place : ℕ) (v : Value) (old new : Database) : Type 0 
   pub bound : NowNames old.inner new.inner number (Some (record kept { values = slice_set kept.values place v }))
   pub session : new.inner.session ≡ old.inner.session
   pub answer : new.answer ≡ old.answer
+  pub rows : KeepsRows old new
 
--- The number names no statement, and nothing else has changed.
+-- the values that the statement of a number has shown
+abbrev pub shown_by : Database → ℕ → List Value
+shown_by d number = option_map_or values_of (slice_get d.shown.items number) []
+
+-- The number names no statement, and what that has shown is gone; nothing else has changed.
 pub record Finalizes (number : ℕ) (old new : Database) : Type 0 where
   pub freed : NowNames old.inner new.inner number None
   pub session : new.inner.session ≡ old.inner.session
   pub answer : new.answer ≡ old.answer
-
--- the values that the statement of a number has shown
-abbrev pub shown_by : Database → ℕ → List Value
-shown_by d number = slice_index_or d.shown.items number []
+  pub gone : shown_by new number ≡ []
+  pub rows : KeepsOthers number old new
 
 -- The effect of the statement came about beside the stream, and what it shows are its cells.
 pub record HasExecuted (number : ℕ) (old new : Database) (given : Executed) : Type 0 where
@@ -83,19 +116,27 @@ pub record HasExecuted (number : ℕ) (old new : Database) (given : Executed) : 
   pub stream : StaysInStream old.inner.session new.inner.session
   pub statements : SameStatements old.inner new.inner
 
--- What C is told of what an execution gave: how many rows it changed; or how many rows there are, and of how many columns.
-abbrev pub Tells : List Value → Executed → Rows → Type 0
-Tells cells (gives.Changed count) told = (told.changed ≡ count) × (told.rows ≡ 0) × (told.columns ≡ 0)
-Tells cells (gives.Rows columns) told = (told.changed ≡ 0) × (told.rows ≡ length cells / columns) × (told.columns ≡ columns)
+-- what C is told of how many values there are: how many rows were changed; or how many rows they are, and of how many columns
+abbrev pub Counts : List Value → Executed → Rows → Type 0
+Counts values (gives.Changed count) told = (told.changed ≡ count) × (told.rows ≡ 0) × (told.columns ≡ 0)
+Counts values (gives.Rows columns) told = (told.changed ≡ 0) × (told.rows ≡ length values / columns) × (told.columns ≡ columns)
+
+-- What C is told of what an execution gave: how many values there are, where the cells lie that are read as these, and where the bytes
+-- of their texts.
+pub record Tells (parts : Parts) (given : Executed) (told : Rows) : Type 0 where
+  pub counts : Counts (values_of parts) given told
+  pub cells : told.cells ≡ vec_ptr parts.cells
+  pub texts : told.texts ≡ vec_ptr parts.texts
 
 -- what was given, if it is rows, has columns
 abbrev pub HasColumns : Executed → Type 0
 HasColumns (gives.Changed count) = Unit {0}
 HasColumns (gives.Rows columns) = 0 < columns
 
--- The effect of the statement came about, and C is told what it gave.
+-- The effect of the statement came about, and C is told what it gave, and where what it shows lies.
 abbrev pub HasTold : ℕ → Database → Database → Rows → Type 0
-HasTold number old new told = (given : Executed) × HasExecuted number old new given × Tells (shown_by new number) given told
+HasTold number old new told =
+    (given : Executed) × HasExecuted number old new given × IsSomeAnd (slice_get new.shown.items number) (λ parts. Tells parts given told)
 
 -- So it is, and the answer is empty.
 pub record Executes (number : ℕ) (old new : Database) (told : Rows) : Type 0 where
@@ -110,10 +151,10 @@ pub record IsUnexecuted (number : ℕ) (old new : Database) : Type 0 where
 
 -- The columns of what the statement shows are kept, and the answer is empty.
 pub record KeepsColumns (number : ℕ) (old new : Database) : Type 0 where
-  pub told : TellsColumns old.inner number new.columns
+  pub told : TellsColumns old.inner number (values_of new.columns)
   pub answer : new.answer ≡ []
 
--- The statement is refused before a row is looked at, or there was no memory; that is the answer.
+-- The statement is refused, whatever is bound, or there was no memory; that is the answer.
 pub record IsUntold (number : ℕ) (old new : Database) : Type 0 where
   pub why : Refusal
   pub untold : executing.IsUntold old.inner number (fault.Refused why)
@@ -123,7 +164,7 @@ pub record IsUntold (number : ℕ) (old new : Database) : Type 0 where
 pub record HasQueried (line : List ℕ) (old new : Database) (told : Rows) (given : Executed) : Type 0 where
   pub effect : Effect
   pub is : IsEffectOfLine old.inner.session (without_return line) effect
-  pub gave : HasGiven new.inner.session effect given new.queried
+  pub gave : HasGiven new.inner.session effect given (values_of new.queried)
   pub tells : Tells new.queried given told
   pub stream : StaysInStream old.inner.session new.inner.session
   pub statements : SameStatements old.inner new.inner

@@ -1,12 +1,12 @@
 //! The calls on statements.
 
-ghost use Rattle.std.specs.Prelude.{◌≡◌, ◌≢◌, ◌↔◌, ◌⊎◌, [], IsNone, IsSome, IsSomeAnd};
+ghost use Rattle.std.specs.Prelude.{◌≡◌, ◌≢◌, ◌↔◌, ◌≤◌, ◌⊎◌, [], IsNone, IsSome, IsSomeAnd, length};
 ghost use Rattle.std.specs.Str.{IsUtf8};
 ghost use Rattle.plain_tables.specs.declared.value.Value.TheVariants as value;
-ghost use Rattle.mm_statements.specs.Cells.{cell_value};
+ghost use Rattle.mm_statements.specs.Cells.{IsSmall, cell_value};
 ghost use Rattle.mm_statements.specs.declared.database.Executed.TheVariants as gives;
 ghost use Rattle.mmdb_c.specs.Calls.{Becomes};
-ghost use Rattle.mmdb_c.specs.StatementCalls.{Prepares, IsUnprepared, KeepsAll, IsMissing, IsPast, Binds, Finalizes, Executes, IsUnexecuted, IsUntold, KeepsColumns, Tells, Queries, IsUnqueried};
+ghost use Rattle.mmdb_c.specs.StatementCalls.{Prepares, IsUnprepared, KeepsAll, KeepsEach, KeepsOthers, KeepsShown, KeepsStatements, IsMissing, IsPast, Binds, Finalizes, Executes, IsUnexecuted, IsUntold, KeepsColumns, Tells, Queries, IsUnqueried};
 
 use crate::handle::Handle;
 use crate::rows::Rows;
@@ -31,6 +31,7 @@ pub extern "C" fn mmdb_prepare(
     ensures done { result ≡ DONE → Becomes handle.old.database handle.new.database (λ old new. Prepares line.now old new statement.new) }
     ensures refused { result ≡ REFUSED → Becomes handle.old.database handle.new.database (IsUnprepared line.now) }
     ensures kept { (result ≡ REFUSED) ⊎ (result ≡ NO_MEMORY) → Becomes handle.old.database handle.new.database KeepsAll }
+    ensures no_memory { result ≡ NO_MEMORY → Becomes handle.old.database handle.new.database KeepsEach }
     ensures unchanged { (result ≡ NOT_OPEN) ⊎ (result ≡ NO_LINE) → handle.new.database ≡ handle.old.database }
     ensures untold { result ≢ DONE → statement.new ≡ statement.old }
 {
@@ -61,8 +62,10 @@ fn bind(alloc: Global, handle: &mut Handle, statement: u32, place: u32, cell: Ce
     ensures no_such_statement { result ≡ NO_SUCH_STATEMENT → IsSomeAnd handle.old.database (IsMissing statement) }
     ensures no_such_place { result ≡ NO_SUCH_PLACE → IsSomeAnd handle.old.database (IsPast statement place) }
     ensures others { IsSome handle.old.database → (result ≡ DONE) ⊎ ((result ≡ NO_SUCH_STATEMENT) ⊎ ((result ≡ NO_SUCH_PLACE) ⊎ (result ≡ NO_MEMORY))) }
+    ensures small { IsSmall cell.entry → result ≢ NO_MEMORY }
     ensures done { result ≡ DONE → Becomes handle.old.database handle.new.database (Binds statement place (cell_value cell.entry)) }
-    ensures kept { result ≢ DONE → IsSome handle.old.database → Becomes handle.old.database handle.new.database KeepsAll }
+    ensures kept { result ≢ DONE → IsSome handle.old.database → Becomes handle.old.database handle.new.database KeepsEach }
+    ensures closed { result ≡ NOT_OPEN → handle.new.database ≡ handle.old.database }
 {
     let Some(mut database) = handle.take(alloc) else {
         return NOT_OPEN;
@@ -77,7 +80,7 @@ fn bind(alloc: Global, handle: &mut Handle, statement: u32, place: u32, cell: Ce
     }
 }
 
-/// Binds an integer to a place of a statement.
+/// Binds an integer to a place of a statement. It needs no memory.
 #[unsafe(no_mangle)]
 pub extern "C" fn mmdb_bind_integer(
     alloc: Global,
@@ -91,14 +94,15 @@ pub extern "C" fn mmdb_bind_integer(
     ensures past { IsSomeAnd handle.old.database (IsPast statement place) → result ≡ NO_SUCH_PLACE }
     ensures no_such_statement { result ≡ NO_SUCH_STATEMENT → IsSomeAnd handle.old.database (IsMissing statement) }
     ensures no_such_place { result ≡ NO_SUCH_PLACE → IsSomeAnd handle.old.database (IsPast statement place) }
-    ensures others { IsSome handle.old.database → (result ≡ DONE) ⊎ ((result ≡ NO_SUCH_STATEMENT) ⊎ ((result ≡ NO_SUCH_PLACE) ⊎ (result ≡ NO_MEMORY))) }
+    ensures others { IsSome handle.old.database → (result ≡ DONE) ⊎ ((result ≡ NO_SUCH_STATEMENT) ⊎ (result ≡ NO_SUCH_PLACE)) }
     ensures done { result ≡ DONE → Becomes handle.old.database handle.new.database (Binds statement place (value.Int integer)) }
-    ensures kept { result ≢ DONE → IsSome handle.old.database → Becomes handle.old.database handle.new.database KeepsAll }
+    ensures kept { result ≢ DONE → IsSome handle.old.database → Becomes handle.old.database handle.new.database KeepsEach }
+    ensures closed { result ≡ NOT_OPEN → handle.new.database ≡ handle.old.database }
 {
     bind(alloc, handle, statement, place, Cell::Integer(integer))
 }
 
-/// Binds a null to a place of a statement.
+/// Binds a null to a place of a statement. It needs no memory.
 #[unsafe(no_mangle)]
 pub extern "C" fn mmdb_bind_null(
     alloc: Global,
@@ -111,14 +115,15 @@ pub extern "C" fn mmdb_bind_null(
     ensures past { IsSomeAnd handle.old.database (IsPast statement place) → result ≡ NO_SUCH_PLACE }
     ensures no_such_statement { result ≡ NO_SUCH_STATEMENT → IsSomeAnd handle.old.database (IsMissing statement) }
     ensures no_such_place { result ≡ NO_SUCH_PLACE → IsSomeAnd handle.old.database (IsPast statement place) }
-    ensures others { IsSome handle.old.database → (result ≡ DONE) ⊎ ((result ≡ NO_SUCH_STATEMENT) ⊎ ((result ≡ NO_SUCH_PLACE) ⊎ (result ≡ NO_MEMORY))) }
+    ensures others { IsSome handle.old.database → (result ≡ DONE) ⊎ ((result ≡ NO_SUCH_STATEMENT) ⊎ (result ≡ NO_SUCH_PLACE)) }
     ensures done { result ≡ DONE → Becomes handle.old.database handle.new.database (Binds statement place value.Null) }
-    ensures kept { result ≢ DONE → IsSome handle.old.database → Becomes handle.old.database handle.new.database KeepsAll }
+    ensures kept { result ≢ DONE → IsSome handle.old.database → Becomes handle.old.database handle.new.database KeepsEach }
+    ensures closed { result ≡ NOT_OPEN → handle.new.database ≡ handle.old.database }
 {
     bind(alloc, handle, statement, place, Cell::Null)
 }
 
-/// Binds a text to a place of a statement. It is copied.
+/// Binds a text to a place of a statement. It is copied. One of at most 14 bytes needs no memory.
 #[unsafe(no_mangle)]
 pub extern "C" fn mmdb_bind_text(
     alloc: Global,
@@ -133,8 +138,11 @@ pub extern "C" fn mmdb_bind_text(
     ensures past { IsSomeAnd handle.old.database (IsPast statement place) → IsUtf8 text.now → result ≡ NO_SUCH_PLACE }
     ensures no_such_statement { result ≡ NO_SUCH_STATEMENT → IsSomeAnd handle.old.database (IsMissing statement) }
     ensures no_such_place { result ≡ NO_SUCH_PLACE → IsSomeAnd handle.old.database (IsPast statement place) }
+    ensures others { IsSome handle.old.database → (result ≡ DONE) ⊎ ((result ≡ NO_SUCH_STATEMENT) ⊎ ((result ≡ NO_SUCH_PLACE) ⊎ ((result ≡ NOT_UTF8) ⊎ (result ≡ NO_MEMORY)))) }
+    ensures short { length text.now ≤ 14 → result ≢ NO_MEMORY }
     ensures done { result ≡ DONE → Becomes handle.old.database handle.new.database (Binds statement place (value.Text text.now)) }
-    ensures kept { result ≢ DONE → IsSome handle.old.database → Becomes handle.old.database handle.new.database KeepsAll }
+    ensures kept { result ≢ DONE → IsSome handle.old.database → Becomes handle.old.database handle.new.database KeepsEach }
+    ensures closed { result ≡ NOT_OPEN → handle.new.database ≡ handle.old.database }
 {
     if let Ok(text) = str::from_utf8(text) {
         return bind(alloc, handle, statement, place, Cell::Text(text));
@@ -159,7 +167,9 @@ pub extern "C" fn mmdb_execute(
     ensures done { result ≡ DONE → Becomes handle.old.database handle.new.database (λ old new. Executes statement old new rows.new) }
     ensures refused { result ≡ REFUSED → Becomes handle.old.database handle.new.database (IsUnexecuted statement) }
     ensures kept { result ≢ DONE → IsSome handle.old.database → Becomes handle.old.database handle.new.database KeepsAll }
+    ensures rows { IsSome handle.old.database → Becomes handle.old.database handle.new.database (KeepsOthers statement) }
     ensures others { IsSome handle.old.database → (result ≡ DONE) ⊎ ((result ≡ NO_SUCH_STATEMENT) ⊎ (result ≡ REFUSED)) }
+    ensures unchanged { (result ≡ NOT_OPEN) ⊎ (result ≡ NO_SUCH_STATEMENT) → handle.new.database ≡ handle.old.database }
     ensures untold { result ≢ DONE → rows.new ≡ rows.old }
 {
     let Some(mut database) = handle.take(alloc) else {
@@ -174,7 +184,7 @@ pub extern "C" fn mmdb_execute(
     }
 }
 
-/// Tells the columns of what a statement shows with the values that are bound: a row for each, of its name and its kind.
+/// Tells the columns of what a statement shows, whatever values are bound: a row for each, of its name and its kind.
 #[unsafe(no_mangle)]
 pub extern "C" fn mmdb_columns(
     alloc: Global,
@@ -187,7 +197,9 @@ pub extern "C" fn mmdb_columns(
     ensures done { result ≡ DONE → Becomes handle.old.database handle.new.database (λ old new. KeepsColumns statement old new × Tells new.columns (gives.Rows 2) columns.new) }
     ensures refused { result ≡ REFUSED → Becomes handle.old.database handle.new.database (IsUntold statement) }
     ensures kept { IsSome handle.old.database → Becomes handle.old.database handle.new.database KeepsAll }
+    ensures rows { IsSome handle.old.database → Becomes handle.old.database handle.new.database KeepsShown }
     ensures others { IsSome handle.old.database → (result ≡ DONE) ⊎ ((result ≡ NO_SUCH_STATEMENT) ⊎ (result ≡ REFUSED)) }
+    ensures unchanged { (result ≡ NOT_OPEN) ⊎ (result ≡ NO_SUCH_STATEMENT) → handle.new.database ≡ handle.old.database }
     ensures untold { result ≢ DONE → columns.new ≡ columns.old }
 {
     let Some(mut database) = handle.take(alloc) else {
@@ -205,13 +217,14 @@ pub extern "C" fn mmdb_columns(
     }
 }
 
-/// Frees a statement.
+/// Frees a statement. It needs no memory.
 #[unsafe(no_mangle)]
 pub extern "C" fn mmdb_finalize(alloc: Global, handle: &mut Handle, statement: u32) -> u32
     ensures not_open { (result ≡ NOT_OPEN) ↔ IsNone handle.old.database }
     ensures no_such_statement { (result ≡ NO_SUCH_STATEMENT) ↔ IsSomeAnd handle.old.database (IsMissing statement) }
     ensures done { result ≡ DONE → Becomes handle.old.database handle.new.database (Finalizes statement) }
-    ensures kept { result ≢ DONE → IsSome handle.old.database → Becomes handle.old.database handle.new.database KeepsAll }
+    ensures kept { result ≢ DONE → IsSome handle.old.database → Becomes handle.old.database handle.new.database KeepsEach }
+    ensures closed { result ≡ NOT_OPEN → handle.new.database ≡ handle.old.database }
     ensures others { IsSome handle.old.database → (result ≡ DONE) ⊎ (result ≡ NO_SUCH_STATEMENT) }
 {
     let Some(mut database) = handle.take(alloc) else {
@@ -240,6 +253,7 @@ pub extern "C" fn mmdb_query(
     ensures done { result ≡ DONE → Becomes handle.old.database handle.new.database (λ old new. Queries line.now old new rows.new) }
     ensures refused { result ≡ REFUSED → Becomes handle.old.database handle.new.database (IsUnqueried line.now) }
     ensures kept { result ≡ REFUSED → Becomes handle.old.database handle.new.database KeepsAll }
+    ensures rows { (result ≡ DONE) ⊎ (result ≡ REFUSED) → Becomes handle.old.database handle.new.database KeepsStatements }
     ensures unchanged { (result ≡ NOT_OPEN) ⊎ (result ≡ NO_LINE) → handle.new.database ≡ handle.old.database }
     ensures untold { result ≢ DONE → rows.new ≡ rows.old }
 {

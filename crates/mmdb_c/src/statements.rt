@@ -1,14 +1,15 @@
 //! The calls on statements: what they are handed by C, and what they tell.
 
-ghost use Rattle.std.specs.Prelude.{◌≡◌, ◌≢◌, ◌+◌, ◌<◌, ◌≤◌, ◌⊎◌, ℕ, Err, None, Some, IfErr, IfOk, IsErrOf, OnErr, OnOk, length};
-ghost use Rattle.mm_statements.specs.Cells.{cell_value};
+ghost use Rattle.std.specs.Prelude.{◌≡◌, ◌≢◌, ◌+◌, ◌<◌, ◌≤◌, ◌⊎◌, ℕ, Err, None, Some, IfErr, IfOk, IsErrOf, OnErr, OnOk, length, slice_get};
+ghost use Rattle.mm_cells.specs.declared.parts.Parts.{Parts as PlainParts};
+ghost use Rattle.mm_statements.specs.Cells.{IsSmall, cell_value};
 ghost use Rattle.mm_statements.specs.declared.declined.Declined.TheVariants as declined;
 ghost use Rattle.mmdb_c.specs.declared.statements.Unprepared.TheVariants as unprepared;
 ghost use Rattle.mmdb_c.specs.declared.statements.Unexecuted.TheVariants as unexecuted;
 
 use crate::database::Database;
 use crate::rows::Rows;
-use mm_cells::Cells;
+use mm_cells::Parts;
 use mm_statements::{Cell, Declined, ExecuteFault, PrepareFault};
 use no_memory::NoMemory;
 use plain_tables::Refusal;
@@ -36,28 +37,30 @@ pub enum Unexecuted {
     Refused,
 }
 
-// Makes sure of cells for the values that the statement of a number shows.
-fn make_room(shown: &mut Vec<Cells>, number: usize) -> Result<(), NoMemory>
-    ensures { OnOk result (number < length shown.new.items) }
+// Makes sure of parts for the values that the statement of a number shows.
+fn make_room(shown: &mut Vec<Parts>, number: usize) -> Result<(), NoMemory>
+    ensures room { OnOk result (number < length shown.new.items) }
+    ensures others { (k : ℕ) (parts : PlainParts) → slice_get shown.old.items k ≡ Some parts → slice_get shown.new.items k ≡ Some parts }
 {
     while shown.len() <= number {
-        let cells = Cells::new(*shown.allocator());
-        shown.push(cells)?;
+        let parts = Parts::new(*shown.allocator());
+        shown.push(parts)?;
     }
     Ok(())
 }
 
 impl Database {
-    ghost use Rattle.mmdb_c.specs.StatementCalls.{Prepares, IsUnprepared, KeepsAll, IsMissing, IsPast, IsUnbound, Binds, Finalizes, HasTold, Executes, IsUnexecuted, IsUntold, KeepsColumns, Queries, IsUnqueried};
+    ghost use Rattle.mmdb_c.specs.StatementCalls.{Prepares, IsUnprepared, KeepsAll, KeepsEach, KeepsOthers, KeepsShown, KeepsStatements, IsMissing, IsPast, IsUnbound, Binds, Finalizes, HasTold, Executes, IsUnexecuted, IsUntold, KeepsColumns, Queries, IsUnqueried};
     ghost use Rattle.mm_statements.specs.Executing.{IsDeclined};
 
-    /// Keeps the statement that a line spells. Where it is refused, that is the answer, and else the answer is empty.
+    /// Keeps the statement that a line spells; the answer is empty then. Where it is refused, that is the answer, and where there is no
+    /// memory, the answer stays.
     pub fn prepare(&mut self, alloc: Global, line: &[u8]) -> Result<Statement, Unprepared>
         ensures prepared { IfOk result (Prepares line.now self.old self.new) }
         ensures refused { IsErrOf result unprepared.Refused → IsUnprepared line.now self.old self.new }
         ensures unchanged { OnErr result (KeepsAll self.old self.new) }
+        ensures no_memory { IsErrOf result unprepared.NoMemory → KeepsEach self.old self.new }
     {
-        self.answer.clear();
         let numbered = match self.inner.prepare(alloc, line) {
             Ok(numbered) => numbered,
             Err(PrepareFault::Refused(why)) => {
@@ -73,17 +76,18 @@ impl Database {
             let _ = self.inner.finalize(numbered.statement);
             return Err(Unprepared::NoMemory);
         };
+        self.answer.clear();
         Ok(Statement { number, places })
     }
 
-    /// Binds a value to a place of a statement.
+    /// Binds a value to a place of a statement. Only a text of more than 14 bytes needs memory.
     pub fn bind(&mut self, number: u32, place: u32, cell: Cell<'_>) -> Result<(), Declined>
         ensures bound { OnOk result (Binds number place (cell_value cell.entry) self.old self.new) }
         ensures missing { IsMissing number self.old → result ≡ Err declined.NoSuchStatement }
         ensures past { IsPast number place self.old → result ≡ Err declined.NoSuchPlace }
         ensures declined { IfErr result (IsUnbound number place self.old) }
-        ensures unchanged { OnErr result (KeepsAll self.old self.new) }
-        ensures answer { self.new.answer ≡ self.old.answer }
+        ensures small { IsSmall cell.entry → result ≢ Err declined.NoMemory }
+        ensures unchanged { OnErr result (KeepsEach self.old self.new) }
     {
         self.inner.bind(number as usize, place as usize, cell)
     }
@@ -93,13 +97,12 @@ impl Database {
         ensures freed { OnOk result (Finalizes number self.old self.new) }
         ensures missing { IsMissing number self.old → result ≡ Err declined.NoSuchStatement }
         ensures none { OnErr result (IsMissing number self.old) }
-        ensures unchanged { OnErr result (KeepsAll self.old self.new) }
+        ensures unchanged { OnErr result (KeepsEach self.old self.new) }
         ensures declined { IfErr result (λ e. e ≡ declined.NoSuchStatement) }
-        ensures answer { self.new.answer ≡ self.old.answer }
     {
         self.inner.finalize(number as usize)?;
-        if let Some(cells) = self.shown.get_mut(number as usize) {
-            *cells = Cells::new(alloc);
+        if let Some(parts) = self.shown.get_mut(number as usize) {
+            *parts = Parts::new(alloc);
         }
         Ok(())
     }
@@ -110,29 +113,33 @@ impl Database {
         ensures done { OnOk result (HasTold number self.old self.new rows.new) }
         ensures declined { IfErr result (IsDeclined self.old.inner number) }
         ensures unchanged { OnErr result (KeepsAll self.old self.new) }
+        ensures others { KeepsOthers number self.old self.new }
         ensures answer { self.new.answer ≡ self.old.answer }
         ensures untold { OnErr result (rows.new ≡ rows.old) }
     {
-        let given = self.inner.execute(number, &mut self.shown[number])?;
-        rows.tell(given, &self.shown[number]);
+        let mut cells = self.shown[number].take();
+        let executed = self.inner.execute(number, &mut cells);
+        self.shown[number] = cells.into_parts();
+        rows.tell(executed?, &self.shown[number]);
         Ok(())
     }
 
-    /// Does what a statement does with the values that are bound, and tells what that gave. The values that it shows are its cells;
-    /// where it is refused, that is the answer, and else the answer is empty.
+    /// Does what a statement does with the values that are bound, and tells what that gave. The values that it shows are its cells, and
+    /// the answer is empty. Where it is refused, that is the answer. A number that names no statement leaves all as it was.
     pub fn execute(&mut self, number: u32, rows: &mut Rows) -> Result<(), Unexecuted>
         ensures done { OnOk result (Executes number self.old self.new rows.new) }
         ensures missing { IsMissing number self.old → result ≡ Err unexecuted.NoSuchStatement }
-        ensures none { result ≡ Err unexecuted.NoSuchStatement → IsMissing number self.old }
+        ensures none { result ≡ Err unexecuted.NoSuchStatement → IsMissing number self.old × (self.new ≡ self.old) }
         ensures refused { IsErrOf result unexecuted.Refused → IsUnexecuted number self.old self.new }
         ensures unchanged { OnErr result (KeepsAll self.old self.new) }
+        ensures others { KeepsOthers number self.old self.new }
         ensures untold { OnErr result (rows.new ≡ rows.old) }
     {
         let number = number as usize;
-        self.answer.clear();
         if !self.inner.has(number) {
             return Err(Unexecuted::NoSuchStatement);
         }
+        self.answer.clear();
         if make_room(&mut self.shown, number).is_err() {
             self.answer.refuse(Refusal::NoMemory);
             return Err(Unexecuted::Refused);
@@ -147,17 +154,25 @@ impl Database {
         }
     }
 
-    /// Keeps the columns of what a statement shows with the values that are bound. Where it is refused, that is the answer, and else
-    /// the answer is empty.
+    /// Keeps the columns of what a statement shows, whatever values are bound; the answer is empty then. Where it is refused, that is the
+    /// answer. A number that names no statement leaves all as it was.
     pub fn find_columns(&mut self, number: u32) -> Result<(), Unexecuted>
         ensures told { OnOk result (KeepsColumns number self.old self.new) }
         ensures missing { IsMissing number self.old → result ≡ Err unexecuted.NoSuchStatement }
-        ensures none { result ≡ Err unexecuted.NoSuchStatement → IsMissing number self.old }
+        ensures none { result ≡ Err unexecuted.NoSuchStatement → IsMissing number self.old × (self.new ≡ self.old) }
         ensures refused { IsErrOf result unexecuted.Refused → IsUntold number self.old self.new }
         ensures unchanged { KeepsAll self.old self.new }
+        ensures shown { KeepsShown self.old self.new }
     {
+        let number = number as usize;
+        if !self.inner.has(number) {
+            return Err(Unexecuted::NoSuchStatement);
+        }
         self.answer.clear();
-        match self.inner.columns(number as usize, &mut self.columns) {
+        let mut cells = self.columns.take();
+        let found = self.inner.columns(number, &mut cells);
+        self.columns = cells.into_parts();
+        match found {
             Ok(()) => Ok(()),
             Err(ExecuteFault::NoSuchStatement) => Err(Unexecuted::NoSuchStatement),
             Err(ExecuteFault::Refused(why)) => {
@@ -173,10 +188,14 @@ impl Database {
         ensures done { OnOk result (Queries line.now self.old self.new rows.new) }
         ensures refused { OnErr result (IsUnqueried line.now self.old self.new) }
         ensures unchanged { OnErr result (KeepsAll self.old self.new) }
+        ensures statements { KeepsStatements self.old self.new }
         ensures untold { OnErr result (rows.new ≡ rows.old) }
     {
         self.answer.clear();
-        match self.inner.query(alloc, line, &mut self.queried) {
+        let mut cells = self.queried.take();
+        let executed = self.inner.query(alloc, line, &mut cells);
+        self.queried = cells.into_parts();
+        match executed {
             Ok(given) => {
                 rows.tell(given, &self.queried);
                 Ok(())

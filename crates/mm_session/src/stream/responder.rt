@@ -175,7 +175,8 @@ impl Responder {
 
     // Answers a line that the stream ends in, behind which no line feed and no block is.
     fn finish_line(&mut self)
-        ensures { (line : List ℕ) → self.old.kept.line ≡ kept_of line → Responds self.old self.new (record { line = line; block = [] }) }
+        ensures answers { (line : List ℕ) → self.old.kept.line ≡ kept_of line → Responds self.old self.new (record { line = line; block = [] }) }
+        ensures limits { self.new.executor.catalog.limits ≡ self.old.executor.catalog.limits }
     {
         let line = self.kept.line.judged();
         let length = line.asked().unwrap_or(0);
@@ -188,7 +189,8 @@ impl Responder {
 
     /// Makes the answer to the last request, where the stream has ended in one.
     pub fn finish(&mut self)
-        ensures { Ends self.old self.new }
+        ensures answers { Ends self.old self.new }
+        ensures limits { self.new.executor.catalog.limits ≡ self.old.executor.catalog.limits }
     {
         match self.kept.block.take() {
             Some(block) => {

@@ -1,5 +1,4 @@
 use Rattle.mm_statements.specs.Querying as querying
-use Rattle.mm_statements.proofs.MarkLemmas.{return-unbroken}
 use Rattle.mm_statements.proofs.reading.readable.Goals as goal
 
 pub returns-in-Some-TooLong-clause-unread : goal.returns-in-Some-TooLong-clause-unread
@@ -16,6 +15,3 @@ pub returns-in-Some-Silent-clause-unread : goal.returns-in-Some-Silent-clause-un
 returns-in-Some-Silent-clause-unread c =
     let judged = rw c.in-Some-Silent.field-0-is at c.in-Some-Silent.ensures in
     querying.silent judged.1.0 judged.1.1
-
-pub returns-in-None-clause-unread : goal.returns-in-None-clause-unread
-returns-in-None-clause-unread c = querying.broken (λ free. c.in-None.ensures (return-unbroken c.args.line.now free))

@@ -1,10 +1,10 @@
-use Rattle.std.proofs.Common.{◌≡◌, sym, subst, Some, Err}
+use Rattle.std.proofs.Common.{◌≡◌, sym, subst, Some}
 use Rattle.std.proofs.lemmas.Result.{err_from_is_err_and}
 use Rattle.std.specs.List.{Contains}
 use Rattle.mm_statements.specs.Kept.{named}
 use Rattle.mm_statements.specs.Resolving.{LineMeans}
 use Rattle.mm_statements.specs.Right.{IsRight}
-use Rattle.mm_statements.proofs.ExecuteLemmas.{set-known, unmeant-finished}
+use Rattle.mm_statements.proofs.ExecuteLemmas.{set-known, unmeant-refusing}
 use Rattle.mm_statements.proofs.MarkLemmas.{spelled-unbroken}
 use Rattle.mm_statements.proofs.RightLemmas.{resolve-right}
 use Rattle.mm_statements.proofs.resolving.resolve.Goals as goal
@@ -24,7 +24,7 @@ returns-in_err-resolution-clause-refused c =
     let e = err_from_is_err_and c.from_residual.result c.from_residual.ensures.1 in
     rw (e.1, e.2)
     (λ other.
-    unmeant-finished tables c.args.statements.now c.args.number p _ there right
+    unmeant-refusing tables c.args.statements.now c.args.number p _ there right
     (rw (c.catalog.ensures.tables, c.new-line.ensures, c.as_str.ensures) at (c.in_err-resolution.ensures.refused other)))
 
 pub returns-clause-right : goal.returns-clause-right

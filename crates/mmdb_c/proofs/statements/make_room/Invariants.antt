@@ -1,5 +1,10 @@
-use Rattle.std.proofs.Common.{◌+◌, ◌-◌, vec_len}
+use Rattle.std.proofs.Common.{◌≡◌, ℕ, ◌+◌, ◌-◌, Some, vec_len}
+use Rattle.std.specs.Prelude.{slice_get}
+use Rattle.mm_cells.specs.declared.parts.Parts.{Parts}
 use Rattle.mmdb_c.proofs.statements.make_room.Given as goal
+
+abbrev pub invariant-loop-shown : goal.invariant-loop-shown
+invariant-loop-shown l = (k : ℕ) (parts : Parts) → slice_get l.initial.shown.items k ≡ Some parts → slice_get l.shown.items k ≡ Some parts
 
 -- as many as are missing
 abbrev pub decreases-loop-shown : goal.decreases-loop-shown

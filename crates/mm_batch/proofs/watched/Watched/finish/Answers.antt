@@ -1,18 +1,33 @@
-use Rattle.mm_session.proofs.ResultLemmas.{on_ok}
-use Rattle.mm_batch.proofs.WatchLemmas.{OnErr-of, OnOk-of, Gains-keeps, finished_and_failed}
+use Rattle.std.proofs.Common.{[], sym, append-nil}
+use Rattle.mm_session.proofs.WritingLemmas.{Appends-keeps}
+use Rattle.mm_batch.proofs.WatchLemmas.{OnErr-of, breaks_last, ends_stream}
 use Rattle.mm_batch.proofs.watched.Watched.finish.Goals as goal
+
+pub returns-in_err-ending-clause-fault : goal.returns-in_err-ending-clause-fault
+returns-in_err-ending-clause-fault g c =
+    let (sent, unsent, grows, is) = c.in_err-ending.ensures.fault in
+    OnErr-of c.from_residual.result _ (
+      sent,
+      grows,
+      λ stream answers st. breaks_last (g.T.Watch.stops c.args.watch.now) c.args.self.session c.answer_last.new.self stream answers c.answer_last.new.answer sent unsent st
+          c.answer_last.ensures.answers is,
+    )
 
 pub returns-in_err-flush-clause-fault : goal.returns-in_err-flush-clause-fault
 returns-in_err-flush-clause-fault g c =
-    let ended = on_ok c.end.result _ c.if-is_err.ensures.value c.end.ensures.ok in
-    OnErr-of c.from_residual.result _ (finished_and_failed _ _ _ c.args.self.session ended c.flush.ensures.bytes)
+    let answer = c.answer_last.new.answer in
+    OnErr-of c.from_residual-in_err-flush.result _ (
+      answer,
+      Appends-keeps _ _ _ answer c.in_ok-ending.ensures.ok c.flush.ensures.bytes,
+      λ stream answers st. breaks_last (g.T.Watch.stops c.args.watch.now) c.args.self.session c.answer_last.new.self stream answers answer answer [] st
+          c.answer_last.ensures.answers (sym (append-nil answer)),
+    )
 
 pub returns-clause-ok : goal.returns-clause-ok
 returns-clause-ok g c =
-    let ended = on_ok c.end.result _ c.if-is_err.ensures.value c.end.ensures.ok in
-    OnOk-of c.look.result _ (Gains-keeps _ _ _ _ (Gains-keeps _ _ _ _ ended c.flush.ensures.bytes) c.look.ensures.bytes)
-
-pub returns-clause-fault : goal.returns-clause-fault
-returns-clause-fault g c =
-    let ended = on_ok c.end.result _ c.if-is_err.ensures.value c.end.ensures.ok in
-    OnErr-of c.look.result _ (finished_and_failed _ _ _ c.args.self.session (Gains-keeps _ _ _ _ ended c.flush.ensures.bytes) c.look.ensures.bytes)
+    let answer = c.answer_last.new.answer in (
+      answer,
+      Appends-keeps _ _ _ answer c.in_ok-ending.ensures.ok c.flush.ensures.bytes,
+      λ stream answers st. ends_stream (g.T.Watch.stops c.args.watch.now) c.in_ok-ending.ending c.args.self.session c.answer_last.new.self stream answers answer st
+          c.answer_last.ensures.answers c.in_ok-ending.ensures.ending,
+    )

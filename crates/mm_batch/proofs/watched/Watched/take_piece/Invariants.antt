@@ -1,11 +1,15 @@
-use Rattle.std.proofs.Common.{length}
-use Rattle.mm_batch.proofs.WatchLemmas.{Done}
+use Rattle.std.proofs.Common.{◌≡◌, ◌+◌, ℕ, List, false, length}
+use Rattle.std.specs.Io.KnownBytes.{Appends}
+use Rattle.mm_session.specs.Responding.{waits}
+use Rattle.mm_batch.proofs.WatchLemmas.{Begun}
 use Rattle.mm_batch.proofs.watched.Watched.take_piece.Given as goal
 
--- what was done of the piece was fed to the session, and what is left follows it
-abbrev pub invariant-loop-rest : goal.invariant-loop-rest
-invariant-loop-rest g l =
-    Done (g.W.Write.contents l.fn.w.writer) (g.W.Write.contents l.w.writer) l.fn.self.session l.self.session l.piece l.rest
+-- what was done of the piece stands behind the stream, and what is left follows it
+abbrev pub invariant-loop-others : goal.invariant-loop-others
+invariant-loop-others g l =
+    let stops = g.T.Watch.stops l.fn.watch in
+    (gained : List ℕ) × Appends (g.O.Outlet.contents l.fn.outlet) (g.O.Outlet.contents l.outlet) gained
+    × Begun stops l.fn.self.session l.self.session l.piece l.rest gained × (l.self.session.ended ≡ false) × (g.T.Watch.stops l.watch ≡ stops)
 
-abbrev pub decreases-loop-rest : goal.decreases-loop-rest
-decreases-loop-rest g l = length l.rest
+abbrev pub decreases-loop-others : goal.decreases-loop-others
+decreases-loop-others g l = length l.rest + waits l.self.session.kept

@@ -11,7 +11,7 @@ returns-in_default-clause-refused c = not_utf8 c.in_default.ensures.cases.0
 pub returns-clause-refused : goal.returns-clause-refused
 returns-clause-refused c =
     let name : c.in-Ok-from_str.name ≡ c.args.name.now = c.in-Ok-from_str.ensures.copy ∙ c.in-Ok.ensures.cases.0 in
-    no_such_table (subst (λ n. position (is_named n) (database_of c.args.self.now.catalog) ≡ None) name (no_place _ (sym c.table_number.ensures ∙ c.in-None.is)))
+    no_such_table (subst (λ n. position (is_named n) (database_of c.args.self.now.catalog) ≡ None) name (no_place _ _ (sym c.table_number.ensures ∙ c.in-None.is)))
 
 pub returns-in_default-from_str-clause-refused : goal.returns-in_default-from_str-clause-refused
 returns-in_default-from_str-clause-refused c = no_memory

@@ -5,7 +5,7 @@ use Rattle.plain_tables.specs.ResolvedLaws.{IsMeant}
 use Rattle.plain_tables.specs.declared.resolved.Resolved.TheVariants as resolved
 use Rattle.mm_statements.specs.Resolving.{IsFinished, IsOfRows}
 use Rattle.mm_statements.specs.declared.faults.ExecuteFault.TheVariants as fault
-use Rattle.mm_statements.proofs.ExecuteLemmas.{change-declined, changed-right, effect-of, on-err, same-finished, same-session, same-unfinished, unchanged, unfinished-declined}
+use Rattle.mm_statements.proofs.ExecuteLemmas.{change-declined, changed-right, effect-of, on-err, same-finished, same-session, same-unfinished, unchanged, unfinished-declined, unresolved-unfinished}
 use Rattle.mm_statements.proofs.FinishedLemmas.{rows-change}
 use Rattle.mm_statements.proofs.SeenLemmas.{same-seen, statement-none}
 use Rattle.mm_statements.proofs.database.Database.execute.Goals as goal
@@ -23,7 +23,8 @@ pub returns-in_err-resolve-clause-declined : goal.returns-in_err-resolve-clause-
 returns-in_err-resolve-clause-declined c =
     let e = err_from_is_err_and c.from_residual.result c.from_residual.ensures.1 in
     rw (← c.self.view_is, e.1, e.2)
-    (unfinished-declined c.self.inside.session c.self.inside.statements c.args.number _ c.in_err-resolve.ensures.refused)
+    (unfinished-declined c.self.inside.session c.self.inside.statements c.args.number _
+    (unresolved-unfinished c.self.inside.session.database c.self.inside.statements c.args.number _ c.in_err-resolve.ensures.refused))
 
 pub returns-in_err-resolve-clause-unchanged : goal.returns-in_err-resolve-clause-unchanged
 returns-in_err-resolve-clause-unchanged c =

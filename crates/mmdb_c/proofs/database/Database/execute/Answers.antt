@@ -17,3 +17,12 @@ returns-in-Ok-clause-done c =
       done = (told.0, record { effect = done.effect; is = done.is; gave = done.gave; stream = done.stream; statements = done.statements }, told.2);
       answer = c.execute_there.ensures.answer ∙ c.clear.ensures;
     }
+
+pub returns-in-Err-Refused-clause-others : goal.returns-in-Err-Refused-clause-others
+returns-in-Err-Refused-clause-others c =
+    let kept = c.execute_there.ensures.others in
+    record {
+      others = λ other parts apart there. kept.others other parts apart (c.make_room.ensures.others other parts there);
+      queried = kept.queried;
+      columns = kept.columns;
+    }

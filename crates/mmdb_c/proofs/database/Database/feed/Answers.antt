@@ -1,5 +1,5 @@
 -- An empty answer becomes what it gains.
-use Rattle.std.proofs.Common.{◌≡◌, ◌∙◌, List, ℕ, [], ◌++◌, Some, subst, sym, ap}
+use Rattle.std.proofs.Common.{◌≡◌, ◌∙◌, List, ℕ, [], ◌++◌, Some, refl, subst, sym, ap}
 use Rattle.mm_session.specs.Sessions.{Gains}
 use Rattle.mmdb_c.proofs.database.Database.feed.Goals as goal
 
@@ -14,4 +14,5 @@ returns-clause-write c is = record {
   over = c.feed.ensures.over is;
   limits = c.feed.ensures.limits;
   statements = c.feed.ensures.statements;
+  rows = record { shown = refl; queried = refl; columns = refl };
 }

@@ -10,4 +10,5 @@ returns c =
       catalog = told.0;
       tables = told.1 ∙ ap (λ (s : State). s.database) c.session.ensures;
       answer = told.2;
+      rows = record { shown = refl; queried = refl; columns = refl };
     }

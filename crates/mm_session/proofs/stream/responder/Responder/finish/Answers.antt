@@ -8,14 +8,14 @@ use Rattle.mm_session.proofs.KeptLemmas.{keeps-no_block, keeps-block, keeps_bloc
 use Rattle.mm_session.proofs.RequestLemmas.{answers-refused_block}
 use Rattle.mm_session.proofs.stream.responder.Responder.finish.Goals as goal
 
-pub returns-in-None : goal.returns-in-None
-returns-in-None c = λ rest is some.
+pub returns-in-None-clause-answers : goal.returns-in-None-clause-answers
+returns-in-None-clause-answers c = λ rest is some.
     let self = c.args.self.now in
     let (unbroken, kept) = keeps-no_block self.executor.catalog.limits rest self.kept (sym c.take.ensures.value ∙ c.in-None.is) is in
-    rw (request_of-line rest unbroken) (c.finish_line.ensures rest kept)
+    rw (request_of-line rest unbroken) (c.finish_line.ensures.answers rest kept)
 
-pub returns-in-Some : goal.returns-in-Some
-returns-in-Some c = λ rest is some.
+pub returns-in-Some-clause-answers : goal.returns-in-Some-clause-answers
+returns-in-Some-clause-answers c = λ rest is some.
     let self = c.args.self.now in
     let limits = self.executor.catalog.limits in
     let tables = database_of self.executor.catalog in

@@ -8,13 +8,13 @@ use Rattle.mm_session.proofs.AskLemmas.{has_block-empty, asks-some}
 use Rattle.mm_session.proofs.RequestLemmas.{answers-refused_block}
 use Rattle.mm_session.proofs.stream.responder.Responder.finish_line.Goals as goal
 
-pub returns-then-length-eq0 : goal.returns-then-length-eq0
-returns-then-length-eq0 c = λ line is.
+pub returns-then-length-eq0-clause-answers : goal.returns-then-length-eq0-clause-answers
+returns-then-length-eq0-clause-answers c = λ line is.
     c.respond.ensures.answers line (c.judged-line.ensures line is)
     (has_block-empty c.args.self.now.executor.catalog.limits line c.asked.result (c.asked.ensures line (c.judged-line.ensures line is)) (sym c.unwrap_or-length.ensures ∙ c.if-length-eq0.true))
 
-pub returns : goal.returns
-returns c = λ line is.
+pub returns-clause-answers : goal.returns-clause-answers
+returns-clause-answers c = λ line is.
     let limits = c.args.self.now.executor.catalog.limits in
     let tables = database_of c.args.self.now.executor.catalog in
     let request : Request = record { line = line; block = [] } in

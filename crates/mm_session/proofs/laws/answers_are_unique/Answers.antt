@@ -1,0 +1,5 @@
+use Rattle.mm_session.proofs.StreamLemmas.{answers_are_unique}
+use Rattle.mm_session.proofs.laws.answers_are_unique.Goals as goal
+
+pub returns : goal.returns
+returns c = answers_are_unique

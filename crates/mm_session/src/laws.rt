@@ -1,0 +1,13 @@
+//! The laws of streams that a session answers. Each is the contract of a function that does nothing.
+
+ghost use Rattle.mm_session.specs.StreamLaws.{AnswersAreUnique, StreamsReadNoIndexes};
+
+/// The answers to a stream are unique but for want of memory: where memory was found for each request, there is one way to answer.
+pub fn answers_are_unique()
+    ensures { AnswersAreUnique }
+{}
+
+/// Tables that are alike but for the declared indexes answer a stream alike, whose requests don't declare, drop or list indexes.
+pub fn streams_read_no_indexes()
+    ensures { StreamsReadNoIndexes }
+{}

@@ -1,0 +1,9 @@
+use Rattle.std.proofs.Common.{◌≡◌, ◌++◌, take}
+use Rattle.std.specs.List.{flat_map}
+use Rattle.mm_catalog.specs.Seen.{database_of}
+use Rattle.mm_statements.specs.Columns.{column_placed, source_tables}
+use Rattle.mm_statements.proofs.columns.push_places.Given as goal
+
+abbrev pub invariant-loop-place : goal.invariant-loop-place
+invariant-loop-place l =
+    l.cells ≡ l.fn.cells ++ flat_map (column_placed (database_of l.catalog) (source_tables l.query)) (take l.place-index l.places)
