@@ -1,11 +1,9 @@
-"""Keys that somebody chose: in orders that lean a tree to one side, and with hashes that meet in one bucket."""
+"""Keys that an attacker chose: in orders that unbalance a tree, and with hashes that share one bucket."""
 
 import random
 import unittest
 
-import harness
-import model
-import sizes
+from support import harness, model, sizes
 
 COUNT = sizes.size(1_000, 100_000)
 MEETING = sizes.size(1_000, 20_000)

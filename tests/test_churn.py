@@ -1,9 +1,9 @@
-"""A table of sessions at full speed: they come, are touched and looked up, and go by ranges of their end, under a declared
-tree and a hash. As many are there after each round, and they hold about as much memory. So it is where the keys were chosen
-against both.
+"""A table of sessions at full speed: they arrive, are touched and looked up, and expire by ranges, under a declared tree and a hash. The
+number of sessions is the same after each round, and so is, about, the memory. The same holds for keys that were chosen against both
+indexes.
 
-In large sizes (`tests/fire churn`) it does what such a table does in a day, and tells how long each kind of command took, and
-SQLite beside it, called from C, and from Python; and asserts nothing of it.
+In large sizes (`tests/fire churn`) it runs the commands of a day from C and from Python, and prints how long each kind of command took,
+beside SQLite. It asserts no time.
 """
 
 import gc
@@ -14,10 +14,7 @@ import subprocess
 import time
 import unittest
 
-import compiling
-import embedded
-import holding
-import sizes
+from support import compiling, embedded, holding, sizes, tested
 
 SEED = 19861101
 ROWS = sizes.size(2_000, 50_000)
@@ -27,7 +24,7 @@ TIMED_ROUNDS = 4
 STEPS = 20
 LONGEST_LIFE = 2 * STEPS
 MOST_GROWTH = 1.1
-# The words of tests/embedding/churn.c: rounds, seconds of a round, and the longest life in seconds. There are 200 commands to a
+# The words of tests/support/programs/churn.c: rounds, seconds of a round, and the longest life in seconds. There are 200 commands to a
 # second, so that a day has 17,280,000. Chains are walked where keys meet, so that there are fewer then.
 OF_A_DAY = sizes.size(("12", "100", "50"), ("24", "3600", "1800"))
 OF_CHOSEN_KEYS = sizes.size(("12", "20", "10"), ("24", "600", "300"))
@@ -143,7 +140,7 @@ class Held(unittest.TestCase):
         self.assertLessEqual(max(held), MOST_GROWTH * held[0], held)
 
 
-@unittest.skipUnless(sizes.is_large, "it tells times, in large sizes")
+@unittest.skipUnless(sizes.is_large, "times are measured in large sizes only")
 class Timed(unittest.TestCase):
     """How much of a processor's time each command takes where it is called from Python: by a new text of mmdb's, and by a
     statement that SQLite has prepared. What else runs on the machine doesn't count."""
@@ -211,12 +208,12 @@ class InC(unittest.TestCase):
         cls.addClassCleanup(cls.room.close)
 
     def compiled(self, engine, linked):
-        words = ["cc", "-std=c99", *compiling.WARNINGS, "-O2", f"-I{compiling.EMBEDDING}"]
-        return self.room.linked(engine, compiling.EMBEDDING / "churn.c", words, [compiling.EMBEDDING / f"churn_{engine}.c", *linked])
+        words = ["cc", "-std=c99", *compiling.WARNINGS, "-O2", f"-I{compiling.PROGRAMS}"]
+        return self.room.linked(engine, compiling.PROGRAMS / "churn.c", words, [compiling.PROGRAMS / f"churn_{engine}.c", *linked])
 
     def run_mmdb(self, words, is_chosen):
         """Runs the sessions, and checks that no round holds much more than that from which on the table is full."""
-        self.told(self.compiled("mmdb", [compiling.library.folder() / "libmmdb.a"]), words, is_chosen)
+        self.told(self.compiled("mmdb", [tested.library() / "libmmdb.a"]), words, is_chosen)
         full, rest = self.held[FULL - 1], self.held[FULL:]
         self.assertLessEqual(max(rest), MOST_GROWTH * full, self.held)
 
@@ -224,7 +221,7 @@ class InC(unittest.TestCase):
         try:
             program = self.compiled("sqlite", ["-lsqlite3"])
         except subprocess.CalledProcessError:
-            self.skipTest("SQLite can't be linked with here")
+            self.skipTest("SQLite's library is not installed")
         self.told(program, words, is_chosen)
 
     def told(self, program, words, is_chosen):
@@ -244,10 +241,10 @@ class InC(unittest.TestCase):
     def test_chosen_keys(self):
         self.run_mmdb(OF_CHOSEN_KEYS, True)
 
-    @unittest.skipUnless(sizes.is_large, "it tells times, in large sizes")
+    @unittest.skipUnless(sizes.is_large, "times are measured in large sizes only")
     def test_a_day_of_sqlite(self):
         self.run_sqlite(OF_A_DAY, False)
 
-    @unittest.skipUnless(sizes.is_large, "it tells times, in large sizes")
+    @unittest.skipUnless(sizes.is_large, "times are measured in large sizes only")
     def test_chosen_keys_of_sqlite(self):
         self.run_sqlite(OF_CHOSEN_KEYS, True)

@@ -1,4 +1,7 @@
-"""The library in C and C++ programs: the header, the examples, each status, memory and its refusal, threads."""
+"""The library in C and C++ programs: the header, the examples, each status, memory and its refusal.
+
+What must hold: EXPORTS lists every call of the header.
+"""
 
 import os
 import re
@@ -6,10 +9,7 @@ import shutil
 import subprocess
 import unittest
 
-import compiling
-import harness
-import library
-import refusing
+from support import compiling, harness, refusing, tested
 
 EXAMPLES = harness.ROOT / "examples" / "c"
 PAGE = harness.ROOT / "docs" / "c.md"
@@ -44,6 +44,7 @@ class Header(unittest.TestCase):
     """The header by itself, and the names that a library shows."""
 
     def test_it_compiles_alone_as_c_and_as_cpp(self):
+        tested.requires("cc", "c++")
         source = ROOM.path / "alone.c"
         source.write_text('#include "mmdb.h"\n')
         warned = [*compiling.WARNINGS, f"-I{compiling.INCLUDE}", "-c", source, "-o", ROOM.path / "alone.o"]
@@ -55,7 +56,8 @@ class Header(unittest.TestCase):
                 subprocess.run(["c++", "-x", "c++", f"-std={standard}", *warned], check=True)
 
     def test_the_shared_library_shows_its_calls_alone(self):
-        words = ["nm", "-D", "--defined-only", "--format=posix", library.folder() / "libmmdb.so"]
+        tested.requires("nm")
+        words = ["nm", "-D", "--defined-only", "--format=posix", tested.library() / "libmmdb.so"]
         shown = subprocess.run(words, stdout=subprocess.PIPE, text=True, check=True).stdout
         self.assertEqual({line.split()[0] for line in shown.splitlines()}, EXPORTS)
 
@@ -121,9 +123,9 @@ class Page(Programs):
         self.check_ran(ROOM.compiled("first-c", self.source), self.expected)
         self.check_ran(ROOM.compiled("first-cpp", self.source, compiling.CPP), self.expected)
 
-    @unittest.skipUnless(shutil.which("pkg-config"), "pkg-config is not there")
+    @unittest.skipUnless(shutil.which("pkg-config"), "pkg-config is not installed")
     def test_as_pkg_config_tells(self):
-        found = {**os.environ, "PKG_CONFIG_PATH": str(library.folder()), "LD_LIBRARY_PATH": str(library.folder())}
+        found = {**os.environ, "PKG_CONFIG_PATH": str(tested.library()), "LD_LIBRARY_PATH": str(tested.library())}
         words = ["pkg-config", "--cflags", "--libs", "mmdb"]
         told = subprocess.run(words, stdout=subprocess.PIPE, text=True, check=True, env=found).stdout.split()
         program = ROOM.path / "first-told"
@@ -132,10 +134,10 @@ class Page(Programs):
 
 
 class Embedding(Programs):
-    """The programs of tests/embedding, which check the calls themselves."""
+    """The programs of tests/support/programs, which check the calls themselves."""
 
     def check_program(self, name):
-        source = compiling.EMBEDDING / f"{name}.c"
+        source = compiling.PROGRAMS / f"{name}.c"
         self.check_counted(ROOM.compiled(name, source, and_with=compiling.COUNTED))
         self.check_counted(ROOM.compiled(f"{name}-sanitized", source, [*compiling.C, *compiling.SANITIZED], compiling.COUNTED))
 

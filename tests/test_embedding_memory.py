@@ -1,5 +1,6 @@
-"""The examples, and the bindings' statements, over a library that counts its memory: whichever of its calls for memory is
-refused, it has given back all that it was given when the program ends."""
+"""The examples, and the bindings' statements, over a library that counts its memory: whichever call for memory fails, everything is freed
+when the program ends.
+"""
 
 import itertools
 import os
@@ -7,10 +8,7 @@ import subprocess
 import sys
 import unittest
 
-import compiling
-import embedding
-import harness
-import sizes
+from support import compiling, embedding, harness, sizes, tested
 
 BINDING = harness.ROOT / "bindings" / "python"
 C = harness.ROOT / "examples" / "c"
@@ -31,6 +29,7 @@ def tearDownModule():
 
 def built(crate, program, *words):
     """The program of a crate, built with the library that counts."""
+    tested.requires("cargo")
     target = ROOM.path / "target"
     how = {**os.environ, "MMDB_LIBRARY": str(ROOM.path), "CARGO_TARGET_DIR": str(target)}
     subprocess.run(["cargo", "build", "--quiet", "--offline", *words], cwd=crate, check=True, env=how)
@@ -52,10 +51,10 @@ class Statements(unittest.TestCase):
         self.assertGreater(min(refused), 0)
 
     def test_in_python(self):
-        self.check(sys.executable, compiling.EMBEDDING / "statements_refused.py")
+        self.check(sys.executable, compiling.PROGRAMS / "statements_refused.py")
 
     def test_in_rust(self):
-        crate = embedding.crate(ROOM.path, "statements_refused", (compiling.EMBEDDING / "statements_refused.rs").read_text())
+        crate = embedding.crate(ROOM.path, "statements_refused", (compiling.PROGRAMS / "statements_refused.rs").read_text())
         self.check(built(crate, "statements_refused"))
 
 

@@ -1,4 +1,8 @@
-"""The binding for Python: its page's programs, its examples, its calls and values, and random streams through it."""
+"""The binding for Python: the programs of its page, its examples, calls and values, and random streams.
+
+What must hold: each test of test_embedding_python*.py passes by ctypes and by the extension; test_embedding_python_extension.py runs
+them again.
+"""
 
 import pathlib
 import random
@@ -8,16 +12,8 @@ import tempfile
 import threading
 import unittest
 
-import binding
-import embedding
-import hand
-import harness
-import library
-import model
-import sizes
-import streams
-import test_model
-from binding import mmdb
+from support import binding, embedding, hand, harness, model, random_streams, sizes, streams, tested
+from support.binding import mmdb
 
 SEED = 20260901
 STREAMS = sizes.size(300, 10_000)
@@ -74,6 +70,7 @@ class Programs(unittest.TestCase):
         self.check(["-c", "import mmdb\ndb = mmdb.Database()\nprint(db.execute('tables'))"], "\n")
 
     def test_no_library(self):
+        tested.requires("cc")
         with tempfile.TemporaryDirectory() as folder:
             ended = binding.run_python("-c", "import mmdb", MMDB_LIBRARY=folder)
             self.assertRegex(ended.err, "ImportError: mmdb: .*libmmdb.so is missing: .*MMDB_LIBRARY")
@@ -83,7 +80,7 @@ class Programs(unittest.TestCase):
 
     def test_a_library_that_is_damaged(self):
         """To load a part of one would end the process by a signal."""
-        whole = (library.folder() / "libmmdb.so").read_bytes()
+        whole = (tested.library() / "libmmdb.so").read_bytes()
         with tempfile.TemporaryDirectory() as folder:
             broken = pathlib.Path(folder) / "libmmdb.so"
             for content in (b"", b"junk", b"junk" * 100, *(whole[:size] for size in (63, 64, 4096, len(whole) // 2, len(whole) - 1))):
@@ -99,7 +96,7 @@ class Programs(unittest.TestCase):
     def test_a_library_beside_the_package(self):
         with tempfile.TemporaryDirectory() as folder:
             shutil.copytree(binding.FOLDER / "mmdb", f"{folder}/mmdb", ignore=shutil.ignore_patterns("*.so"))
-            shutil.copy(library.folder() / "libmmdb.so", folder)
+            shutil.copy(tested.library() / "libmmdb.so", folder)
             program = "import mmdb; print(mmdb.__path__, mmdb.Database().execute('tables'))"
             ended = binding.run_python("-c", program, MMDB_LIBRARY="", PYTHONPATH=folder)
         self.assertEqual((ended.err, ended.out), ("", f"['{folder}/mmdb'] \n"))
@@ -609,7 +606,7 @@ class Streams(unittest.TestCase):
     def test_random_streams_under_each_policy(self):
         draw = random.Random(SEED)
         for number in range(STREAMS):
-            stream, _ = test_model.stream_and_answers(draw)
+            stream, _ = random_streams.stream_and_answers(draw)
             tables = model.Tables(model.Limits())
             units = list(model.units_of(streams.whole_units_of(stream)))
             answers = [tables.answer(*unit) for unit in units]

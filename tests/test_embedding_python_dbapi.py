@@ -6,9 +6,8 @@ import pickle
 import re
 import unittest
 
-import binding
-import model
-from binding import mmdb
+from support import model
+from support.binding import mmdb
 
 # By the class of PEP 249, the numbers of the refusals that are of it.
 NUMBERS = {

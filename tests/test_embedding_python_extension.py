@@ -1,4 +1,7 @@
-"""The binding for Python by its extension: the tests that others do by ctypes, in processes of their own."""
+"""The binding for Python by its extension: all tests of test_embedding_python*.py again, in processes of their own.
+
+What must hold: ALONE lists the files that select the extension themselves.
+"""
 
 import os
 import re
@@ -6,8 +9,7 @@ import subprocess
 import sys
 import unittest
 
-import building_package
-import harness
+from support import building_package, harness, tested
 
 # (those of the package and of this extension find the extension by themselves)
 ALONE = ("test_embedding_python_extension", "test_embedding_python_package")
@@ -50,5 +52,6 @@ class Extension(unittest.TestCase):
     def test_it_shows_nothing_of_the_library(self):
         """What the library calls its functions is no matter of others in the process, nor theirs of it."""
         extension = building_package.extended() / "mmdb" / building_package.EXTENSION
+        tested.requires("nm")
         told = subprocess.run(["nm", "-D", "--defined-only", extension], capture_output=True, text=True, check=True).stdout
         self.assertEqual(re.findall(r" [A-Z] (\w+)", told), ["PyInit__mmdb"])

@@ -1,4 +1,4 @@
-"""The binding for Python: the package that pip builds and installs without a network, and its types."""
+"""The binding for Python as a package: pip builds and installs it without a network, and mypy checks its types."""
 
 import functools
 import os
@@ -8,12 +8,8 @@ import sys
 import tempfile
 import unittest
 
-import binding
-import building_package
-import embedding
-import harness
-import library
-from building_package import ran
+from support import binding, building_package, embedding, harness, tested
+from support.building_package import ran
 
 # (the package wants pip 20.0, and these tests one that installs into another Python)
 ASKS = "import pip; assert tuple(map(int, pip.__version__.split('.')[:2])) >= (22, 3)"
@@ -69,7 +65,7 @@ class Builds(unittest.TestCase):
         sources = {path.name for path in (self.sources / "mmdb").iterdir()} - building_package.SOURCES
         self.assertEqual(names, sources | building_package.BROUGHT | extension)
         self.assertTrue({"py.typed", "_mmdb.pyi"} < names)
-        self.assertEqual((package / "libmmdb.so").read_bytes(), (library.folder() / "libmmdb.so").read_bytes())
+        self.assertEqual((package / "libmmdb.so").read_bytes(), (tested.library() / "libmmdb.so").read_bytes())
         (about,) = (self.room / "installed").glob("mmdb-*.dist-info")
         self.assertEqual(about.name, f"mmdb-{harness.VERSION}.dist-info")
         self.assertIn(f"\nTag: {TAGS[has_extension]}\n", (about / "WHEEL").read_text())
@@ -125,7 +121,9 @@ class Builds(unittest.TestCase):
         for name in ("one", "other"):
             (self.room / name).mkdir()
             ended = building_package.wheel(self.sources, self.room / name)
-            self.assertEqual((ended.returncode, ended.stderr), (0, ""))
+            self.assertEqual(ended.returncode, 0, ended.stderr)
+            if building_package.has_extension():
+                self.assertEqual(ended.stderr, "")
         ((one,), (other,)) = [list((self.room / name).iterdir()) for name in ("one", "other")]
         self.assertEqual((one.name, one.read_bytes()), (other.name, other.read_bytes()))
 

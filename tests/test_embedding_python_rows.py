@@ -4,7 +4,7 @@ import copy
 import json
 import pickle
 
-import binding
+from support import binding
 
 
 class Names(binding.WithDatabase):

@@ -11,11 +11,8 @@ import threading
 import unittest
 import weakref
 
-import binding
-import drawn
-import embedding
-import model
-from binding import mmdb
+from support import binding, drawn, embedding, model
+from support.binding import mmdb
 
 SEED = 20261126
 STATEMENTS = 10_000
@@ -329,6 +326,7 @@ class Kept(binding.WithDatabase):
                 self.refused(35, statement.execute, str(key) if type(key) is int else 1)
             self.db.answer("drop table t")
             self.refused(30, statement.execute, key)
+            self.refused(30, lambda: statement.names)
             self.refused(30, self.db.select, select, key)
             self.refused(30, self.db.change, insert, *row)
         self.db.execute("table t (id int)")

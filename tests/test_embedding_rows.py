@@ -1,17 +1,16 @@
-"""The rows through the library, those under limits of their own among them: request by request, fed in pieces, in both ways
-by turns, and with each of the library's calls for memory refused in turn."""
+"""The rows of tests/rows through the library, those with limits of their own too: request by request, fed in pieces, both ways alternating,
+and with each of the library's calls for memory refused in turn.
+"""
 
 import itertools
 import re
 import unittest
 
-import compiling
-import harness
-import model
-import streams
-from calls import asked, call, line_by_line
+from support import compiling, harness, model, sizes, streams
+from support.calls import asked, call, line_by_line
 
 PIECES = (1, 7, 4_096)
+PIECES_ASKED_AGAIN = sizes.size(PIECES[1:], PIECES[1:], PIECES[2:])
 AGAIN = re.compile(rb"(\d+) asked again\n")
 ROOM = compiling.Room()
 
@@ -47,7 +46,7 @@ class Answered(unittest.TestCase):
 
     @classmethod
     def setUpClass(cls):
-        source = compiling.EMBEDDING / "requests.c"
+        source = compiling.PROGRAMS / "requests.c"
         cls.program = ROOM.compiled("requests", source, [*compiling.C, *compiling.SANITIZED])
 
     def check(self, words, calls, answers):
@@ -71,7 +70,7 @@ class AskedAgain(unittest.TestCase):
     @classmethod
     def setUpClass(cls):
         compiling.counting_library(ROOM.path)
-        source = compiling.EMBEDDING / "again.c"
+        source = compiling.PROGRAMS / "again.c"
         cls.program = ROOM.linked("again", source, compiling.C, [ROOM.path / "libmmdb.a"])
 
     def check(self, words, calls, answers):
@@ -85,7 +84,7 @@ class AskedAgain(unittest.TestCase):
     def check_row(self, words, stream, answers):
         with self.subTest("line by line"):
             self.check(words, line_by_line(stream), answers)
-        for size in PIECES[1:]:
+        for size in PIECES_ASKED_AGAIN:
             with self.subTest(pieces_of=size):
                 self.check(words, fed_by_request(stream, size), answers)
 
@@ -99,8 +98,13 @@ def row(words, stream, answers):
     return lambda test: test.check_row(words, *streams.whole(stream, answers))
 
 
-for test in (Answered, AskedAgain):
+def add_rows(tests):
+    """Adds a test for each row to a class. (A loop over classes would leave a second name for one, whose tests then run twice.)"""
     for name, stream, answers in harness.rows():
-        setattr(test, f"test_{name}", row([], stream, answers))
+        setattr(tests, f"test_{name}", row([], stream, answers))
     for name, limits, stream, answers in harness.limited_rows():
-        setattr(test, f"test_limited_{name}", row([str(limits.rows), str(limits.block)], stream, answers))
+        setattr(tests, f"test_limited_{name}", row([str(limits.rows), str(limits.block)], stream, answers))
+
+
+add_rows(Answered)
+add_rows(AskedAgain)

@@ -1,4 +1,4 @@
-"""The binding for Rust: its crate's own tests, its page's programs, its example and package. cargo has to be there."""
+"""The binding for Rust: its crate's own tests, the programs of its page, its example and its package. It needs cargo, and no network."""
 
 import os
 import pathlib
@@ -7,12 +7,7 @@ import subprocess
 import tempfile
 import unittest
 
-import compiling
-import drawn
-import embedding
-import harness
-import library
-import sizes
+from support import compiling, drawn, embedding, harness, sizes, tested
 
 CRATE = harness.ROOT / "bindings" / "rust"
 EXAMPLE = harness.ROOT / "examples" / "rust"
@@ -28,12 +23,13 @@ class Cargo(unittest.TestCase):
 
     @classmethod
     def setUpClass(cls):
+        tested.requires("cargo")
         folder = tempfile.TemporaryDirectory()
         cls.addClassCleanup(folder.cleanup)
         cls.folder = pathlib.Path(folder.name)
 
     def cargo(self, at, *words, **variables):
-        where = {"MMDB_LIBRARY": str(library.folder().resolve()), "CARGO_TARGET_DIR": str(self.folder / "target")}
+        where = {"MMDB_LIBRARY": str(tested.library().resolve()), "CARGO_TARGET_DIR": str(self.folder / "target")}
         ran = subprocess.run(
             ["cargo", *words, "--offline"],
             cwd=at,
@@ -80,7 +76,7 @@ class Cargo(unittest.TestCase):
 
     def test_random_streams(self):
         """Their statements have the answers of the model, whether they are kept by their lines or prepared."""
-        crate = embedding.crate(self.folder, "by_statements", (compiling.EMBEDDING / "by_statements.rs").read_text())
+        crate = embedding.crate(self.folder, "by_statements", (compiling.PROGRAMS / "by_statements.rs").read_text())
         built = self.cargo(crate, "build")
         self.assertEqual(built.status, 0, built.err)
         self.assertNotIn("warning", built.err)

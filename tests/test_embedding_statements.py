@@ -1,13 +1,11 @@
-"""The rows and random streams through statements of the library: what is bound to the places of a line has the answer that
-the line with these values has."""
+"""The rows and random streams as statements of the library: a line with values bound to its places has the same answer as the line with
+these values in it.
+"""
 
 import unittest
 
-import compiling
-import drawn
-import harness
-import streams
-from calls import line_by_line
+from support import compiling, drawn, harness, streams
+from support.calls import line_by_line
 
 SEED = 20261127
 ROOM = compiling.Room()
@@ -25,7 +23,7 @@ class Bound(unittest.TestCase):
     @classmethod
     def setUpClass(cls):
         words = [*compiling.C, *compiling.SANITIZED, f"-DVALUES_STAY={cls.VALUES_STAY}"]
-        cls.program = ROOM.compiled(cls.__name__, compiling.EMBEDDING / "by_statements.c", words)
+        cls.program = ROOM.compiled(cls.__name__, compiling.PROGRAMS / "by_statements.c", words)
 
     def check_row(self, words, stream, answers):
         ended = compiling.ran([self.program, *words], b"".join(line_by_line(stream)))
@@ -43,7 +41,7 @@ class Drawn(unittest.TestCase):
 
     def test_random_streams(self):
         words = [*compiling.C, *compiling.SANITIZED, "-DVALUES_STAY=0"]
-        drawn.check(self, ROOM.compiled("drawn", compiling.EMBEDDING / "by_statements.c", words), SEED)
+        drawn.check(self, ROOM.compiled("drawn", compiling.PROGRAMS / "by_statements.c", words), SEED)
 
 
 def row(words, stream, answers):

@@ -1,5 +1,6 @@
-"""The library with four threads and with many, each with a handle of its own, from C and from Rust, under sanitizers; in large
-sizes (`tests/fire embedding_threads`) from C also under valgrind's drd, which sees each read and write of the library itself."""
+"""The library in four threads and in 64, each with a handle of its own, from C and from Rust, under sanitizers. In large sizes
+(`tests/fire embedding_threads`) it also runs from C under valgrind's drd, which sees every read and write of the library.
+"""
 
 import os
 import pathlib
@@ -7,17 +8,14 @@ import shutil
 import subprocess
 import unittest
 
-import compiling
-import harness
-import library
-import sizes
+from support import compiling, harness, sizes, tested
 
 THREADS = (4, 64)
 ROWS = sizes.size(100, 2_000)
 # Under drd all is slower by far, so that there are fewer rows.
 ROWS_WATCHED = 20
 TARGET = "x86_64-unknown-linux-gnu"
-SOURCE = compiling.EMBEDDING / "threads.c"
+SOURCE = compiling.PROGRAMS / "threads.c"
 ROOM = compiling.Room()
 
 
@@ -43,7 +41,7 @@ class Threads(unittest.TestCase):
     def test_under_the_sanitizers_of_addresses(self):
         self.check("threads-address", ROWS, compiling.SANITIZED)
 
-    @unittest.skipUnless(sizes.is_large and shutil.which("valgrind"), "drd is run in large sizes, where valgrind is there")
+    @unittest.skipUnless(sizes.is_large and shutil.which("valgrind"), "in large sizes only, with valgrind")
     def test_under_drd(self):
         words = ["valgrind", "--tool=drd", "--quiet", "--error-exitcode=9", "--check-stack-var=yes"]
         self.check("threads-drd", ROWS_WATCHED, before=words)
@@ -60,15 +58,16 @@ class InRust(unittest.TestCase):
 
     @classmethod
     def setUpClass(cls):
+        tested.requires("cargo")
         cls.folder = pathlib.Path(ROOM.path) / "in-rust"
         (cls.folder / "src").mkdir(parents=True)
         crate = harness.ROOT / "bindings" / "rust"
         head = '[package]\nname = "threads"\nversion = "0.1.0"\nedition = "2021"\n\n[dependencies]\n'
         (cls.folder / "Cargo.toml").write_text(f'{head}mmdb = {{ path = "{crate}" }}\n')
-        shutil.copy(compiling.EMBEDDING / "threads.rs", cls.folder / "src" / "main.rs")
+        shutil.copy(compiling.PROGRAMS / "threads.rs", cls.folder / "src" / "main.rs")
 
     def check(self, rows, target, words=(), **variables):
-        how = {**os.environ, "MMDB_LIBRARY": str(library.folder().resolve()), **variables}
+        how = {**os.environ, "MMDB_LIBRARY": str(tested.library().resolve()), **variables}
         words = ["cargo", *words, "build", "--quiet", "--offline", "--target", TARGET, "--target-dir", target]
         subprocess.run(words, cwd=self.folder, check=True, env=how)
         for threads in THREADS:
@@ -79,7 +78,7 @@ class InRust(unittest.TestCase):
     def test_each_has_its_own_answers(self):
         self.check(ROWS, "plain")
 
-    @unittest.skipUnless(sizes.is_large and has_nightly(), "the sanitizer is run in large sizes, where Rust's nightly is there")
+    @unittest.skipUnless(sizes.is_large and has_nightly(), "in large sizes only, with a nightly Rust")
     def test_under_the_sanitizer_of_threads(self):
         sanitized = "-Zsanitizer=thread -Cunsafe-allow-abi-mismatch=sanitizer"
         self.check(ROWS, "sanitized", ["+nightly"], RUSTFLAGS=sanitized)

@@ -1,5 +1,4 @@
-"""Ends of the program that fail: files that are full, readers that leave, and reads that find a fault. In large sizes they fail
-at each byte of each row, several at once."""
+"""Standard streams that fail: full files, readers that leave, and reads that fail. In large sizes they fail at each byte of each row."""
 
 import bisect
 import concurrent.futures
@@ -12,10 +11,7 @@ import subprocess
 import tempfile
 import unittest
 
-import harness
-import model
-import sizes
-import streams
+from support import harness, model, sizes, streams
 
 LINES = (harness.ROWS / "departments-and-employees.in").read_bytes() + b"tables\n"
 BLOCKS = (harness.ROWS / "load-of-references.in").read_bytes()
@@ -84,7 +80,7 @@ class FullFiles(unittest.TestCase):
     def test_full_files_of_dumps(self):
         self.check(BLOCKS)
 
-    @unittest.skipUnless(sizes.is_large, "some 88,000 runs, in large sizes")
+    @unittest.skipUnless(sizes.is_large, "some 88,000 runs: in large sizes only")
     def test_full_files_of_each_row(self):
         for name, stream, _ in harness.rows():
             with self.subTest(row=name):
@@ -137,7 +133,7 @@ class FaultsOfReads(unittest.TestCase):
             with self.subTest(length=length):
                 self.assertEqual(ran, (*READ_FAULT, answers[bisect.bisect_right(ends, length)]))
 
-    @unittest.skipUnless(sizes.is_large, "some 200,000 runs, in large sizes")
+    @unittest.skipUnless(sizes.is_large, "some 200,000 runs: in large sizes only")
     def test_a_read_fails_behind_each_row(self):
         for name, stream, _ in harness.rows():
             with self.subTest(row=name):

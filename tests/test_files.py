@@ -1,4 +1,4 @@
-"""Files as sources of the stream: their order, loads of CSV files, what can't be read, and where a run stops."""
+"""Files as the source of the stream: their order, loads of CSV files, files that can't be read, and where a run stops."""
 
 import os
 import pathlib
@@ -6,8 +6,7 @@ import random
 import tempfile
 import unittest
 
-import harness
-import test_model
+from support import harness, random_streams
 
 TABLE = b"table t (id int)\ninsert t (1)\n"
 READ = b"insert t (1)\nselect * from t\n"
@@ -118,9 +117,9 @@ class Lines(Files):
         self.check(["--explain", "table", "cut"], 0, b"ok\nok 1\nerror 13 block cut short\n", err)
 
     def test_rows_and_random_streams_cut_into_files(self):
-        draw = random.Random(test_model.SEED)
+        draw = random.Random(random_streams.SEED)
         streams = [(stream, answers) for _, stream, answers in harness.rows()]
-        streams += [test_model.stream_and_answers(draw) for _ in range(20)]
+        streams += [random_streams.stream_and_answers(draw) for _ in range(20)]
         for number, (stream, answers) in enumerate(streams):
             ends = [at for at in range(len(stream)) if stream[at : at + 1] == b"\n"]
             cuts = sorted(draw.sample(ends, min(len(ends), 3)))

@@ -1,13 +1,16 @@
-"""What the stores and the indexes hold of memory, counted from outside: all is given back in the end, and what isn't in
-use where a test releases it. The crates' tests whose names end in `_are_given_back` name the moments."""
+"""The memory that stores and indexes hold, counted from outside: a store that is dropped holds nothing, and neither does a reserve that is
+released.
+
+What must hold: the crates' tests whose names end in `_are_given_back`, `_are_forgotten` and `_go_with_their_partition` print the moments
+that are compared here, in lines `held: MOMENT`.
+"""
 
 import os
 import re
 import subprocess
 import unittest
 
-import harness
-import preloading
+from support import harness, preloading, tested
 
 MOMENT = re.compile(r"\[held (\d+), most \d+\]\nheld: (.+)")
 BOOKS = 1_000
@@ -29,6 +32,7 @@ def moments_of(counter, binary, name):
     return {moment: int(held) for held, moment in MOMENT.findall(ran.stdout)}
 
 
+@tested.requires_toolchain
 class GivenBack(unittest.TestCase):
     """A store of books under an ordered and a hash index fills with 1,000 books and empties, twice."""
 
@@ -69,6 +73,7 @@ class GivenBack(unittest.TestCase):
         self.assertLess(self.held["hash_nodes_are_given_back"]["emptied"], plain + BOOKS * ENTRY)
 
 
+@tested.requires_toolchain
 class Forgotten(unittest.TestCase):
     """A store of one partition keeps counts, forgets them, and gives its partition back."""
 
@@ -94,6 +99,7 @@ class Forgotten(unittest.TestCase):
             self.assertEqual(held["released"], held["nothing"])
 
 
+@tested.requires_toolchain
 class OfTheMiddle(unittest.TestCase):
     """A store of three partitions gives back the one in the middle, and fills it again, and so does one that keeps counts."""
 

@@ -1,8 +1,6 @@
-"""Commands on four times the rows take some four times as long, whatever values the indexes hold: the patterns of growth.py are
-counted in instructions, which valgrind does, and in large sizes (`tests/fire growth`) in a processor's time. There some are
-held against times of their own as well, the expiry of sessions against SQLite's, and the memory of a row against what it may be.
-
-The environment says in large sizes how many rows the smaller tables have: MMDB_ROWS.
+"""Commands on four times the rows cost about four times as much, whatever values the indexes hold. Valgrind counts the instructions of the
+patterns of support/growth.py; in large sizes (`tests/fire growth`) their processor time is measured. There some patterns have absolute
+limits too, expiry is compared with SQLite's, and the memory of a row has a limit. MMDB_ROWS sets the rows of the smaller tables.
 """
 
 import math
@@ -12,11 +10,9 @@ import sqlite3
 import time
 import unittest
 
-import growth
-import holding
-import sizes
+from support import growth, holding, sizes
 
-FEW = sizes.said("MMDB_ROWS", sizes.size(1_000, 100_000))
+FEW = sizes.said("MMDB_ROWS", sizes.size(1_000, 100_000, 250))
 MANY = 4 * FEW
 # A pattern grows by this power of its rows at most, of times by a greater one, since large tables leave the caches behind; and it
 # takes at most so many times what it takes on differing values.
@@ -52,7 +48,7 @@ def tell(what):
     print(what, flush=True)
 
 
-@unittest.skipUnless(sizes.is_large or shutil.which("valgrind"), "valgrind counts the instructions")
+@unittest.skipUnless(sizes.is_large or shutil.which("valgrind"), "valgrind is not installed")
 class Patterns(unittest.TestCase):
     @classmethod
     def setUpClass(cls):
@@ -84,7 +80,7 @@ class Patterns(unittest.TestCase):
                     self.assertLessEqual(ratio(self.taken[pattern, rows], self.taken[pattern.partner(), rows]), MOST_RATIO)
 
 
-@unittest.skipUnless(sizes.is_large, "it tells times, in large sizes")
+@unittest.skipUnless(sizes.is_large, "times are measured in large sizes only")
 class Times(unittest.TestCase):
     def test_all_rows_of_one_value_go(self):
         (taken,) = METER.seconds(pairs([(growth.Pattern("delete all", "hash", "one", "rising"), MANY)]))
@@ -98,7 +94,7 @@ class Times(unittest.TestCase):
         self.assertLessEqual(equal, MOST_AMONG_EQUALS * differing)
 
 
-@unittest.skipUnless(sizes.is_large, "it tells times, in large sizes")
+@unittest.skipUnless(sizes.is_large, "times are measured in large sizes only")
 class Sessions(unittest.TestCase):
     """Sessions of which half are anonymous, under a hash of the user and a tree of the time: a tenth expires."""
 
@@ -133,7 +129,7 @@ class Sessions(unittest.TestCase):
         self.assertLessEqual(ours, theirs)
 
 
-@unittest.skipUnless(sizes.is_large, "large sizes")
+@unittest.skipUnless(sizes.is_large, "in large sizes only")
 class Memory(unittest.TestCase):
     """A row of four columns has entries in the tree of its key, in a declared tree and in a hash."""
 

@@ -1,16 +1,18 @@
-"""How often a session that begins over a catalog asks for memory, however many rows are there. The crates' tests whose
-names end in `_with_counted_growths` tell when the catalog stands, and when the session does."""
+"""How often a session that begins over a catalog allocates, however many rows the catalog has.
+
+What must hold: the crates' tests whose names end in `_with_counted_growths` print when the catalog and when the session is complete.
+"""
 
 import bisect
 import unittest
 
-import harness
-import refusing
+from support import harness, refusing, tested
 
 CATALOG_STANDS = b"the catalog stands\n"
 SESSION_STANDS = b"the session stands\n"
 
 
+@tested.requires_toolchain
 class Growths(unittest.TestCase):
     """A session over a table of 1,000 rows meets as many growths as one over a table of none: it copies no row."""
 

@@ -1,4 +1,7 @@
-"""docs/guide.md and the session of the README: they print what they say, and the limits are those of the language."""
+"""docs/guide.md and the session of the README: the snippets print what the pages say, and the limits are those of the language.
+
+What must hold: each limit of the guide's last table has an entry in LINES or in ANSWERS.
+"""
 
 import os
 import re
@@ -7,13 +10,9 @@ import sys
 import tempfile
 import unittest
 
-import binding
-import compiling
-import embedding
-import harness
-import library
 import test_embedding_rust
-from binding import mmdb
+from support import binding, compiling, embedding, harness, tested
+from support.binding import mmdb
 
 GUIDE = (harness.ROOT / "docs" / "guide.md").read_text()
 LANGUAGE = (harness.ROOT / "docs" / "language.md").read_text()
@@ -68,12 +67,13 @@ class Snippets(unittest.TestCase):
             self.check_printed([ROOM.compiled("fixture", ROOM.path / "fixture.c")], printed)
 
     def test_rust(self):
+        tested.requires("cargo")
         ((_, program, printed),) = snippets("rust")
         crate = ROOM.path / "crate"
         for name, text in (("Cargo.toml", embedding.MANIFEST.format(name="fixture")), ("src/lib.rs", ""), ("tests/fixture.rs", program)):
             (crate / name).parent.mkdir(parents=True, exist_ok=True)
             (crate / name).write_text(text)
-        where = {"MMDB_LIBRARY": str(library.folder().resolve()), "CARGO_TARGET_DIR": str(ROOM.path / "target")}
+        where = {"MMDB_LIBRARY": str(tested.library().resolve()), "CARGO_TARGET_DIR": str(ROOM.path / "target")}
         words = ["cargo", "test", "--offline", "--test", "fixture"]
         how = {"cwd": crate, "env": {**os.environ, **where}, "timeout": test_embedding_rust.SECONDS, "check": False}
         ran = subprocess.run(words, capture_output=True, text=True, **how)

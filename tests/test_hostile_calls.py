@@ -1,12 +1,14 @@
-"""The library's calls by a hostile caller, drawn by a seed, under sanitizers; in large sizes (`tests/fire hostile_calls`) also
-under valgrind's memcheck, which sees each read and write of the library itself. MMDB_SEED and MMDB_CALLS say which and how many."""
+"""Calls of the library by a hostile caller, drawn by a seed, under sanitizers. In large sizes (`tests/fire hostile_calls`) they also run
+under valgrind's memcheck, which sees every read and write of the library. MMDB_SEED and MMDB_CALLS select them.
+
+What must hold: programs/fuzz.c makes every call of the header.
+"""
 
 import re
 import shutil
 import unittest
 
-import compiling
-import sizes
+from support import compiling, sizes
 
 SEED = sizes.said("MMDB_SEED", 20261128)
 CALLS = sizes.said("MMDB_CALLS", sizes.size(60_000, 5_000_000))
@@ -26,7 +28,7 @@ class HostileCalls(unittest.TestCase):
     """Each call ends as the header tells, and nothing is read or written that isn't the library's or lent to it."""
 
     def check(self, calls, words, before=()):
-        program = ROOM.compiled("fuzz", compiling.EMBEDDING / "fuzz.c", [*compiling.C, *words])
+        program = ROOM.compiled("fuzz", compiling.PROGRAMS / "fuzz.c", [*compiling.C, *words])
         ended = compiling.ran([*before, program, str(SEED), str(calls)])
         self.assertEqual((ended.status, ended.err), (0, b""))
         counts = {name.decode(): int(count) for name, count in COUNTED.findall(ended.out)}
@@ -39,7 +41,7 @@ class HostileCalls(unittest.TestCase):
         counts = self.check(CALLS, compiling.SANITIZED)
         self.assertEqual({name for name, count in counts.items() if count == 0}, NEVER)
 
-    @unittest.skipUnless(sizes.is_large and shutil.which("valgrind"), "memcheck is run in large sizes, where valgrind is there")
+    @unittest.skipUnless(sizes.is_large and shutil.which("valgrind"), "in large sizes only, with valgrind")
     def test_under_memcheck(self):
         words = ["valgrind", "--quiet", "--error-exitcode=9", "--leak-check=full"]
         self.check(WATCHED, ["-O1"], words)

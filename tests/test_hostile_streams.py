@@ -1,14 +1,12 @@
-"""Streams that nobody means: random bytes, words in any order, files that are no commands, streams cut after each byte, and
-blocks of junk or of more bytes than there are."""
+"""Streams that nobody intends: random bytes, words in any order, files that are no commands, streams that are cut after each byte, blocks
+of junk, and blocks that are longer than the stream.
+"""
 
 import random
 import resource
 import unittest
 
-import harness
-import model
-import refusing
-import sizes
+from support import harness, model, refusing, sizes
 
 SEED = 19860526
 STREAMS = sizes.size(40, 5_000)

@@ -1,4 +1,7 @@
-"""./install, ./install --remove and scripts/make-package, from a copy whose release is of what was built here."""
+"""./install, ./install --remove and scripts/make-package, from a copy whose release is the tested program and library.
+
+What must hold: FILES lists what scripts/installed does, in the form that ./install writes.
+"""
 
 import functools
 import os
@@ -11,10 +14,7 @@ import sys
 import tempfile
 import unittest
 
-import compiling
-import embedding
-import harness
-import library
+from support import compiling, embedding, harness, tested
 
 # The package for Python, as it stands in the repository.
 MODULES = [path.name for path in (harness.ROOT / "bindings" / "python" / "mmdb").iterdir() if path.suffix in (".py", ".pyi", ".typed")]
@@ -81,14 +81,15 @@ def model_copy():
     top = pathlib.Path(ROOM.name)
     top.chmod(0o755)
     (top / "release").mkdir()
-    for name in ("install", "README.md", "CHANGELOG.md", "LICENSE-MIT", "LICENSE-APACHE", "crates.txt", "release/THIRD-PARTY"):
+    for name in ("install", "README.md", "CHANGELOG.md", "LICENSE-MIT", "LICENSE-APACHE", "release/THIRD-PARTY"):
         shutil.copy(harness.ROOT / name, top / name)
     for name in ("scripts", "include", "docs", "bindings/python", "shell"):
         shutil.copytree(harness.ROOT / name, top / name)
     (top / "crates").symlink_to(harness.ROOT / "crates")
+    (top / "crates.txt").write_text(harness.list_of_crates("mmdb", "mmdb_c"))
     shutil.copy(harness.PROGRAM, top / "release")
     for name in ("libmmdb.a", "libmmdb.so", "libmmdb.so.0", "mmdb.h", "mmdb.pc"):
-        shutil.copy(library.folder() / name, top / "release")
+        shutil.copy(tested.library() / name, top / "release")
     note(top)
     return top
 
@@ -134,7 +135,7 @@ class Places(Installs):
         self.assertEqual(below(self.prefix), named(FILES))
         self.assertEqual((self.prefix / "bin" / "mmdb").read_bytes(), harness.PROGRAM.read_bytes())
         for name in ("libmmdb.so", f"libmmdb.so.{MAJOR}", f"libmmdb.so.{harness.VERSION}"):
-            self.assertEqual((self.prefix / "lib" / name).read_bytes(), (library.folder() / "libmmdb.so").read_bytes())
+            self.assertEqual((self.prefix / "lib" / name).read_bytes(), (tested.library() / "libmmdb.so").read_bytes())
         ran = self.ran("--remove", self.prefix)
         self.assertEqual(ran.returncode, 0, ran.stderr)
         self.assertFalse(self.prefix.exists())
@@ -233,7 +234,7 @@ class Uses(Installs):
         told = self.said_by(self.room / "env" / "bin" / "python3", "-c", "import mmdb; print(mmdb.__file__)")
         self.assertEqual(told, f"{modules}/mmdb/__init__.py\n")
 
-    @unittest.skipUnless(shutil.which("pkg-config"), "pkg-config is not there")
+    @unittest.skipUnless(shutil.which("pkg-config"), "pkg-config is not installed")
     def test_c_programs_are_built_by_pkg_config(self):
         page = (harness.ROOT / "docs" / "c.md").read_text()
         program, expected = re.search(r"```c\n(.*?)```.*?```text\n(.*?)```", page, re.DOTALL).groups()
@@ -251,7 +252,7 @@ class Uses(Installs):
         self.assertEqual(self.said_by("pkg-config", "--variable=prefix", "mmdb").strip(), str(self.prefix))
 
 
-@unittest.skipUnless(shutil.which("dpkg-deb"), "dpkg-deb is not there")
+@unittest.skipUnless(shutil.which("dpkg-deb"), "dpkg-deb is not installed")
 class Package(Installs):
     """The package for Debian."""
 
@@ -279,7 +280,7 @@ class Package(Installs):
         self.assertEqual((raw / "DEBIAN" / "prerm").stat().st_mode & 0o777, 0o755)
         self.assertEqual((raw / "usr" / "bin" / "mmdb").read_bytes(), harness.PROGRAM.read_bytes())
 
-    @unittest.skipUnless(shutil.which("lintian"), "lintian is not there")
+    @unittest.skipUnless(shutil.which("lintian"), "lintian is not installed")
     def test_lintian_finds_no_error(self):
         words = ["lintian", "--allow-root", "--fail-on=error", self.made("made")]
         ran = subprocess.run(words, stdout=subprocess.PIPE, stderr=subprocess.STDOUT, text=True, check=False)

@@ -1,19 +1,14 @@
-"""What a session keeps of memory for later, counted from outside: the room of its largest answer, and nothing of a block.
-A text that has become short again keeps no block of its own, and a wide row takes no more a column than a narrow one.
-A dump that is given up takes little more than its limit while it is made. A table that has shrunk keeps few nodes of what
-it grew to, and one that was emptied few slots."""
+"""The memory that a session keeps for later, counted from outside: space for its largest answer, and nothing of a block. A text that is
+short again keeps no block. A column of a wide row takes no more than one of a narrow row. A dump that is abandoned takes little more
+than its limit. A table that shrank keeps few nodes, and one that is empty few slots.
+"""
 
 import os
 import random
 import re
 import unittest
 
-import compiling
-import harness
-import model
-import preloading
-import sizes
-import texts
+from support import compiling, harness, model, preloading, sizes, texts
 
 ROWS = 500
 HELD = re.compile(rb"\n\[held (\d+), most (\d+)\]\n")
@@ -164,7 +159,7 @@ class GivenUp(Counted):
     LIMIT = 8_192
 
     def test_a_dump_that_is_given_up_takes_little_more_than_its_limit(self):
-        program = ROOM.compiled("requests", compiling.EMBEDDING / "requests.c")
+        program = ROOM.compiled("requests", compiling.PROGRAMS / "requests.c")
         stream = FRONT + INSERTS + b"dump t\n" + MARK
         limits = model.Limits(block=self.LIMIT)
         calls = b"".join(b"command %d\n%s" % (len(line), line) for line in stream.splitlines())

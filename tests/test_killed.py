@@ -1,7 +1,6 @@
-"""A shell and a program that are killed at any time: each file that they wrote is whole, and nothing else is there.
+"""A shell and a program that are killed at any moment: each file that they wrote is whole, and no other file is left.
 
-In the moment in which a file takes the place of another, it has a second name. It is whole then, so what is killed just
-there leaves a whole file more.
+While a file replaces another one, it has a second name. Then it is whole, so a kill at that moment leaves one whole file more.
 """
 
 import os
@@ -15,11 +14,7 @@ import time
 import unittest
 from unittest import mock
 
-import harness
-import library
-import model
-import shell_modules
-import sizes
+from support import harness, model, shell_modules, sizes, tested
 
 from mmdb_shell import files
 
@@ -78,7 +73,7 @@ class Killed(unittest.TestCase):
     def kill(self, words, stream, ready, count):
         """Begins a process over a stream, waits for what it writes once it is ready, for so many files and then a while, and
         kills it."""
-        where = {**os.environ, "MMDB_LIBRARY": str(library.folder()), "PYTHONDONTWRITEBYTECODE": "1"}
+        where = {**os.environ, "MMDB_LIBRARY": str(tested.library()), "PYTHONDONTWRITEBYTECODE": "1"}
         how = {"stdin": subprocess.PIPE, "stdout": subprocess.PIPE, "stderr": subprocess.PIPE, "bufsize": 0}
         with subprocess.Popen(words, cwd=self.room, env=where, **how) as process:
             process.stdin.write(stream)

@@ -1,14 +1,9 @@
-"""The largest lines, tables, blocks and dumps that there can be, and one more of each; and millions of rows in each structure."""
+"""The largest lines, tables, blocks and dumps, each also with one more than allowed, and millions of rows in each structure."""
 
 import resource
 import unittest
 
-import embedded
-import harness
-import model
-import sizes
-import streams
-import texts
+from support import embedded, harness, model, sizes, streams, texts
 
 LIMITS = model.Limits()
 TABLES = 64
@@ -196,7 +191,7 @@ class Blocks(unittest.TestCase):
         loads = [b"load t %d\n" % len(block) + block for block in (empty, quotes)]
         self.check(b"table t (id text)\n" + b"".join(loads), b"ok\nok 0\nerror 62 bad record 1\n")
 
-    @unittest.skipUnless(sizes.is_large, "16,777,216 rows take long, and some gigabytes")
+    @unittest.skipUnless(sizes.is_large, "16,777,216 rows need gigabytes: in large sizes only")
     def test_a_full_table(self):
         keys = [range(at, at + 2**20) for at in range(0, LIMITS.rows, 2**20)]
         blocks = [b"id\n" + b"".join(b"%d\n" % key for key in some) for some in keys]

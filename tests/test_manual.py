@@ -1,4 +1,4 @@
-"""The manual pages: their form, that they tell what the other pages tell, and that their examples do what they say."""
+"""The manual pages: their form, that they agree with the other pages, and that their examples do what they say."""
 
 import os
 import re
@@ -6,9 +6,7 @@ import shutil
 import subprocess
 import unittest
 
-import compiling
-import harness
-import library
+from support import compiling, harness, tested
 
 PROGRAM, LIBRARY, SHELL = (harness.ROOT / "docs" / "man" / name for name in ("mmdb.1", "mmdb.3", "mmdb-shell.1"))
 LANGUAGE = (harness.ROOT / "docs" / "language.md").read_text()
@@ -37,11 +35,11 @@ class Form(unittest.TestCase):
                 ran = subprocess.run([*words, page], capture_output=True, text=True, check=False)
                 self.assertEqual((ran.returncode, ran.stdout, ran.stderr), (0, "", ""))
 
-    @unittest.skipUnless(shutil.which("groff"), "groff is not there")
+    @unittest.skipUnless(shutil.which("groff"), "groff is not installed")
     def test_groff_warns_of_nothing(self):
         self.check("groff", "-ww", "-man", "-t", "-Tutf8", "-z")
 
-    @unittest.skipUnless(shutil.which("mandoc"), "mandoc is not there")
+    @unittest.skipUnless(shutil.which("mandoc"), "mandoc is not installed")
     def test_mandoc_warns_of_nothing(self):
         self.check("mandoc", "-T", "lint")
 
@@ -81,7 +79,7 @@ class Contents(unittest.TestCase):
         self.check_typed(PROGRAM, harness.PROGRAM.parent)
 
     def test_the_example_of_the_shell(self):
-        self.check_typed(SHELL, harness.ROOT / "shell", MMDB_LIBRARY=str(library.folder()), PYTHONDONTWRITEBYTECODE="1")
+        self.check_typed(SHELL, harness.ROOT / "shell", MMDB_LIBRARY=str(tested.library()), PYTHONDONTWRITEBYTECODE="1")
 
     def test_the_example_of_the_library(self):
         program, _ = examples(LIBRARY)

@@ -1,10 +1,10 @@
-"""Very many random streams, judged by plain lists of rows, in one process over the library: each whole under each policy, in
-pieces, and line by line, where each refusal has its number and a reason; and once more by statements, where values are taken
-out of the lines and bound, and rows are read as cells.
+"""Very many random streams in one process over the library, judged by plain lists of rows: whole under each policy, in pieces, line by
+line, where each refusal has its number and a reason, and as statements, whose values are bound and whose rows are read as cells.
 
-In large sizes (`tests/fire many_streams`) the environment can say which streams: MMDB_FIRST is the number of the first,
-MMDB_STREAMS how many, MMDB_SEED the seed, and MMDB_JOBS how many processes judge. A stream is drawn by the seed and its
-number alone. MMDB_KEPT names a file in which is kept how far a run is, so that one that was ended goes on there.
+In large sizes (`tests/fire many_streams`) the environment selects streams: MMDB_FIRST is the number of the first, MMDB_STREAMS how many,
+MMDB_SEED the seed, MMDB_JOBS the number of processes. MMDB_KEPT names a file that keeps the progress, so that a run can go on later.
+
+What must hold: a stream depends on the seed and its number alone.
 """
 
 import collections
@@ -16,18 +16,8 @@ import random
 import time
 import unittest
 
-import covered
-import embedded
-import harness
-import joined
-import model
-import prepared
-import shapes
-import sizes
-import streams
-import test_model
 import test_referee
-import texts
+from support import covered, embedded, harness, joined, model, prepared, random_streams, shapes, sizes, streams, texts
 
 SEED = sizes.said("MMDB_SEED", 20261127)
 FIRST = sizes.said("MMDB_FIRST", 0)
@@ -53,7 +43,7 @@ def drawn(number, draw):
         return joined.stream(draw)
     if number % 5 == 1:
         return texts.stream(draw)
-    stream = test_model.stream_of(draw)
+    stream = random_streams.stream_of(draw)
     return streams.whole_units_of(stream) + test_referee.nulls(draw) if number % 5 == 2 else stream
 
 
@@ -102,7 +92,7 @@ def by_policies(stream):
 
 
 def in_pieces(stream):
-    pieces = test_model.random_pieces(stream.draw, stream.bytes)
+    pieces = random_streams.random_pieces(stream.draw, stream.bytes)
     return f"in {len(pieces)} pieces under {stream.policy}", embedded.answers_to(pieces, stream.policy, stream.limits)
 
 

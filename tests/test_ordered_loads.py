@@ -1,16 +1,15 @@
-"""Loads of large blocks into a large table, whose rows go in by rising keys where all of them come in: in whatever order a
-block has them, the tables are those of rows that go in one after the other, and the least record that is refused is told."""
+"""Loads of large blocks into a large table, whose rows are inserted by rising keys if all of them are accepted. Whatever the order in the
+block, the tables are those of inserts one after another, and the first refused record is the one that is reported.
+"""
 
 import concurrent.futures
 import os
 import random
 import unittest
 
-import harness
-import model
-import refusing
+from support import harness, model, refusing, sizes
 
-HELD = 50_000
+HELD = sizes.size(50_000, 50_000, 15_000)
 ROWS = 3_000
 SEED = 20240229
 MOST = 2**63 - 1

@@ -1,11 +1,11 @@
-"""What the program is as a process: its words, its statuses, its flushes and its bound on memory."""
+"""The program as a process: its words, statuses, flushes, and its bound on memory."""
 
 import os
 import resource
 import subprocess
 import unittest
 
-import harness
+from support import harness
 
 FIRST_PATH = (harness.ROWS / "first-path.in").read_bytes()
 

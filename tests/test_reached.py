@@ -1,8 +1,6 @@
-"""What of the library is reached by random streams and by the rows, in large sizes (`tests/fire reached`): the calls that they
-make are written down, and made again under valgrind, which counts each instruction; and some of them with calls for memory
-refused. What is never reached is told.
-
-The environment says which streams, as for `many_streams`: MMDB_FIRST, MMDB_STREAMS and MMDB_SEED.
+"""Which instructions of the library are reached by random streams and the rows, in large sizes (`tests/fire reached`). The calls of the
+library are recorded, and made again under valgrind, some of them with calls for memory refused. What is never reached is printed.
+MMDB_FIRST, MMDB_STREAMS and MMDB_SEED select streams, as for `many_streams`.
 """
 
 import pathlib
@@ -10,14 +8,8 @@ import random
 import shutil
 import unittest
 
-import compiling
-import harness
-import model
-import reached
-import shapes
-import sizes
-import tape
 import test_many_streams
+from support import compiling, harness, model, reached, shapes, sizes, tape
 
 # Of how many streams calls for memory are refused, which, and how many commands these have at most.
 REFUSED_STREAMS = 10
@@ -39,11 +31,11 @@ def tearDownModule():
     ROOM.close()
 
 
-@unittest.skipUnless(sizes.is_large and shutil.which("valgrind") and shutil.which("objdump"), "large sizes, valgrind and objdump")
+@unittest.skipUnless(sizes.is_large and shutil.which("valgrind") and shutil.which("objdump"), "in large sizes only, with valgrind and objdump")
 class Reached(unittest.TestCase):
     def test_what_the_streams_reach(self):
-        words = [*compiling.C, "-fno-builtin", harness.TESTS / "refuse_nth.c"]
-        program = ROOM.sharing("tape", compiling.EMBEDDING / "tape.c", words)
+        words = [*compiling.C, "-fno-builtin", harness.SUPPORT / "refuse_nth.c"]
+        program = ROOM.sharing("tape", compiling.PROGRAMS / "tape.c", words)
         calls = self.recorded()
         counts = reached.watched(program, calls, ROOM.path / "counts")
         found = [reached.Function(name, addresses, counts) for name, addresses in reached.functions().items()]

@@ -1,17 +1,11 @@
-"""Reasons: what `--explain` tells on standard error, that the answers stay as they are, and what the library tells."""
+"""Reasons: what `--explain` prints on standard error, that answers stay the same with it, and what the library reports."""
 
 import ctypes
 import random
 import re
 import unittest
 
-import hand
-import harness
-import library
-import model
-import sizes
-import streams
-import test_model
+from support import hand, harness, model, random_streams, sizes, streams, tested
 
 STREAMS = sizes.size(100, 5_000)
 TOLD = re.compile(rb"mmdb: line (\d+): (error (\d\d) [^:\n]*): ([^\n]+)\n")
@@ -61,12 +55,12 @@ class Program(unittest.TestCase):
                 self.check_ways(stream, answers)
 
     def test_random_streams(self):
-        draw = random.Random(test_model.SEED)
+        draw = random.Random(random_streams.SEED)
         for number in range(STREAMS):
-            stream, answers = test_model.stream_and_answers(draw)
+            stream, answers = random_streams.stream_and_answers(draw)
             with self.subTest(stream=number):
                 self.check(harness.run_whole(stream, ["--explain"]), stream, answers)
-                pieces = test_model.random_pieces(draw, stream)
+                pieces = random_streams.random_pieces(draw, stream)
                 self.check(harness.run_in_pieces(pieces, ["--explain"]), stream, answers)
 
     def test_nothing_is_told_without_the_option(self):
@@ -97,7 +91,7 @@ class Library(unittest.TestCase):
 
     @classmethod
     def setUpClass(cls):
-        cls.mmdb = ctypes.CDLL(str(library.folder() / "libmmdb.so"))
+        cls.mmdb = ctypes.CDLL(str(tested.library() / "libmmdb.so"))
 
     def opened(self, limits=None):
         handle = ctypes.c_void_p()

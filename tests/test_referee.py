@@ -1,8 +1,9 @@
-"""Random streams, judged by SQLite: the answers, and all tables after each command, are those of an engine of other hands.
+"""Random streams, judged by SQLite: the answers, and all tables after each command.
 
-In large sizes (`tests/fire referee`) the environment can say which streams: MMDB_FIRST is the number of the first,
-MMDB_STREAMS how many, MMDB_SEED the seed, and MMDB_JOBS how many are judged side by side. A stream is drawn by the seed
-and its number alone, so one that failed is judged again by its number, and a run that was ended goes on at a number.
+In large sizes (`tests/fire referee`) the environment selects streams: MMDB_FIRST is the number of the first, MMDB_STREAMS how many,
+MMDB_SEED the seed, MMDB_JOBS how many processes judge.
+
+What must hold: a stream depends on the seed and its number alone. Each planted mistake is seen, so that the judge is known to look.
 """
 
 import collections
@@ -11,18 +12,12 @@ import random
 import time
 import unittest
 
-import harness
-import joined
-import model
-import referee
-import sizes
-import streams
-import test_model
+from support import harness, joined, model, random_streams, referee, sizes, streams
 
 
 SEED = sizes.said("MMDB_SEED", 19860528)
 FIRST = sizes.said("MMDB_FIRST", 0)
-STREAMS = sizes.said("MMDB_STREAMS", sizes.size(200, 5_000))
+STREAMS = sizes.said("MMDB_STREAMS", sizes.size(200, 5_000, 60))
 JOBS = sizes.said("MMDB_JOBS", 1)
 AT_ONCE = 50
 PLANTED_STREAMS = 60
@@ -51,7 +46,7 @@ def stream_at(number):
     draw = random.Random(f"{SEED} {number}")
     if number % 8 == 7:
         return joined.stream(draw)
-    stream = test_model.stream_and_answers(draw)[0]
+    stream = random_streams.stream_and_answers(draw)[0]
     return stream if number % 3 else streams.whole_units_of(stream) + nulls(draw)
 
 

@@ -1,15 +1,13 @@
-"""A load of 1,000 rows into a table with indexes, and an index declared over 1,000 rows, with each of the calls for memory
-refused in turn. Among the rows are texts of the lengths around which they are kept in another way."""
+"""A load of 1,000 rows into a table with indexes, and an index that is declared over 1,000 rows, with each call for memory refused in turn.
+Some of the texts have lengths around which a row stores them in another way.
+"""
 
 import concurrent.futures
 import os
 import random
 import unittest
 
-import harness
-import model
-import refusing
-import texts
+from support import harness, model, refusing, texts
 
 ROWS = 1_000
 TABLE = b"table m (id int, a int, s text)\n"

@@ -1,7 +1,7 @@
-"""Each call for memory refused in turn while the library answers streams of 200 commands: fed, line by line, and by statements.
-What was refused by 90 is done when it is asked for again, so that all answers are as ever; and at the end all is given back.
+"""Each call for memory refused in turn while the library answers streams of 200 commands: fed, line by line, and as statements. A request
+that was refused by 90 is made again and succeeds, so all other answers are the same. In the end everything is freed.
 
-In large sizes (`tests/fire refused_streams`) MMDB_STREAMS=N says how many streams, and MMDB_SEED=N which.
+In large sizes (`tests/fire refused_streams`) MMDB_STREAMS is the number of streams and MMDB_SEED their seed.
 """
 
 import collections
@@ -9,16 +9,7 @@ import ctypes
 import random
 import unittest
 
-import compiling
-import embedded
-import harness
-import joined
-import model
-import prepared
-import shapes
-import sizes
-import streams
-import test_model
+from support import compiling, embedded, joined, model, prepared, random_streams, shapes, sizes, streams
 
 SEED = sizes.said("MMDB_SEED", 19861126)
 STREAMS = sizes.said("MMDB_STREAMS", sizes.size(2, 6))
@@ -61,9 +52,9 @@ def lines_of(draw, number):
         while True:
             yield joined.line(draw, keys)
     if number % 3 == 1:
-        yield test_model.FRONT
+        yield random_streams.FRONT
         while True:
-            yield test_model.load(draw) if draw.random() < 0.15 else test_model.line(draw)
+            yield random_streams.load(draw) if draw.random() < 0.15 else random_streams.line(draw)
     yield shapes.stream(draw)
     while True:
         yield shapes.line(draw)

@@ -1,4 +1,8 @@
-"""The released program, and when ./run takes it. Stand-ins take the place of the toolchain, so nothing is proved here."""
+"""The released program: when ./run takes it, what its digest covers, and how scripts/check-release compares it. Scripts replace the
+toolchain, so nothing is proved here.
+
+What must hold: PLAIN lists the only commands that ./run needs without the toolchain.
+"""
 
 import os
 import pathlib
@@ -9,10 +13,12 @@ import tempfile
 import time
 import unittest
 
-import harness
+from support import harness
 
 # What ./run may use on a machine without the toolchain.
 PLAIN = ("bash", "cat", "dirname", "env", "readlink", "sha256sum")
+# The crates of a copy: the program, the library, and some of the crates that they depend on.
+CRATES = ("no_memory", "plain_tables", "mm_lang", "mm_session", "mmdb", "mmdb_c")
 TOOLCHAIN = (harness.ROOT / "release" / "toolchain").read_text()
 # What the program tells of its version.
 TOLD = f"mmdb {harness.VERSION}\n".encode()
@@ -38,12 +44,11 @@ class Copies(unittest.TestCase):
         for command in PLAIN:
             (self.tools / command).symlink_to(shutil.which(command))
         shutil.copytree(harness.ROOT / "release", self.top / "release")
-        for file in ("run", "crates.txt"):
-            shutil.copy(harness.ROOT / file, self.top / file)
+        shutil.copy(harness.ROOT / "run", self.top / "run")
+        (self.top / "crates.txt").write_text(harness.list_of_crates(*CRATES))
         for folder in ("include", "scripts"):
             shutil.copytree(harness.ROOT / folder, self.top / folder)
-        crates = [self.said_by("scripts/digest", "--crates", *words).decode().split() for words in ([], ["--library"])]
-        for crate in {crate for named in crates for crate in named}:
+        for crate in CRATES:
             for part in ("src", "specs", "proofs"):
                 if (harness.ROOT / "crates" / crate / part).is_dir():
                     shutil.copytree(harness.ROOT / "crates" / crate / part, self.top / "crates" / crate / part)
@@ -190,7 +195,7 @@ class Comparisons(Copies):
         built = self.top / "crates" / "mmdb" / "out" / "mmdb"
         built.parent.mkdir()
         shutil.copy(harness.PROGRAM, built)
-        digests = self.said_by("scripts/digest", "--library", "release")
+        digests = self.said_by("scripts/digest", "--library", self.top / "release")
         (self.top / "release" / "libmmdb.digests").write_bytes(digests)
         self.path = self.put_toolchain(PROVES)
 

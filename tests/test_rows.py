@@ -1,8 +1,11 @@
-"""Each row of tests/rows: a stream and its answers, whole and in pieces of several sizes, and under each policy."""
+"""Each row of tests/rows: whole, in pieces of several sizes, and under each policy.
+
+What must hold: a case of the language is a pair of files there, NAME.in and NAME.out, and needs no line here.
+"""
 
 import unittest
 
-import harness
+from support import harness
 
 
 class Rows(unittest.TestCase):

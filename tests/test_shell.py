@@ -1,4 +1,4 @@
-"""The shell `mmdb-shell`: through a pipe, through a terminal, and its parts that cut files."""
+"""The shell `mmdb-shell`: through a pipe, at a terminal, and its parts that split files."""
 
 import contextlib
 import io
@@ -15,19 +15,13 @@ import tempfile
 import time
 import unittest
 
-import embedding
-import hand
-import harness
-import library
-import model
-import shell_modules
-import sizes
-from binding import mmdb
+from support import embedding, hand, harness, model, shell_modules, sizes, tested
+from support.binding import mmdb
 
 SEED = 20261125
 FILES = sizes.size(400, 20_000)
 RUN = [sys.executable, str(shell_modules.FOLDER / "mmdb-shell")]
-WHERE = {"MMDB_LIBRARY": str(library.folder()), "PYTHONDONTWRITEBYTECODE": "1", "INPUTRC": "/dev/null", "TERM": "xterm"}
+WHERE = {"MMDB_LIBRARY": str(tested.library()), "PYTHONDONTWRITEBYTECODE": "1", "INPUTRC": "/dev/null", "TERM": "xterm"}
 
 from mmdb_shell import boxes, commands, cutting, interrupts, moving, reading, schema, starting, words
 from mmdb_shell.shell import Settings, Shell
@@ -170,7 +164,7 @@ class Piped(WithFolder):
         ran = self.ran([], env=self.environment(MMDB_LIBRARY=str(self.room)))
         self.assertEqual((ran.returncode, ran.stdout), (70, b""))
         self.assertRegex(ran.stderr.decode(), r"\Ammdb-shell: the library of mmdb can't be loaded: .*MMDB_LIBRARY.*\n\Z")
-        self.file("libmmdb.so", (library.folder() / "libmmdb.so").read_bytes()[:200_000])
+        self.file("libmmdb.so", (tested.library() / "libmmdb.so").read_bytes()[:200_000])
         ran = self.ran([], env=self.environment(MMDB_LIBRARY=str(self.room)))
         why = f"{self.room}/libmmdb.so is damaged: it is no library, or a part of one"
         self.assertEqual((ran.returncode, ran.stdout), (70, b""))

@@ -1,4 +1,4 @@
-"""What the shell shows: values in its modes, tables by each way to draw a box, and the place in a line."""
+"""What the shell shows: values in its modes, boxes in each style, and the position in a line."""
 
 import importlib.util
 import io
@@ -7,7 +7,7 @@ import os
 import unittest
 import unittest.mock
 
-import shell_modules
+from support import shell_modules
 
 from mmdb_shell import boxes, showing
 
@@ -45,13 +45,13 @@ class Tables(unittest.TestCase):
         self.assertEqual(self.shown("json", []), "[]\n")
         self.assertIn("| 4 | 日本\\|x | 'a,\"b\"␊' |\n", self.shown("markdown"))
 
-    @unittest.skipUnless(importlib.util.find_spec("rich"), "rich is not there")
+    @unittest.skipUnless(importlib.util.find_spec("rich"), "rich is not installed")
     def test_rich(self):
         out = io.TextIOWrapper(io.BytesIO(), "utf-8")
         draw = boxes._rich_box(out, boxes.plain_box("utf-8"))
         self.assertEqual("".join(draw(self.CELLS)), "".join(boxes.plain_box("utf-8")(self.CELLS)))
 
-    @unittest.skipUnless(importlib.util.find_spec("tabulate") and importlib.util.find_spec("wcwidth"), "tabulate is not there")
+    @unittest.skipUnless(importlib.util.find_spec("tabulate") and importlib.util.find_spec("wcwidth"), "tabulate is not installed")
     def test_tabulate(self):
         drawn = "".join(boxes._tabulate_box()(self.CELLS))
         self.assertIn("|    4 | 日本|x |\n", drawn)

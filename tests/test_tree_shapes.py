@@ -1,14 +1,13 @@
-"""How the trees of tables stand after a stream: the height, the nodes and the references of each, as the crates' test whose
-name ends in `trees_of_standard_input` tells them of the stream that it is fed."""
+"""The trees of tables after a stream: the height, the number of nodes and of references of each.
+
+What must hold: the crates' test whose name ends in `trees_of_standard_input` reads the stream and prints a line `tree:` for each tree.
+"""
 
 import random
 import subprocess
 import unittest
 
-import harness
-import model
-import streams
-import test_model
+from support import harness, model, random_streams, streams, tested
 
 LEAST, MOST = 30, 32
 STREAMS = 40
@@ -30,6 +29,7 @@ def tables_after(stream):
     return tables.by_name.values()
 
 
+@tested.requires_toolchain
 class TreeShapes(unittest.TestCase):
     """Each tree has each row of its table once, in nodes and levels as few as those of a balanced tree of full nodes are."""
 
@@ -64,13 +64,13 @@ class TreeShapes(unittest.TestCase):
                 self.check_trees(stream)
 
     def test_after_random_streams(self):
-        draw = random.Random(test_model.SEED)
+        draw = random.Random(random_streams.SEED)
         for number in range(STREAMS):
             with self.subTest(stream=number):
-                self.check_trees(test_model.stream_and_answers(draw)[0])
+                self.check_trees(random_streams.stream_and_answers(draw)[0])
 
     def test_after_rows_that_come_and_go(self):
-        keys = random.Random(test_model.SEED).sample(range(10_000), 3_000)
+        keys = random.Random(random_streams.SEED).sample(range(10_000), 3_000)
         puts = b"".join(b"insert t (%d, %d)\n" % (key, key % 7) for key in keys)
         stream = b"table t (id int, n int)\nindex t n tree\n" + puts + b"delete t where n = 3\nupdate t set n = 9 where id < 2000\n"
         [key, declared] = self.check_trees(stream).values()
@@ -79,7 +79,7 @@ class TreeShapes(unittest.TestCase):
 
     def test_over_rows_that_are_there(self):
         """A tree that is declared on a full table has the fewest nodes and levels that there can be."""
-        keys = random.Random(test_model.SEED).sample(range(10_000), 3_000)
+        keys = random.Random(random_streams.SEED).sample(range(10_000), 3_000)
         puts = b"".join(b"insert t (%d, %d, 's%d')\n" % (key, key % 7, key % 50) for key in keys)
         stream = b"table t (id int, n int, s text)\n" + puts + b"index t n tree\nindex t s tree\n"
         found = self.check_trees(stream)

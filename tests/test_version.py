@@ -1,9 +1,12 @@
-"""The version stands in the file VERSION, and every place that tells it tells the same."""
+"""The file VERSION, and every place that repeats the version.
+
+What must hold: PLACES lists them all.
+"""
 
 import re
 import unittest
 
-import harness
+from support import harness
 
 # The places, and the texts there in which the version stands.
 PLACES = (

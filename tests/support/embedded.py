@@ -1,0 +1,183 @@
+"""The library in this process, by ctypes and without the package for Python: a handle, its statements, and the ways to answer a stream.
+
+What must hold: the structures and the types of calls are those of include/mmdb.h.
+"""
+
+import contextlib
+import ctypes
+import struct
+
+from . import harness, model, tested
+
+
+class Bytes(ctypes.Structure):
+    """Bytes that the library keeps."""
+
+    _fields_ = [("at", ctypes.c_void_p), ("length", ctypes.c_size_t)]
+
+
+class Prepared(ctypes.Structure):
+    """A statement, by its number."""
+
+    _fields_ = [("number", ctypes.c_uint32), ("places", ctypes.c_uint32)]
+
+
+class Rows(ctypes.Structure):
+    """Rows that the library keeps, as cells and the texts of these."""
+
+    _fields_ = [
+        ("cells", ctypes.c_void_p),
+        ("texts", ctypes.c_void_p),
+        ("rows", ctypes.c_size_t),
+        ("columns", ctypes.c_size_t),
+        ("changed", ctypes.c_uint64),
+    ]
+
+    def values(self):
+        """The values of each row."""
+        cells = CELL.iter_unpack(ctypes.string_at(self.cells, CELL.size * self.rows * self.columns))
+        listed = [self.value(*cell) for cell in cells]
+        return [listed[at : at + self.columns] for at in range(0, len(listed), self.columns)]
+
+    def value(self, integer, at, length, kind):
+        if kind == TEXT:
+            return ctypes.string_at(self.texts + at, length)
+        return integer if kind == INTEGER else None
+
+
+CELL = struct.Struct("=qIHH")
+INTEGER, TEXT = 1, 2
+NO_MEMORY, REFUSED = 7, 12
+
+
+def call(name, result, *arguments):
+    found = getattr(LIBRARY, name)
+    found.restype, found.argtypes = result, arguments
+    return found
+
+
+LIBRARY = ctypes.CDLL(str(tested.library() / "libmmdb.so"))
+ADDRESS, SIZE, NUMBER = ctypes.c_void_p, ctypes.c_size_t, ctypes.c_uint32
+OPEN = call("mmdb_open", NUMBER, ADDRESS, NUMBER, NUMBER, NUMBER)
+COMMAND = call("mmdb_command", NUMBER, ADDRESS, ADDRESS, SIZE, ADDRESS)
+LOAD = call("mmdb_load", NUMBER, ADDRESS, ADDRESS, SIZE, ADDRESS, SIZE, ADDRESS)
+FEED = call("mmdb_feed", NUMBER, ADDRESS, ADDRESS, SIZE)
+ANSWER = call("mmdb_answer", NUMBER, ADDRESS, ADDRESS)
+REFUSAL = call("mmdb_refusal", NUMBER, ADDRESS)
+REASON = call("mmdb_reason", NUMBER, ADDRESS, ADDRESS, SIZE, ADDRESS, SIZE, ADDRESS)
+INDEXES = call("mmdb_indexes", NUMBER, ADDRESS, ADDRESS, SIZE, ADDRESS)
+PREPARE = call("mmdb_prepare", NUMBER, ADDRESS, ADDRESS, SIZE, ADDRESS)
+BIND_INTEGER = call("mmdb_bind_integer", NUMBER, ADDRESS, NUMBER, NUMBER, ctypes.c_int64)
+BIND_TEXT = call("mmdb_bind_text", NUMBER, ADDRESS, NUMBER, NUMBER, ADDRESS, SIZE)
+BIND_NULL = call("mmdb_bind_null", NUMBER, ADDRESS, NUMBER, NUMBER)
+EXECUTE = call("mmdb_execute", NUMBER, ADDRESS, NUMBER, ADDRESS)
+COLUMNS = call("mmdb_columns", NUMBER, ADDRESS, NUMBER, ADDRESS)
+FINALIZE = call("mmdb_finalize", NUMBER, ADDRESS, NUMBER)
+QUERY = call("mmdb_query", NUMBER, ADDRESS, ADDRESS, SIZE, ADDRESS)
+CLOSE = call("mmdb_close", None, ADDRESS)
+
+
+@contextlib.contextmanager
+def through(library):
+    """In it the calls are those of another library."""
+    before = {name: found for name, found in globals().items() if isinstance(found, LIBRARY._FuncPtr)}
+    for name, found in before.items():
+        other = getattr(library, found.__name__)
+        other.restype, other.argtypes = found.restype, found.argtypes
+        globals()[name] = other
+    try:
+        yield
+    finally:
+        globals().update(before)
+
+
+class Handle:
+    """An open database, which is closed at the end of its `with`."""
+
+    def __init__(self, policy="auto", limits=model.Limits()):
+        self.inside = ctypes.c_void_p(None)
+        self.at = ctypes.addressof(self.inside)
+        self.told = Bytes(None, 0)
+        self.told_at = ctypes.addressof(self.told)
+        self.done(OPEN(self.at, harness.POLICIES.index(policy), limits.rows, limits.block))
+
+    def __enter__(self):
+        return self
+
+    def __exit__(self, *_):
+        CLOSE(self.at)
+
+    @staticmethod
+    def done(status):
+        if status:
+            raise AssertionError(f"a call gives the status {status}")
+
+    def said(self, status):
+        """What a call told."""
+        self.done(status)
+        return ctypes.string_at(self.told.at, self.told.length)
+
+    def ask(self, line, block):
+        """The answer to a line, with its block where it asks for one. A line without bytes has none."""
+        if model.block_length(line):
+            return self.said(LOAD(self.at, line, len(line), block, len(block), self.told_at))
+        return self.said(COMMAND(self.at, line, len(line), self.told_at)) if line else b""
+
+    def feed(self, piece):
+        """The answers that a piece brings."""
+        self.done(FEED(self.at, piece, len(piece)))
+        return self.answer()
+
+    def answer(self):
+        """The last answers."""
+        return self.said(ANSWER(self.at, self.told_at))
+
+    def refusal(self):
+        return REFUSAL(self.at)
+
+    def reason(self, line, block):
+        return self.said(REASON(self.at, line, len(line), block, len(block), self.told_at))
+
+    def indexes(self, table):
+        return self.said(INDEXES(self.at, table, len(table), self.told_at))
+
+    def is_done(self, status):
+        """Whether a call on a statement was done, and not refused."""
+        if status != REFUSED:
+            self.done(status)
+        return status != REFUSED
+
+    def prepare(self, line):
+        """The statement of a line, or None where it is refused."""
+        statement = Prepared()
+        return statement if self.is_done(PREPARE(self.at, line, len(line), ctypes.addressof(statement))) else None
+
+    def bind(self, statement, values):
+        for place, value in enumerate(values):
+            if value is None:
+                status = BIND_NULL(self.at, statement.number, place)
+            elif isinstance(value, int):
+                status = BIND_INTEGER(self.at, statement.number, place, value)
+            else:
+                status = BIND_TEXT(self.at, statement.number, place, value, len(value))
+            self.done(status)
+
+    def execute(self, statement):
+        """The rows that a statement has, or None where it is refused."""
+        rows = Rows()
+        return rows if self.is_done(EXECUTE(self.at, statement.number, ctypes.addressof(rows))) else None
+
+    def columns(self, statement):
+        """The names and the kinds of a statement's columns."""
+        columns = Rows()
+        self.done(COLUMNS(self.at, statement.number, ctypes.addressof(columns)))
+        return columns.values()
+
+    def finalize(self, statement):
+        self.done(FINALIZE(self.at, statement.number))
+
+
+def answers_to(pieces, policy="auto", limits=model.Limits()):
+    """The answers of a new database to a stream in these pieces."""
+    with Handle(policy, limits) as handle:
+        return b"".join(map(handle.feed, pieces))

@@ -1,0 +1,61 @@
+"""Records the calls that this process makes of the library, so that programs/tape.c can make them again.
+
+What must hold: programs/tape.c reads what this writes.
+"""
+
+import contextlib
+
+from . import embedded
+
+
+class Tape:
+    """The calls, as that program reads them."""
+
+    def __init__(self):
+        self.calls = []
+
+    def add(self, name, *numbers, behind=b""):
+        first, second, third = (*numbers, 0, 0, 0)[:3]
+        self.calls.append(b"%s %d %d %d\n%s" % (name, first, second, third % 2**64, behind))
+
+    def written(self):
+        """What writes each call down, by the name that embedded.py has for it."""
+        return {
+            "OPEN": lambda at, policy, rows, block: self.add(b"open", policy, rows, block),
+            "COMMAND": lambda at, line, length, to: self.add(b"command+", length, behind=line),
+            "LOAD": lambda at, line, length, block, more, to: self.add(b"load+", length, more, behind=line + block),
+            "FEED": lambda at, piece, length: self.add(b"feed+", length, behind=piece),
+            "ANSWER": lambda at, to: self.add(b"answer"),
+            "REFUSAL": lambda at: self.add(b"refusal"),
+            "REASON": lambda at, line, length, block, more, to: self.add(b"reason+", length, more, behind=line + block),
+            "INDEXES": lambda at, name, length, to: self.add(b"indexes+", length, behind=name),
+            "PREPARE": lambda at, line, length, to: self.add(b"prepare+", length, behind=line),
+            "BIND_INTEGER": lambda at, *numbers: self.add(b"integer", *numbers),
+            "BIND_TEXT": lambda at, of, place, text, length: self.add(b"text+", length, 0, of << 32 | place, behind=text),
+            "BIND_NULL": lambda at, *numbers: self.add(b"null", *numbers),
+            "EXECUTE": lambda at, of, to: self.add(b"execute", of),
+            "COLUMNS": lambda at, of, to: self.add(b"columns", of),
+            "FINALIZE": lambda at, of: self.add(b"finalize", of),
+        }
+
+
+@contextlib.contextmanager
+def recorded():
+    """The tape of the calls that are made in it."""
+    tape, before = Tape(), {}
+    for name, write in tape.written().items():
+        before[name] = getattr(embedded, name)
+        setattr(embedded, name, both(write, before[name]))
+    try:
+        yield tape
+    finally:
+        for name, call in before.items():
+            setattr(embedded, name, call)
+
+
+def both(write, call):
+    def made(*given):
+        write(*given)
+        return call(*given)
+
+    return made
