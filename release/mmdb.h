@@ -106,8 +106,8 @@ typedef enum mmdb_status {
     MMDB_NO_LINE = 5,            /* a line that is null or has no bytes; a block, a piece or a name that is null and has
                                     some */
     MMDB_NOT_ONE_REQUEST = 6,    /* a line feed in a line; a line that asks for a block of another length than given */
-    MMDB_NO_MEMORY = 7,          /* mmdb_open, mmdb_reason, mmdb_prepare, mmdb_bind_text: none was found. mmdb_feed:
-                                    none for the answers; the stream is over */
+    MMDB_NO_MEMORY = 7,          /* mmdb_open, mmdb_reason, mmdb_prepare, mmdb_bind_text of more than 14 bytes: none was
+                                    found. mmdb_feed: none for the answers; the stream is over */
     MMDB_ENDED = 8,              /* mmdb_feed of a stream that is over; the other calls go on */
     MMDB_NO_SUCH_STATEMENT = 9,  /* the number names no statement, or one that was finalised */
     MMDB_NO_SUCH_PLACE = 10,     /* the statement has no place of that number */
@@ -151,15 +151,17 @@ uint32_t mmdb_load(mmdb *db, const void *line, size_t length, const void *block,
    Places are numbered from 0 as they stand. One carriage return at the line's end is dropped. The statement is kept
    until mmdb_finalize or mmdb_close, whatever becomes of the tables.
    Gives MMDB_DONE and the statement, whose places have nulls. Or gives MMDB_NOT_OPEN, MMDB_NO_LINE or MMDB_NO_MEMORY;
-   or MMDB_REFUSED by 10, 11 or 20, the last also for a line feed, blanks, comments and all other commands, or by what
-   the names and the given values are refused by (30, 32, 33, 34, 35, 45). Then there is no statement. */
+   or MMDB_REFUSED, in this order: by 10 where the line is too long, by 11 where it is not UTF-8, by 20 where it spells
+   no statement, as with a line feed in it, blanks, comments and all other commands, or by what the names and the given
+   values are refused by (30, 32, 33, 34, 35, 45). Then there is no statement. */
 uint32_t mmdb_prepare(mmdb *db, const void *line, size_t length, mmdb_statement *statement);
 
 /* Puts a value into a place of a statement, by their numbers. It stays until another is bound there, also while the
    statement is executed. A text is copied; it may hold line feeds, as no line can, and each byte that UTF-8 lets it.
    Gives MMDB_DONE; or MMDB_NOT_OPEN, MMDB_NO_SUCH_STATEMENT or MMDB_NO_SUCH_PLACE; of a text also MMDB_NO_LINE where it
-   is null and has a length, MMDB_NOT_UTF8 or MMDB_NO_MEMORY. After any but MMDB_DONE all is as it was. The answers are
-   left as they are. */
+   is null and has a length, MMDB_NOT_UTF8, or MMDB_NO_MEMORY where it has more than 14 bytes: an integer, a null and a
+   text of at most 14 bytes need no memory. After any but MMDB_DONE all is as it was. The answers are left as they
+   are. */
 uint32_t mmdb_bind_integer(mmdb *db, uint32_t statement, uint32_t place, int64_t value);
 uint32_t mmdb_bind_text(mmdb *db, uint32_t statement, uint32_t place, const void *text, size_t length);
 uint32_t mmdb_bind_null(mmdb *db, uint32_t statement, uint32_t place);
@@ -170,15 +172,15 @@ uint32_t mmdb_bind_null(mmdb *db, uint32_t statement, uint32_t place);
    in the same order, and by 90 where no memory is found; or MMDB_NOT_OPEN or MMDB_NO_SUCH_STATEMENT. */
 uint32_t mmdb_execute(mmdb *db, uint32_t statement, mmdb_rows *rows);
 
-/* The columns that the rows of a select have: a row for each, of two cells, its name as T.c and its kind, which is the
-   integer MMDB_INTEGER or MMDB_TEXT. Of another statement there are no rows. They are good until the next call on this
-   handle.
-   Gives MMDB_DONE and the columns; or MMDB_REFUSED as the execution with the bound values would be before it looks at
-   rows; or MMDB_NOT_OPEN or MMDB_NO_SUCH_STATEMENT. */
+/* The columns that the rows of a select have, whatever values are bound: a row for each, of two cells, its name as T.c
+   and its kind, which is the integer MMDB_INTEGER or MMDB_TEXT. Another statement has no columns. They are good until
+   the next call on this handle.
+   Gives MMDB_DONE and the columns; or MMDB_REFUSED where mmdb_prepare of the line would be refused now, as by 30 once
+   its table is dropped, or by 90 when out of memory; or MMDB_NOT_OPEN or MMDB_NO_SUCH_STATEMENT. */
 uint32_t mmdb_columns(mmdb *db, uint32_t statement, mmdb_rows *columns);
 
-/* Frees a statement: its rows are good no longer, and its number may be given to another. The answers are left as they
-   are.
+/* Frees a statement: its rows are good no longer, and its number may be given to another. It needs no memory. The
+   answers are left as they are.
    Gives MMDB_DONE; or MMDB_NOT_OPEN or MMDB_NO_SUCH_STATEMENT. */
 uint32_t mmdb_finalize(mmdb *db, uint32_t statement);
 
@@ -187,8 +189,9 @@ uint32_t mmdb_finalize(mmdb *db, uint32_t statement);
    dropped.
    Gives MMDB_DONE: and of a select its rows, which are good until the next mmdb_query on this handle or mmdb_close,
    whatever other calls there are; of the others `changed`, and no rows. Or gives MMDB_NOT_OPEN or MMDB_NO_LINE; or
-   MMDB_REFUSED by 10, 11 or 20, the last also for a ? in no text, a line feed, blanks, comments and all other commands,
-   or as mmdb_command would be answered, in the same order, and by 90 where no memory is found. */
+   MMDB_REFUSED as mmdb_command would be answered, in the same order, and by 90 where no memory is found. A line feed,
+   a ? in no text, blanks, comments and all other commands are 20, once the line is neither too long (10) nor other
+   than UTF-8 (11). */
 uint32_t mmdb_query(mmdb *db, const void *line, size_t length, mmdb_rows *rows);
 
 /* Takes the next bytes of a stream of lines and blocks, cut wherever it may be, and answers each request that ends in
@@ -207,9 +210,10 @@ uint32_t mmdb_feed(mmdb *db, const void *piece, size_t length);
    MMDB_NO_LINE where the name is null and has a length. */
 uint32_t mmdb_indexes(mmdb *db, const void *table, size_t length, mmdb_bytes *answer);
 
-/* The answers of the last call that was done, one behind the other: of the piece that was fed, or of the line. Of a
-   piece whose answers found no room it is a front of them. Where a statement was prepared, executed or asked for its
-   columns, or a line queried, they are its refusal, or no bytes.
+/* The answers of the last call that was done or refused, one behind the other: of the piece that was fed, or of the
+   line. Of a piece whose answers found no room it is a front of them. Where a statement was prepared, executed or asked
+   for its columns, or a line queried, they are its refusal, or no bytes. Any other call leaves them as they are: one
+   that binds or finalises, and one that can't be answered, as of a number that names no statement.
    Gives MMDB_DONE, and bytes that are good until the next call but this one, mmdb_refusal and mmdb_reason; or
    MMDB_NOT_OPEN. */
 uint32_t mmdb_answer(mmdb *db, mmdb_bytes *answer);
