@@ -49,6 +49,7 @@ impl<'a, O: TupleOrder> Probe for OrderProbe<'a, O> {
 
     ghost asked = { λ p. p.asked };
 
+    #[inline]
     fn place(&mut self, r: TupleRef) -> Ordering {
         self.asked = self.asked.saturating_add(1);
         self.order.cmp(r, self.sought)

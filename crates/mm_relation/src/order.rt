@@ -6,6 +6,7 @@ ghost use Rattle.std.specs.Prelude.{◌≡◌, Some, IsSome};
 ghost use Rattle.std.specs.FinMap as finite;
 ghost use Rattle.mm_relation.specs.Reading.{value_at, key_at};
 ghost use Rattle.mm_relation.specs.Order.{KeysDiffer, IsRead, column_cmp};
+ghost use Rattle.mm_relation.specs.State.{no_keys};
 
 use crate::linked_keys::LinkedKeys;
 use crate::rows::Rows;
@@ -135,11 +136,20 @@ impl<'a> KeyOrder<'a> {
             key: rows.key(r).sought(),
         }
     }
+
+    // How a row stands to one that was not read, about which no search asks.
+    #[cold]
+    fn to_other(&self, a: TupleRef, b: TupleRef) -> Ordering
+        requires a_covered { IsSome (value_at no_keys 0 self.now.rows.now.tuples a) }
+        requires b_covered { IsSome (value_at no_keys 0 self.now.rows.now.tuples b) }
+        ensures { result ≡ column_cmp no_keys 0 self.now.rows.now.tuples a b }
+    {
+        self.rows.key(a).cmp(self.rows.key(b))
+    }
 }
 
 impl<'a> TupleOrder for KeyOrder<'a> {
     ghost use Rattle.mm_relation.specs.Order.{column_cmp_strict};
-    ghost use Rattle.mm_relation.specs.State.{no_keys};
 
     ghost is_sound = { λ o. KeysDiffer o.rows.now.tuples × (key_at o.rows.now.tuples o.known ≡ Some o.key) };
 
@@ -150,10 +160,12 @@ impl<'a> TupleOrder for KeyOrder<'a> {
     ghost is_strict = { λ o sound. column_cmp_strict no_keys 0 o.rows.now.tuples sound.0 };
 
     #[tactic(auto, using(crate::proofs::Same::then_same))]
+    #[inline]
     fn cmp(&self, a: TupleRef, b: TupleRef) -> Ordering {
         if b == self.known {
-            return self.rows.key(a).compare(&self.key);
+            self.rows.key(a).compare(&self.key)
+        } else {
+            self.to_other(a, b)
         }
-        self.rows.key(a).cmp(self.rows.key(b))
     }
 }

@@ -26,6 +26,7 @@ impl<'a> Probe for KeyProbe<'a> {
 
     ghost asked = { λ p. p.asked };
 
+    #[inline]
     fn place(&mut self, r: TupleRef) -> Ordering {
         self.asked = self.asked.saturating_add(1);
         self.rows.key(r).compare(self.sought)

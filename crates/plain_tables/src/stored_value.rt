@@ -114,14 +114,23 @@ impl StoredValue {
         SoughtValue::new(self.seen())
     }
 
-    /// How it stands to a value that is looked for, in the order of values.
+    /// How it stands to a value that is looked for, in the order of values. Two integers are compared where this is called.
+    #[inline]
     pub fn compare(&self, sought: &SoughtValue<'_>) -> Ordering
         ensures { result ≡ value_cmp self.now sought.now }
     {
         match (&self.content, sought.seen()) {
             (Content::Int(a), SeenValue::Int(b)) => a.cmp(&b),
-            (_, other) => self.seen().compare(other),
+            _ => self.compare_others(sought),
         }
+    }
+
+    // The same of values that are not both integers. It stands apart, so that a search among integers is short.
+    #[inline(never)]
+    fn compare_others(&self, sought: &SoughtValue<'_>) -> Ordering
+        ensures { result ≡ value_cmp self.now sought.now }
+    {
+        self.seen().compare(sought.seen())
     }
 }
 

@@ -17,6 +17,7 @@ pub(crate) enum Seek {
 }
 
 // One answer of the probe, as the search takes it.
+#[inline]
 pub(crate) fn ask<P: Probe>(probe: &mut P, r: TupleRef, seek: Seek) -> Ordering
     requires sound { P.is_sound probe.old }
     requires may_ask { P.can_place probe.old r }
