@@ -22,8 +22,9 @@ const FEW_HASH_NODES: usize = 4_096;
 // A spare node for so many entries: so memory isn't given back and taken again as entries go and come.
 const ENTRIES_A_SPARE_NODE: usize = 4;
 
-// And so many heads an entry.
-const MOST_HEADS_AN_ENTRY: usize = 4;
+// And room for so many heads a bucket. A hash loses at most one bucket where it loses a row, so it has as many rows fewer as heads
+// are given back, and a removal costs no more for it in the long run.
+const MOST_HEADS_A_BUCKET: usize = 2;
 
 // Gives the memory of the partitions with no row back where it is that of more than a quarter as many rows as there are,
 // and of more than a few. Each of them had to lose its rows before, so a removal costs no more for it in the long run.
@@ -48,13 +49,13 @@ pub fn shed_tree(tree: &mut Tree)
 }
 
 // Gives the spare memory of a hash back where it has more than a few nodes in blocks without a row and more than a quarter
-// as many as entries, or more than a few heads and more than four times as many as entries.
+// as many as entries, or room for more than a few heads and for more than twice as many as buckets.
 pub fn shed_hash(hash: &mut RowHash)
     ensures { hash.new.entries ≡ hash.old.entries }
 {
-    let (spares, heads, entries) = (hash.spare_nodes(), hash.heads(), hash.len());
-    let has_spare_nodes = spares > FEW_HASH_NODES.max(entries / ENTRIES_A_SPARE_NODE);
-    let has_spare_heads = heads > FEW_HASH_NODES && heads / MOST_HEADS_AN_ENTRY > entries;
+    let (heads, entries) = (hash.heads(), hash.len());
+    let has_spare_nodes = hash.spare_nodes() > FEW_HASH_NODES.max(entries / ENTRIES_A_SPARE_NODE);
+    let has_spare_heads = heads > FEW_HASH_NODES && heads / MOST_HEADS_A_BUCKET > hash.buckets();
     if has_spare_nodes || has_spare_heads {
         hash.release_spares();
     }
