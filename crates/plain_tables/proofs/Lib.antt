@@ -28,6 +28,7 @@ pub mod RowLemmas
 pub mod SchemaLemmas
 pub mod SelectLemmas
 pub mod Separated
+pub mod SettingLemmas
 pub mod SingleItems
 pub mod SoundLemmas
 pub mod Spellable

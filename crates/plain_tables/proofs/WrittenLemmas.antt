@@ -113,7 +113,7 @@ own_are_all columns (c ∷ conditions) member mean =
     (own_are_all columns conditions member (All-tail (MeansOne columns (length member)) c conditions mean))
 
 -- where no name is missed, each means a place
-all_mean : {X : Type 0} (among : List Table) (name : X → ColName) (xs : List X) → misses (joined_columns among) (map name xs) ≡ false
+pub all_mean : {X : Type 0} (among : List Table) (name : X → ColName) (xs : List X) → misses (joined_columns among) (map name xs) ≡ false
     → All (λ x. MeansAt (joined_columns among) (λ n. n < length among) (name x)) xs
 all_mean among name [] found = All-nil (λ x. MeansAt (joined_columns among) (λ n. n < length among) (name x))
 all_mean among name (x ∷ xs) found =
@@ -346,15 +346,15 @@ select_met tables among name joins conditions named there right found =
     (All-weaker (λ m. length m ≡ length lists) (λ m. tested m ≡ met m) same (all_members lists) (members_long lists))
 
 -- What passes the checks of a select names tables that are there, once each, and columns of theirs.
-record HasPassed (tables : Database) (its : Items) (name : List ℕ) (joins : List Join) (conditions : List Cond) : Type 0 where
-  once_each : once (select_names name joins) ≡ select_names name joins
-  named : AreNamed tables (tables_named tables (once (select_names name joins))) (name ∷ []) joins
-  joined : list_any is_none (map (join_columns tables) (behind (name ∷ []) joins)) ≡ false
-  typed : list_any (is_mistyped tables (columns_of tables (select_names name joins))) conditions ≡ false
-  shown : misses (columns_of tables (select_names name joins)) (named_items its) ≡ false
-  found : misses (columns_of tables (select_names name joins)) (condition_names conditions) ≡ false
+pub record HasPassed (tables : Database) (its : Items) (name : List ℕ) (joins : List Join) (conditions : List Cond) : Type 0 where
+  pub once_each : once (select_names name joins) ≡ select_names name joins
+  pub named : AreNamed tables (tables_named tables (once (select_names name joins))) (name ∷ []) joins
+  pub joined : list_any is_none (map (join_columns tables) (behind (name ∷ []) joins)) ≡ false
+  pub typed : list_any (is_mistyped tables (columns_of tables (select_names name joins))) conditions ≡ false
+  pub shown : misses (columns_of tables (select_names name joins)) (named_items its) ≡ false
+  pub found : misses (columns_of tables (select_names name joins)) (condition_names conditions) ≡ false
 
-has_passed : (tables : Database) (its : Items) (name : List ℕ) (joins : List Join) (conditions : List Cond)
+pub has_passed : (tables : Database) (its : Items) (name : List ℕ) (joins : List Join) (conditions : List Cond)
     → AllByRecursion (λ c. c.refuses ≡ false) (select_checks tables its name joins conditions) → HasPassed tables its name joins conditions
 has_passed tables its name joins conditions passed =
     let names : List (List ℕ) = select_names name joins in

@@ -1,11 +1,12 @@
--- Laws of written conditions: that each condition, and each join, is judged at the places that its names mean. They hold of
--- any tables, sound or not.
+-- Laws of what is written: that each condition, and each join, is judged at the places that its names mean, that each value is set at the
+-- column that its name means, and that each item shows what its name means. They hold of any tables, sound or not.
 use Rattle.std.specs.Prelude.{◌≡◌, ℕ, ◌<◌, List, [], ◌∷◌, Bool, false, ◌&&◌, length, map, Ok, Some, slice_get, ◌⊎◌}
 use Rattle.std.specs.List.{All, filter, filter_map, list_all, enumerate_from}
 use Rattle.std.specs.Option.{option_map_or, option_zip}
 use Rattle.plain_tables.specs.Tables.{Table, Row}
 use Rattle.plain_tables.specs.Databases.{Database, table_named}
 use Rattle.plain_tables.specs.Queries.{JoinedColumn, joined_columns, place_meant, stands, side_name, named_items}
+use Rattle.plain_tables.specs.Effects.{setting_name}
 use Rattle.plain_tables.specs.CsvReading.{Record}
 use Rattle.plain_tables.specs.Resolving.{own_columns, select_names, resolved_of}
 use Rattle.plain_tables.specs.Joining.{Member, passes_all, value_of, are_equal, members_of}
@@ -13,6 +14,7 @@ use Rattle.plain_tables.specs.QueryLaws.{all_members}
 use Rattle.plain_tables.specs.declared.condition.ColName.{ColName}
 use Rattle.plain_tables.specs.declared.condition.Cond.{Cond}
 use Rattle.plain_tables.specs.declared.command.Items.{Items}
+use Rattle.plain_tables.specs.declared.command.Items.TheVariants as items
 use Rattle.plain_tables.specs.declared.command.Join.{Join}
 use Rattle.plain_tables.specs.declared.command.JoinSide.{JoinSide}
 use Rattle.plain_tables.specs.declared.command.Setting.{Setting}
@@ -22,6 +24,7 @@ use Rattle.plain_tables.specs.declared.numbers.TableNumber.{TableNumber}
 use Rattle.plain_tables.specs.declared.resolved.Assignment.{Assignment}
 use Rattle.plain_tables.specs.declared.resolved.Test.{Test}
 use Rattle.plain_tables.specs.declared.resolved.Query.{Query}
+use Rattle.plain_tables.specs.declared.resolved.Shown.TheVariants as shown
 use Rattle.plain_tables.specs.declared.resolved.Resolved.{Resolved}
 use Rattle.plain_tables.specs.declared.resolved.Resolved.TheVariants as resolved
 
@@ -120,3 +123,34 @@ DeletesTestTheWritten =
     (records : List Record) (tables : Database) (name : List ℕ) (conditions : List Cond) (n : TableNumber) (tests : List Test)
     → resolved_of records tables (command.Delete name conditions) ≡ Ok (resolved.Delete n tests)
     → TestsTheWritten tables name conditions n tests
+
+-- ---- what is set, and what is shown
+
+-- the place of an assignment in the table that is set
+abbrev pub assigned_place : Assignment → Place
+assigned_place a = record { source = 0; column = a.column }
+
+-- The assignments are to the table of that name. There is one for each setting, in their order: at the column that its name means, and of
+-- its value.
+pub record SetsTheWritten (tables : Database) (name : List ℕ) (settings : List Setting) (n : TableNumber) (assignments : List Assignment) : Type 0 where
+  pub table : Table
+  pub is_named : table_named name tables ≡ Some table
+  pub is_numbered : slice_get tables n.0 ≡ Some table
+  pub means : map (λ s. place_meant (own_columns table) (setting_name s)) settings ≡ map (λ a. Some (assigned_place a)) assignments
+  pub values : map (λ a. a.value) assignments ≡ map (λ s. s.value) settings
+
+abbrev pub UpdatesSetTheWritten : Type 0
+UpdatesSetTheWritten =
+    (records : List Record) (tables : Database) (name : List ℕ) (settings : List Setting) (conditions : List Cond)
+    (n : TableNumber) (assignments : List Assignment) (tests : List Test)
+    → resolved_of records tables (command.Update name settings conditions) ≡ Ok (resolved.Update n assignments tests)
+    → SetsTheWritten tables name settings n assignments
+
+-- A select that names what it shows shows the places that the names mean among the tables that it names, in the order of the names.
+abbrev pub SelectsShowTheWritten : Type 0
+SelectsShowTheWritten =
+    (records : List Record) (tables : Database) (distinct : Bool) (named : List ColName) (name : List ℕ) (joins : List Join)
+    (conditions : List Cond) (query : Query)
+    → resolved_of records tables (command.Select distinct (items.Named named) name joins conditions) ≡ Ok (resolved.Select query)
+    → (places : List Place) × (query.shown ≡ shown.Columns places)
+    × (map (place_meant (joined_columns (tables_named tables (select_names name joins)))) named ≡ map Some places)
