@@ -162,7 +162,7 @@ module _ (c : CatalogState) (ok : IsConsistent c) (n : ℕ) (s new : RelationSta
 
 declared_keeps : (k : IndexKind) (column : ColumnNumber) (old new : RelationState) → IsDeclaredOf k column old new → KeepsOutline old new × (new.declared ≡ old.declared ++ declaration column k ∷ [])
 declared_keeps Tree column old new h = (record { schema = ap (λ s. s.schema) h.1; counted = ap (λ s. s.counted) h.1; outline = ap outline h.1 }, ap (λ s. s.declared) h.1)
-declared_keeps Hash column old new h = (record { schema = ap (λ s. s.schema) h.1; counted = ap (λ s. s.counted) h.1; outline = ap outline h.1 }, ap (λ s. s.declared) h.1)
+declared_keeps Hash column old new h = (record { schema = ap (λ s. s.schema) h.2; counted = ap (λ s. s.counted) h.2; outline = ap outline h.2 }, ap (λ s. s.declared) h.2)
 
 -- the effect on the database where the table is there
 done_index : (limits : Limits) (tables : Database) (n : TableNumber) (column : ColumnNumber) (k : IndexKind) (table : Table) → slice_get tables n.0 ≡ Some table → (done limits tables (resolved.Index n column k)).database ≡ set tables n.0 (with_index column k table)

@@ -14,7 +14,7 @@ use Rattle.plain_tables.specs.Tables.{Table}
 use Rattle.lin_hash.specs.Shape.{HasHashShape}
 use Rattle.lin_hash.specs.declared.shape.HashShape.{HashShape}
 use Rattle.mm_relation.specs.declared.numbers.DeclaredIndex.{DeclaredIndex}
-use Rattle.mm_relation.specs.Changes.{HasTree, HasHash, entries_of}
+use Rattle.mm_relation.specs.Changes.{HasTree, HasHash, entries_of, buckets_of}
 use Rattle.mm_relation.specs.State.{RelationState, IsKept, is_tree}
 use Rattle.mm_catalog.specs.Consistent.{IsConsistent}
 use Rattle.plain_tables.specs.declared.schema.IndexKind.TheVariants.{Tree, Hash}
@@ -82,11 +82,12 @@ module _ (c : CatalogState) (ok : IsConsistent c) (n : ℕ) (s : RelationState) 
     ]
 
   -- and the hash on a column has each row
-  pub tells_hash : (column : ℕ) (shape : HashShape) → HasHash s column → HasHashShape (entries_of s column) shape → shape.items ≡ len s.rows → TellsHash c n column shape
-  tells_hash column shape on told items = record {
+  pub tells_hash : (column : ℕ) (shape : HashShape) → HasHash s column → HasHashShape (entries_of s column) shape → shape.buckets ≡ buckets_of s column → shape.items ≡ len s.rows → TellsHash c n column shape
+  tells_hash column shape on told buckets items = record {
     relation = s;
     there = there;
     on_column = on;
     told = told;
+    buckets = buckets;
     rows = database-rows c ok.named n s there ∙ ap (λ (rows : ℕ). Some rows) ((among_at c ok n s there).kept.keyed.lists.count ∙ sym items);
   }

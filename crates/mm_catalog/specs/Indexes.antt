@@ -7,7 +7,7 @@ use Rattle.plain_tables.specs.References.{all_indexes}
 use Rattle.plain_tables.specs.declared.schema.IndexKind.{IndexKind}
 use Rattle.plain_tables.specs.declared.schema.IndexKind.TheVariants as index
 use Rattle.plain_tables.specs.Queries.{column_number}
-use Rattle.mm_relation.specs.Changes.{HasHash, entries_of}
+use Rattle.mm_relation.specs.Changes.{HasHash, entries_of, buckets_of}
 use Rattle.mm_relation.specs.Declaring.{declaration}
 use Rattle.mm_relation.specs.declared.numbers.DeclaredIndex.{DeclaredIndex}
 use Rattle.mm_relation.specs.State.{RelationState}
@@ -28,6 +28,7 @@ pub record TellsHash (c : CatalogState) (table column : ℕ) (shape : HashShape)
   pub there : slice_get c.relations table ≡ Some relation
   pub on_column : HasHash relation column
   pub told : HasHashShape (entries_of relation column) shape
+  pub buckets : shape.buckets ≡ buckets_of relation column
   pub rows : option_map (λ t. length t.rows) (slice_get (database_of c) table) ≡ Some shape.items
 
 -- the kind of an index, and what is told of it

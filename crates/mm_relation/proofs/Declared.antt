@@ -16,10 +16,11 @@ use Rattle.plain_tables.specs.declared.schema.IndexKind.TheVariants.{Tree, Hash}
 use Rattle.mm_relation.specs.Rows.{Row}
 use Rattle.plain_tables.specs.declared.numbers.ColumnNumber.{ColumnNumber}
 use Rattle.mm_relation.specs.declared.numbers.DeclaredIndex.{DeclaredIndex}
+use Rattle.mm_relation.specs.declared.index.Index.{Index}
 use Rattle.mm_relation.specs.declared.index.IndexOn.{IndexOn}
 use Rattle.mm_relation.specs.Reading.{Keys}
 use Rattle.mm_relation.specs.State.{RowTree, tree_list, IsKept, IsCurrent, TreeServes, HashServes, columns_with_tree, columns_with_hash, is_tree}
-use Rattle.mm_relation.specs.Indexes.{Indexes, SeenIndex, seen, tree_in, entries_in, declaration_of, trees_of, hashes_of, Serve, Serves}
+use Rattle.mm_relation.specs.Indexes.{Indexes, SeenIndex, seen, tree_in, entries_in, buckets_in, declaration_of, trees_of, hashes_of, all_buckets, Serve, Serves}
 use Rattle.mm_relation.specs.Declaring.{declaration, IsAdded, IsDeclaredOf, without_first, is_index, without_of}
 use Rattle.mm_relation.specs.Changes.{has_declared_on}
 use Rattle.mm_relation.specs.Seen.{state}
@@ -34,6 +35,10 @@ pushed_of f p all new on e =
     ∙ ap (λ ss. map f (filter p ss)) (map-append seen all (on ∷ []))
     ∙ ap (map f) (filter-append p (map seen all) (seen on ∷ [])) ∙ map-append f (filter p (map seen all)) (filter p (seen on ∷ []))
 
+-- what an index shows under a declaration
+abbrev shown_as : DeclaredIndex → Index → SeenIndex
+shown_as d index = record { declaration = d; tree = tree_in index; entries = entries_in index; buckets = buckets_in index }
+
 -- what the elements that pass two tests tell, without the first, and what the others tell
 first_gone : {A B : Type 0} (f : A → B) (at : B → Bool) (kind : A → Bool) (xs : List A) → map f (filter kind (without_first (λ x. at (f x) && kind x) xs)) ≡ without_first at (map f (filter kind xs))
 first_gone f at kind xs = ap (map f) (filter-without_first (λ x. at (f x)) kind xs) ∙ sym (without_first-map at f (filter kind xs))
@@ -42,23 +47,31 @@ module _ (counted : Bool) (schema : Schema) (targets : List (Option ℕ)) (decla
   pub current_with : (keys : Keys) (others : List DeclaredIndex) (new : Indexes) → IsCurrent keys (state counted schema targets declared rows tree all) → Serve keys rows (tree_list tree) new → IsCurrent keys (state counted schema targets others rows tree new)
   current_with keys others new current serves = record { readable = current.readable; trees = trees_served keys rows (tree_list tree) (map seen new) serves; hashes = hashes_served keys rows (tree_list tree) (map seen new) serves }
 
+  -- what the hashes show stays where a tree is declared or dropped, and has one more or one less where a hash is
+  module _ {B : Type 0} (X : SeenIndex → B) where
+    abbrev of_hashes : List SeenIndex → List (ℕ × B)
+    of_hashes ss = map (λ s. (s.declaration.column.0, X s)) (filter (λ s. not (is_tree s.declaration.kind)) ss)
+
+    shown_more : (new : Indexes) (on : IndexOn) (d : DeclaredIndex) → declaration_of on ≡ d → new ≡ all ++ on ∷ [] → of_hashes (map seen new) ≡ of_hashes (map seen all) ++ of_hashes (shown_as d on.index ∷ [])
+    shown_more new on d same e =
+        pushed_of (λ (s : SeenIndex). (s.declaration.column.0, X s)) (λ s. not (is_tree s.declaration.kind)) all new on e
+        ∙ (λ i. of_hashes (map seen all) ++ of_hashes (shown_as (same i) on.index ∷ []))
+
   pub declared_added : (kind : IndexKind) (column : ColumnNumber) (new : Indexes) → IsAdded (declaration column kind) all new → IsDeclaredOf kind column (state counted schema targets declared rows tree all) (state counted schema targets (declared ++ declaration column kind ∷ []) rows tree new)
   declared_added Tree column new (on, same, e) =
       let trees : trees_of (map seen new) ≡ trees_of (map seen all) ++ (column.0, tree_in on.index) ∷ [] =
       pushed_of (λ (s : SeenIndex). (s.declaration.column.0, s.tree)) (λ s. is_tree s.declaration.kind) all new on e
-      ∙ (λ i. trees_of (map seen all) ++ trees_of (record { declaration = same i; tree = tree_in on.index; entries = entries_in on.index } ∷ [])) in
-      let hashes : hashes_of (map seen new) ≡ hashes_of (map seen all) =
-      pushed_of (λ (s : SeenIndex). (s.declaration.column.0, s.entries)) (λ s. not (is_tree s.declaration.kind)) all new on e
-      ∙ (λ i. hashes_of (map seen all) ++ hashes_of (record { declaration = same i; tree = tree_in on.index; entries = entries_in on.index } ∷ [])) ∙ append-nil _ in
-      (tree_in on.index, λ i. record (state counted schema targets (declared ++ declaration column Tree ∷ []) rows tree all) { trees = trees i; hashes = hashes i })
+      ∙ (λ i. trees_of (map seen all) ++ trees_of (shown_as (same i) on.index ∷ [])) in
+      let hashes : hashes_of (map seen new) ≡ hashes_of (map seen all) = shown_more (λ s. s.entries) new on (declaration column Tree) same e ∙ append-nil _ in
+      let buckets : all_buckets (map seen new) ≡ all_buckets (map seen all) = shown_more (λ s. s.buckets) new on (declaration column Tree) same e ∙ append-nil _ in
+      (tree_in on.index, λ i. record (state counted schema targets (declared ++ declaration column Tree ∷ []) rows tree all) { trees = trees i; hashes = hashes i; buckets = buckets i })
   declared_added Hash column new (on, same, e) =
       let trees : trees_of (map seen new) ≡ trees_of (map seen all) =
       pushed_of (λ (s : SeenIndex). (s.declaration.column.0, s.tree)) (λ s. is_tree s.declaration.kind) all new on e
-      ∙ (λ i. trees_of (map seen all) ++ trees_of (record { declaration = same i; tree = tree_in on.index; entries = entries_in on.index } ∷ [])) ∙ append-nil _ in
-      let hashes : hashes_of (map seen new) ≡ hashes_of (map seen all) ++ (column.0, entries_in on.index) ∷ [] =
-      pushed_of (λ (s : SeenIndex). (s.declaration.column.0, s.entries)) (λ s. not (is_tree s.declaration.kind)) all new on e
-      ∙ (λ i. hashes_of (map seen all) ++ hashes_of (record { declaration = same i; tree = tree_in on.index; entries = entries_in on.index } ∷ [])) in
-      (entries_in on.index, λ i. record (state counted schema targets (declared ++ declaration column Hash ∷ []) rows tree all) { trees = trees i; hashes = hashes i })
+      ∙ (λ i. trees_of (map seen all) ++ trees_of (shown_as (same i) on.index ∷ [])) ∙ append-nil _ in
+      let hashes : hashes_of (map seen new) ≡ hashes_of (map seen all) ++ (column.0, entries_in on.index) ∷ [] = shown_more (λ s. s.entries) new on (declaration column Hash) same e in
+      let buckets : all_buckets (map seen new) ≡ all_buckets (map seen all) ++ (column.0, buckets_in on.index) ∷ [] = shown_more (λ s. s.buckets) new on (declaration column Hash) same e in
+      (entries_in on.index, buckets_in on.index, λ i. record (state counted schema targets (declared ++ declaration column Hash ∷ []) rows tree all) { trees = trees i; hashes = hashes i; buckets = buckets i })
 
   -- an index fewer
   abbrev without : DeclaredIndex → Indexes
@@ -104,21 +117,29 @@ module _ (counted : Bool) (schema : Schema) (targets : List (Option ℕ)) (decla
     within = All-without_first (λ d. d.column.0 < length targets) (is_index (declaration column Hash)) declared kept.within;
   }
 
+  seen_less : (index : DeclaredIndex) → map seen (without index) ≡ without_first (λ s. is_index index s.declaration) (map seen all)
+  seen_less index = sym (without_first-map (λ (s : SeenIndex). is_index index s.declaration) seen all)
+
+  module _ {B : Type 0} (X : SeenIndex → B) (column : ColumnNumber) where
+    shown_still : of_hashes X (map seen (without (declaration column Tree))) ≡ of_hashes X (map seen all)
+    shown_still =
+        ap (of_hashes X) (seen_less (declaration column Tree))
+        ∙ ap (map (λ (s : SeenIndex). (s.declaration.column.0, X s))) (filter-without_other (λ (s : SeenIndex). is_index (declaration column Tree) s.declaration) (λ s. not (is_tree s.declaration.kind)) (map seen all) (λ s e. no_hash_like column s.declaration e))
+
+    shown_less : of_hashes X (map seen (without (declaration column Hash))) ≡ without_first (λ h. h.0 == column.0) (of_hashes X (map seen all))
+    shown_less =
+        ap (of_hashes X) (seen_less (declaration column Hash))
+        ∙ first_gone (λ (s : SeenIndex). (s.declaration.column.0, X s)) (λ h. h.0 == column.0) (λ s. not (is_tree s.declaration.kind)) (map seen all)
+
   pub state_without : (kind : IndexKind) (column : ColumnNumber) (others : List DeclaredIndex) → state counted schema targets others rows tree (without (declaration column kind)) ≡ without_of kind column.0 (state counted schema targets others rows tree all)
   state_without Tree column others =
-      let less : map seen (without (declaration column Tree)) ≡ without_first (λ s. is_index (declaration column Tree) s.declaration) (map seen all) = sym (without_first-map (λ (s : SeenIndex). is_index (declaration column Tree) s.declaration) seen all) in
       let trees : trees_of (map seen (without (declaration column Tree))) ≡ without_first (λ t. t.0 == column.0) (trees_of (map seen all)) =
-      ap trees_of less ∙ first_gone (λ (s : SeenIndex). (s.declaration.column.0, s.tree)) (λ t. t.0 == column.0) (λ s. is_tree s.declaration.kind) (map seen all) in
-      let hashes : hashes_of (map seen (without (declaration column Tree))) ≡ hashes_of (map seen all) =
-      ap hashes_of less ∙ ap (map (λ (s : SeenIndex). (s.declaration.column.0, s.entries))) (filter-without_other (λ (s : SeenIndex). is_index (declaration column Tree) s.declaration) (λ s. not (is_tree s.declaration.kind)) (map seen all) (λ s e. no_hash_like column s.declaration e)) in
-      λ i. record (state counted schema targets others rows tree all) { trees = trees i; hashes = hashes i }
+      ap trees_of (seen_less (declaration column Tree)) ∙ first_gone (λ (s : SeenIndex). (s.declaration.column.0, s.tree)) (λ t. t.0 == column.0) (λ s. is_tree s.declaration.kind) (map seen all) in
+      λ i. record (state counted schema targets others rows tree all) { trees = trees i; hashes = shown_still (λ s. s.entries) column i; buckets = shown_still (λ s. s.buckets) column i }
   state_without Hash column others =
-      let less : map seen (without (declaration column Hash)) ≡ without_first (λ s. is_index (declaration column Hash) s.declaration) (map seen all) = sym (without_first-map (λ (s : SeenIndex). is_index (declaration column Hash) s.declaration) seen all) in
       let trees : trees_of (map seen (without (declaration column Hash))) ≡ trees_of (map seen all) =
-      ap trees_of less ∙ ap (map (λ (s : SeenIndex). (s.declaration.column.0, s.tree))) (filter-without_other (λ (s : SeenIndex). is_index (declaration column Hash) s.declaration) (λ s. is_tree s.declaration.kind) (map seen all) (λ s e. no_tree_like column s.declaration e)) in
-      let hashes : hashes_of (map seen (without (declaration column Hash))) ≡ without_first (λ h. h.0 == column.0) (hashes_of (map seen all)) =
-      ap hashes_of less ∙ first_gone (λ (s : SeenIndex). (s.declaration.column.0, s.entries)) (λ h. h.0 == column.0) (λ s. not (is_tree s.declaration.kind)) (map seen all) in
-      λ i. record (state counted schema targets others rows tree all) { trees = trees i; hashes = hashes i }
+      ap trees_of (seen_less (declaration column Hash)) ∙ ap (map (λ (s : SeenIndex). (s.declaration.column.0, s.tree))) (filter-without_other (λ (s : SeenIndex). is_index (declaration column Hash) s.declaration) (λ s. is_tree s.declaration.kind) (map seen all) (λ s e. no_tree_like column s.declaration e)) in
+      λ i. record (state counted schema targets others rows tree all) { trees = trees i; hashes = shown_less (λ s. s.entries) column i; buckets = shown_less (λ s. s.buckets) column i }
 
   pub current_without : (kind : IndexKind) (column : ColumnNumber) (others : List DeclaredIndex) (keys : Keys) → IsCurrent keys (state counted schema targets declared rows tree all) → IsCurrent keys (without_of kind column.0 (state counted schema targets others rows tree all))
   current_without Tree column others keys current = record {

@@ -20,7 +20,7 @@ use Rattle.mm_relation.specs.Rows.{Row}
 use Rattle.mm_relation.specs.declared.numbers.DeclaredIndex.{DeclaredIndex}
 use Rattle.mm_relation.specs.Reading.{Keys, row_value}
 use Rattle.mm_relation.specs.State.{RelationState, HasKey, RowTree, tree_list, IsKeyed, IsKept, IsCurrent, IsReadable, TreeServes, HashServes, columns_with_tree, columns_with_hash, is_tree}
-use Rattle.mm_relation.specs.Indexes.{Indexes, SeenIndex, seen, declaration_of, kind_in, trees_of, hashes_of, Where, Serve, Serves, CanRead, CanReadRow, IsColumn}
+use Rattle.mm_relation.specs.Indexes.{Indexes, SeenIndex, seen, declaration_of, kind_in, trees_of, hashes_of, all_buckets, Where, Serve, Serves, CanRead, CanReadRow, IsColumn}
 use Rattle.mm_relation.specs.Seen.{state}
 use Rattle.mm_relation.proofs.KeyOrder.{not_taken}
 
@@ -63,7 +63,7 @@ module _ (keys : Keys) (rows : Tuples Row) (refs : List TupleRef) where
 module _ (counted : Bool) (schema : Schema) (targets : List (Option ℕ)) (declared : List DeclaredIndex) where
   -- a relation is seen by what its indexes show
   pub same_state : (rows now : Tuples Row) (tree now_tree : RowTree) (all new : Indexes) → now ≡ rows → now_tree ≡ tree → map seen new ≡ map seen all → state counted schema targets declared now now_tree new ≡ state counted schema targets declared rows tree all
-  same_state rows now tree now_tree all new r l same = λ i. record { schema = schema; targets = targets; declared = declared; rows = r i; by_key = l i; trees = trees_of (same i); hashes = hashes_of (same i); counted = counted }
+  same_state rows now tree now_tree all new r l same = λ i. record { schema = schema; targets = targets; declared = declared; rows = r i; by_key = l i; trees = trees_of (same i); hashes = hashes_of (same i); buckets = all_buckets (same i); counted = counted }
 
   within_declared : (test : DeclaredIndex → Bool) → All (λ d. d.column.0 < length targets) declared → (c : ℕ) → Contains (map (λ d. d.column.0) (filter test declared)) c → c < length targets
   within_declared test within c h =

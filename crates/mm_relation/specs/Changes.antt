@@ -12,7 +12,7 @@ use Rattle.mm_relation.specs.declared.refusal.RowRefusal.{RowRefusal}
 use Rattle.mm_relation.specs.declared.refusal.RowRefusal.TheVariants.{KeyExists, Full, NoMemory}
 use Rattle.plain_tables.specs.declared.numbers.ColumnNumber.{ColumnNumber}
 use Rattle.mm_relation.specs.Settings.{CellsSet}
-use Rattle.mm_relation.specs.State.{RelationState, RowTree, tree_list, tree_of, HasKey, entries_on}
+use Rattle.mm_relation.specs.State.{RelationState, RowTree, tree_list, tree_of, HasKey, entries_on, buckets_on}
 
 -- all but the rows, and with them the indexes' contents, is as it was
 pub record KeepsSchema (old new : RelationState) : Type 0 where
@@ -85,6 +85,10 @@ HasHash s column = IsTrue (has_hash_on s column)
 -- the entries of the hash on this column
 abbrev pub entries_of : RelationState → ℕ → List (ℕ × TupleRef)
 entries_of s column = entries_on column s.hashes
+
+-- the number of buckets of the hash on this column
+abbrev pub buckets_of : RelationState → ℕ → ℕ
+buckets_of s column = buckets_on column s.buckets
 
 -- a row with this number of links that name it
 abbrev pub with_referrers : ℕ → Row → Row

@@ -16,7 +16,7 @@ use Rattle.mm_relation.specs.State.{RelationState, RowTree, is_tree}
 -- these columns and nothing else: no row, no declared index, no column whose links lead anywhere
 abbrev pub new_relation : Schema → RelationState
 new_relation schema =
-    record { schema = schema; targets = replicate (length schema.columns) None; declared = []; rows = finite.empty; by_key = empty; trees = []; hashes = []; counted = false }
+    record { schema = schema; targets = replicate (length schema.columns) None; declared = []; rows = finite.empty; by_key = empty; trees = []; hashes = []; buckets = []; counted = false }
 
 -- the declaration of an index
 abbrev pub declaration : ColumnNumber → IndexKind → DeclaredIndex
@@ -26,12 +26,14 @@ declaration column kind = record { column = column; kind = kind }
 abbrev pub IsAdded : DeclaredIndex → Indexes → Indexes → Type 0
 IsAdded index old new = (on : IndexOn) × (declaration_of on ≡ index) × (new ≡ old ++ on ∷ [])
 
--- the new relation has one declared index more, the last, and nothing else changed: some tree, or a hash with some entries
+-- the new relation has one declared index more, the last, and nothing else changed: some tree, or a hash with some entries in some number
+-- of buckets
 abbrev pub IsDeclaredOf : IndexKind → ColumnNumber → RelationState → RelationState → Type 0
 IsDeclaredOf Tree column old new =
     (tree : RowTree) × (new ≡ record old { declared = old.declared ++ declaration column Tree ∷ []; trees = old.trees ++ (column.0, tree) ∷ [] })
 IsDeclaredOf Hash column old new =
-    (entries : List (ℕ × TupleRef)) × (new ≡ record old { declared = old.declared ++ declaration column Hash ∷ []; hashes = old.hashes ++ (column.0, entries) ∷ [] })
+    (entries : List (ℕ × TupleRef)) × (buckets : ℕ)
+    × (new ≡ record old { declared = old.declared ++ declaration column Hash ∷ []; hashes = old.hashes ++ (column.0, entries) ∷ []; buckets = old.buckets ++ (column.0, buckets) ∷ [] })
 
 abbrev pub IsDeclared : RelationState → RelationState → DeclaredIndex → Type 0
 IsDeclared old new index = IsDeclaredOf index.kind index.column old new
@@ -53,7 +55,7 @@ is_index index other = (other.column.0 == index.column.0) && is_kind index.kind 
 -- the first such declared index is gone, and nothing else changed
 abbrev pub without_of : IndexKind → ℕ → RelationState → RelationState
 without_of Tree column s = record s { trees = without_first (λ t. t.0 == column) s.trees }
-without_of Hash column s = record s { hashes = without_first (λ h. h.0 == column) s.hashes }
+without_of Hash column s = record s { hashes = without_first (λ h. h.0 == column) s.hashes; buckets = without_first (λ b. b.0 == column) s.buckets }
 
 abbrev pub without_index : RelationState → DeclaredIndex → RelationState
 without_index s index = without_of index.kind index.column.0 (record s { declared = without_first (is_index index) s.declared })

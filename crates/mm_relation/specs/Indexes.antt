@@ -41,6 +41,11 @@ abbrev pub entries_in : Index → List (ℕ × TupleRef)
 entries_in (Tree t) = []
 entries_in (Hash h) = h.entries
 
+-- the number of buckets of the hash that it is
+abbrev pub buckets_in : Index → ℕ
+buckets_in (Tree t) = 0
+buckets_in (Hash h) = h.buckets
+
 -- how many inserts it is sure of
 abbrev pub room_in : Index → ℕ
 room_in (Tree t) = room_of 30 t
@@ -72,14 +77,16 @@ declared_as column index = record { column = column; kind = kind_in index }
 abbrev pub declaration_of : IndexOn → DeclaredIndex
 declaration_of on = declared_as on.column on.index
 
--- an index as a relation shows it: its declaration, its tree where it is one, and its entries where it is a hash
+-- an index as a relation shows it: its declaration, its tree where it is one, and its entries and the number of its buckets where
+-- it is a hash
 pub record SeenIndex : Type 0 where
   pub declaration : DeclaredIndex
   pub tree : RowTree
   pub entries : List (ℕ × TupleRef)
+  pub buckets : ℕ
 
 abbrev pub seen_as : ColumnNumber → Index → SeenIndex
-seen_as column index = record { declaration = declared_as column index; tree = tree_in index; entries = entries_in index }
+seen_as column index = record { declaration = declared_as column index; tree = tree_in index; entries = entries_in index; buckets = buckets_in index }
 
 abbrev pub seen : IndexOn → SeenIndex
 seen on = seen_as on.column on.index
@@ -90,6 +97,10 @@ trees_of all = map (λ s. (s.declaration.column.0, s.tree)) (filter (λ s. is_tr
 
 abbrev pub hashes_of : List SeenIndex → List (ℕ × List (ℕ × TupleRef))
 hashes_of all = map (λ s. (s.declaration.column.0, s.entries)) (filter (λ s. not (is_tree s.declaration.kind)) all)
+
+-- the numbers of buckets of the hashes, each with its column
+abbrev pub all_buckets : List SeenIndex → List (ℕ × ℕ)
+all_buckets all = map (λ s. (s.declaration.column.0, s.buckets)) (filter (λ s. not (is_tree s.declaration.kind)) all)
 
 -- one thing where a test passes, and another where it doesn't
 abbrev pub Where : Bool → Type 0 → Type 0 → Type 0

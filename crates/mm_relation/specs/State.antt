@@ -1,6 +1,6 @@
 -- What a relation is seen as, what it keeps by itself, and what holds of it beside the relations that its links lead into.
 use Rattle.std.specs.List.{list_any}
-use Rattle.std.specs.Prelude.{Bool, true, false, not, filter, ◌≡◌, ℕ, ◌<◌, ◌≤◌, ◌==◌, if◌then◌else◌, IsTrue, [], ◌∷◌, List, Option, Some, None, IsSome, refl, length, map, slice_get, All, Contains}
+use Rattle.std.specs.Prelude.{Bool, true, false, not, filter, ◌≡◌, ℕ, zero, ◌<◌, ◌≤◌, ◌==◌, if◌then◌else◌, IsTrue, [], ◌∷◌, List, Option, Some, None, IsSome, refl, length, map, slice_get, All, Contains}
 use Rattle.std.specs.Coded.{Coded, code_by, coded×, coded_bool, coded_ℕ, coded_list, coded_option}
 use Rattle.std.specs.Option.{option_and_then}
 use Rattle.std.specs.FinMap as finite
@@ -28,7 +28,8 @@ abbrev pub tree_list : RowTree → List TupleRef
 tree_list t = list t
 
 -- The schema; the table that each column's links lead into; the declared indexes; the rows; the key's tree; the column and the
--- tree of each declared tree; the column and the entries of each declared hash; whether the rows' referrers are counted.
+-- tree of each declared tree; the column and the entries of each declared hash; the column and the number of buckets of each;
+-- whether the rows' referrers are counted.
 pub record RelationState : Type 0 where
   pub schema : Schema
   pub targets : List (Option ℕ)
@@ -37,14 +38,15 @@ pub record RelationState : Type 0 where
   pub by_key : RowTree
   pub trees : List (ℕ × RowTree)
   pub hashes : List (ℕ × List (ℕ × TupleRef))
+  pub buckets : List (ℕ × ℕ)
   pub counted : Bool
 
 abbrev pub state_code : Coded Schema → Coded DeclaredIndex → Coded Row → Coded RelationState
 state_code schema index row =
-    code_by (Schema × (List (Option ℕ) × (List DeclaredIndex × (Tuples Row × (RowTree × (List (ℕ × RowTree) × (List (ℕ × List (ℕ × TupleRef)) × Bool)))))))
-    (coded× schema (coded× (coded_list (coded_option coded_ℕ)) (coded× (coded_list index) (coded× (finite.code ref_code row) (coded× (tree_code (label_code ref_code)) (coded× (coded_list (coded× coded_ℕ (tree_code (label_code ref_code)))) (coded× (coded_list (coded× coded_ℕ (coded_list (coded× coded_ℕ ref_code)))) coded_bool)))))))
-    (λ s. (s.schema, (s.targets, (s.declared, (s.rows, (s.by_key, (s.trees, (s.hashes, s.counted))))))))
-    (λ p. record { schema = p.0; targets = p.1.0; declared = p.1.1.0; rows = p.1.1.1.0; by_key = p.1.1.1.1.0; trees = p.1.1.1.1.1.0; hashes = p.1.1.1.1.1.1.0; counted = p.1.1.1.1.1.1.1 }) (λ _. refl)
+    code_by (Schema × (List (Option ℕ) × (List DeclaredIndex × (Tuples Row × (RowTree × (List (ℕ × RowTree) × (List (ℕ × List (ℕ × TupleRef)) × (List (ℕ × ℕ) × Bool))))))))
+    (coded× schema (coded× (coded_list (coded_option coded_ℕ)) (coded× (coded_list index) (coded× (finite.code ref_code row) (coded× (tree_code (label_code ref_code)) (coded× (coded_list (coded× coded_ℕ (tree_code (label_code ref_code)))) (coded× (coded_list (coded× coded_ℕ (coded_list (coded× coded_ℕ ref_code)))) (coded× (coded_list (coded× coded_ℕ coded_ℕ)) coded_bool))))))))
+    (λ s. (s.schema, (s.targets, (s.declared, (s.rows, (s.by_key, (s.trees, (s.hashes, (s.buckets, s.counted)))))))))
+    (λ p. record { schema = p.0; targets = p.1.0; declared = p.1.1.0; rows = p.1.1.1.0; by_key = p.1.1.1.1.0; trees = p.1.1.1.1.1.0; hashes = p.1.1.1.1.1.1.0; buckets = p.1.1.1.1.1.1.1.0; counted = p.1.1.1.1.1.1.1.1 }) (λ _. refl)
 
 -- no link leads anywhere: what an order by keys needs of links
 abbrev pub no_keys : Keys
@@ -128,6 +130,11 @@ pub record LentRow : Type 0 where
 abbrev pub entries_on : ℕ → List (ℕ × List (ℕ × TupleRef)) → List (ℕ × TupleRef)
 entries_on column [] = []
 entries_on column (h ∷ rest) = if h.0 == column then h.1 else entries_on column rest
+
+-- the number of buckets of the first hash on a column
+abbrev pub buckets_on : ℕ → List (ℕ × ℕ) → ℕ
+buckets_on column [] = zero
+buckets_on column (b ∷ rest) = if b.0 == column then b.1 else buckets_on column rest
 
 -- a hash stands on this column
 abbrev pub HasHashColumn : ℕ → List (ℕ × List (ℕ × TupleRef)) → Type 0

@@ -5,8 +5,8 @@ ghost use Rattle.mm_relation.specs.declared.index.IndexOn.{IndexOn};
 ghost use Rattle.mm_relation.specs.Order.{KeysDiffer};
 ghost use Rattle.mm_relation.specs.Declaring.{is_index};
 ghost use Rattle.mm_relation.specs.Settings.{sets_column};
-ghost use Rattle.mm_relation.specs.State.{tree_of, entries_on, HasColumn, HasHashColumn};
-ghost use Rattle.mm_relation.specs.Indexes.{seen, declaration_of, room_in, wanted, CoversIn, spares_in, HasFewSpares, trees_of, hashes_of, Awaits, Gains, Has, Loses, GainsSet, AwaitsSet, LosesSet, HaveRoom, Cover, Await, Gain, Have, Lose, AwaitSet, GainSet, LoseSet};
+ghost use Rattle.mm_relation.specs.State.{tree_of, entries_on, buckets_on, HasColumn, HasHashColumn};
+ghost use Rattle.mm_relation.specs.Indexes.{seen, declaration_of, room_in, wanted, CoversIn, spares_in, HasFewSpares, trees_of, hashes_of, all_buckets, Awaits, Gains, Has, Loses, GainsSet, AwaitsSet, LosesSet, HaveRoom, Cover, Await, Gain, Have, Lose, AwaitSet, GainSet, LoseSet};
 
 use crate::index::{Index, IndexOn};
 use crate::linked_keys::LinkedKeys;
@@ -260,7 +260,8 @@ pub fn tree_on(indexes: &[IndexOn], column: ColumnNumber) -> &Tree
 // The first hash on this column.
 pub fn hash_on(indexes: &[IndexOn], column: ColumnNumber) -> &RowHash
     requires { HasHashColumn column.0 (hashes_of (map seen indexes.now)) }
-    ensures { result.now.entries ≡ entries_on column.0 (hashes_of (map seen indexes.now)) }
+    ensures entries { result.now.entries ≡ entries_on column.0 (hashes_of (map seen indexes.now)) }
+    ensures buckets { result.now.buckets ≡ buckets_on column.0 (all_buckets (map seen indexes.now)) }
 {
     let Some((first, rest)) = indexes.split_first() else {
         unreachable!()

@@ -66,7 +66,7 @@ impl Relation {
     ghost use Rattle.plain_tables.specs.Values.{value_cmp};
     ghost use Rattle.mm_relation.specs.Reading.{Keys, key_at, value_at, cell_value};
     ghost use Rattle.mm_relation.specs.State.{IsReadable, IsCurrent, HasKey, linked_keys, no_keys, tree_list};
-    ghost use Rattle.mm_relation.specs.Changes.{IsInserted, IsRemoved, IsChanged, IsToldRightly, HasTree, HasHash, has_tree_on, has_hash_on, has_declared_on, tree_on, list_of, entries_of, Refers};
+    ghost use Rattle.mm_relation.specs.Changes.{IsInserted, IsRemoved, IsChanged, IsToldRightly, HasTree, HasHash, has_tree_on, has_hash_on, has_declared_on, tree_on, list_of, entries_of, buckets_of, Refers};
     ghost use Rattle.mm_relation.specs.Searching.{most_compared};
     ghost use Rattle.mm_relation.specs.Settings.{link_set};
     ghost use Rattle.ttree.specs.Shape.{HasShape, IsWellShaped};
@@ -205,7 +205,8 @@ impl Relation {
     // The hash on a column.
     fn hash(&self, column: ColumnNumber) -> &RowHash
         requires { HasHash self.now column.0 }
-        ensures { result.now.entries ≡ entries_of self.now column.0 }
+        ensures entries { result.now.entries ≡ entries_of self.now column.0 }
+        ensures buckets { result.now.buckets ≡ buckets_of self.now column.0 }
     {
         hash_on(self.indexes.as_slice(), column)
     }
@@ -214,6 +215,7 @@ impl Relation {
     pub fn hash_shape(&self, column: ColumnNumber) -> HashShape
         requires { HasHash self.now column.0 }
         ensures told { HasHashShape (entries_of self.now column.0) result }
+        ensures buckets { result.buckets ≡ buckets_of self.now column.0 }
         // It has each row once.
         ensures rows { (keys : Keys) → IsCurrent keys self.now → result.items ≡ finite.len self.now.rows }
     {

@@ -51,7 +51,8 @@ pub fn shed_tree(tree: &mut Tree)
 // Gives the spare memory of a hash back where it has more than a few nodes in blocks without a row and more than a quarter
 // as many as entries, or room for more than a few heads and for more than twice as many as buckets.
 pub fn shed_hash(hash: &mut RowHash)
-    ensures { hash.new.entries ≡ hash.old.entries }
+    ensures entries { hash.new.entries ≡ hash.old.entries }
+    ensures buckets { hash.new.buckets ≡ hash.old.buckets }
 {
     let (heads, entries) = (hash.heads(), hash.len());
     let has_spare_nodes = hash.spare_nodes() > FEW_HASH_NODES.max(entries / ENTRIES_A_SPARE_NODE);

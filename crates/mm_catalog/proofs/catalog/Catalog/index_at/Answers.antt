@@ -52,5 +52,5 @@ returns-in-Hash c =
       declared = numbered s ok c.args.table.0 r there c.args.number d is ∙ ap (λ kind. Some (d.column.0, kind)) c.in-Hash.is;
       stands =
           tells_hash s ok c.args.table.0 r there d.column.0 c.hash_shape.result (numbered_has_hash s ok c.args.table.0 r there c.args.number d is c.in-Hash.is)
-          c.hash_shape.ensures.told (c.hash_shape.ensures.rows (linked_keys r.targets s.relations) current);
+          c.hash_shape.ensures.told c.hash_shape.ensures.buckets (c.hash_shape.ensures.rows (linked_keys r.targets s.relations) current);
     }
