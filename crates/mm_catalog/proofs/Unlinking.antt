@@ -1,25 +1,18 @@
 -- All links of a relation's rows go, row after row.
-use Rattle.std.proofs.Common.{◌≡◌, ℕ, ◌+◌, true, List, [], ◌∷◌, ◌++◌, Some, IsSome, refl, sym, ap, ◌∙◌, subst, arith, append-nil}
+use Rattle.std.proofs.Common.{◌≡◌, ℕ, ◌+◌, List, [], ◌∷◌, ◌++◌, Some, IsSome, refl, sym, ap, ◌∙◌, subst, arith, append-nil}
 use Rattle.std.specs.List.{Contains, flat_map}
 use Rattle.std.specs.Option.{option_map_or}
 use Rattle.std.specs.FinMap as finite
-use Rattle.std.specs.declared.cmp.Ordering.TheVariants.{Equal}
 use Rattle.std.proofs.lemmas.Grind.{flat_map-append}
 use Rattle.std.proofs.lemmas.List.Elements.{All-contains, Contains-append_right}
-use Rattle.common_lemmas.proofs.Filters.{filter_all}
 use Rattle.part_raw.proofs.Tuples.{held_tuple}
 use Rattle.part_raw.specs.declared.tuple_ref.TupleRef.{TupleRef}
-use Rattle.mm_index.specs.Range.{from_range}
 use Rattle.mm_relation.specs.Rows.{Row}
 use Rattle.mm_relation.specs.State.{tree_list, RelationState, IsKept}
 use Rattle.mm_catalog.specs.Linked.{Linked, row_links, relation_links}
 use Rattle.mm_catalog.specs.Counted as counted
 use Rattle.mm_catalog.specs.Counted.{HaveAtLeast, AreCountedBy, none}
 use Rattle.mm_catalog.proofs.Counted.{naming-append, down_then, counted_as, enough_left}
-
--- a range that has all has the whole list
-pub from_all : (xs : List TupleRef) → from_range (λ r. Equal) xs ≡ xs
-from_all xs = filter_all (λ r. true) xs (λ k d l. refl)
 
 module _ (s : RelationState) where
   abbrev links_of : TupleRef → List Linked

@@ -1,6 +1,5 @@
 //! A relation that goes from among others: the rows that its links name, and the numbers of those behind it.
 ghost use Rattle.std.specs.Prelude.{◌≡◌, ◌<◌, ◌≤◌, ◌++◌, All, length, map, take, drop};
-ghost use Rattle.std.specs.declared.cmp.Ordering.TheVariants.{Equal};
 ghost use Rattle.mm_catalog.specs.Linked.{relation_links};
 ghost use Rattle.mm_catalog.specs.Counted.{AreCountedBy, naming, none};
 ghost use Rattle.mm_catalog.specs.Standing.{StandsBeside, Stands};
@@ -8,31 +7,7 @@ ghost use Rattle.mm_catalog.specs.Dropped.{with_column_moved, renumbered, IsUnli
 
 use crate::references::counting::count_down_links;
 use mm_relation::laws::a_relation_is_kept;
-use mm_relation::{ColumnNumber, Probe, Relation, TableNumber, TupleRef};
-use std::cmp::Ordering;
-
-// A probe with all rows in its range.
-#[derive(Drop)]
-struct AllRows {
-    asked: u64,
-}
-
-impl Probe for AllRows {
-    ghost can_place = { λ _ _. Unit {0} };
-
-    ghost place = { λ _ _. Equal };
-
-    ghost asked = { λ p. p.asked };
-
-    fn place(&mut self, _r: TupleRef) -> Ordering {
-        self.asked = self.asked.saturating_add(1);
-        Ordering::Equal
-    }
-
-    fn asked(&self) -> u64 {
-        self.asked
-    }
-}
+use mm_relation::{ColumnNumber, Relation, TableNumber};
 
 // The rows that the links of a relation name have fewer referrers, as many as there are such links.
 fn count_down_relation(before: &mut [Relation], relation: &Relation)
@@ -40,7 +15,7 @@ fn count_down_relation(before: &mut [Relation], relation: &Relation)
     ensures { AreCountedBy before.old before.new none (naming (relation_links relation.now)) }
 {
     a_relation_is_kept(relation);
-    for r in relation.walk_column(ColumnNumber(0), &mut AllRows { asked: 0 }) {
+    for r in relation.walk() {
         count_down_links(before, relation, r);
     }
 }

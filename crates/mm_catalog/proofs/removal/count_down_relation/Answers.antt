@@ -4,13 +4,12 @@ use Rattle.ttree.specs.Held.{rest_of}
 use Rattle.mm_catalog.proofs.Removing.{links_held}
 use Rattle.mm_catalog.specs.Linked.{row_links}
 use Rattle.mm_catalog.proofs.Counted.{all_held_still, counted_none}
-use Rattle.mm_catalog.proofs.Unlinking.{from_all, listed_row, unlinked_next, enough_next, unlinked_whole}
+use Rattle.mm_catalog.proofs.Unlinking.{listed_row, unlinked_next, enough_next, unlinked_whole}
 use Rattle.mm_catalog.proofs.removal.count_down_relation.Goals as goal
-use Rattle.mm_relation.specs.State.{tree_list}
 
 pub loop-r-init : goal.loop-r-init
 loop-r-init c = record {
-  split = sym (from_all (tree_list c.args.relation.now.by_key)) ∙ sym c.walk_column-r-items.ensures.rest ∙ ap rest_of (sym c.into_iter-r-iterator.ensures.into_iter_gives);
+  split = sym c.walk-r-items.ensures ∙ ap rest_of (sym c.into_iter-r-iterator.ensures.into_iter_gives);
   counted = counted_none c.args.before.now c.requires.kept;
 }
 
