@@ -1,7 +1,8 @@
 -- Lists, by what they have at each place.
-use Rattle.std.proofs.Common.{◌≡◌, ◌≢◌, ℕ, zero, suc, ◌<◌, List, [], ◌∷◌, Some, refl, sym, ap, ◌∙◌, arith, length, map, set, take, drop, get_or, ◌++◌}
+use Rattle.std.proofs.Common.{◌≡◌, ◌≢◌, ℕ, zero, suc, ◌+◌, ◌<◌, List, [], ◌∷◌, Some, refl, sym, ap, ◌∙◌, arith, length, map, set, take, drop, get_or, add-one, ◌++◌}
 use Rattle.std.specs.List.{slice_get, zip, All}
 use Rattle.std.proofs.Math.Seq.{take-append_seam}
+use Rattle.std.proofs.lemmas.List.{length-drop, drop-set-lt}
 use Rattle.std.proofs.lemmas.Option.{none-some, same_Some}
 use Rattle.std.proofs.lemmas.List.Elements.{All-head, All-tail}
 
@@ -67,3 +68,34 @@ set_first_behind (y ∷ ys) (suc n) x h = ap (λ zs. y ∷ zs) (set_first_behind
 -- a list that is written back whole
 pub whole : {A : Type 0} (xs ys : List A) (n : ℕ) → length xs ≡ n → take n (xs ++ ys) ≡ xs
 whole xs ys n e = ap (λ m. take m (xs ++ ys)) (sym e) ∙ take-append_seam xs ys
+
+-- the next element is the first of what is left
+pub get-drop : {A : Type 0} (xs : List A) (n : ℕ) → slice_get xs n ≡ slice_get (drop n xs) 0
+get-drop [] zero = refl
+get-drop [] (suc n) = refl
+get-drop (x ∷ xs) zero = refl
+get-drop (x ∷ xs) (suc n) = get-drop xs n
+
+drop-behind : {A : Type 0} (xs : List A) (n : ℕ) → drop 1 (drop n xs) ≡ drop (suc n) xs
+drop-behind [] zero = refl
+drop-behind [] (suc n) = refl
+drop-behind (x ∷ xs) zero = refl
+drop-behind (x ∷ xs) (suc n) = drop-behind xs n
+
+drop-one : {A : Type 0} (xs : List A) (n : ℕ) → drop 1 (drop n xs) ≡ drop (n + 1) xs
+drop-one xs n = drop-behind xs n ∙ ap (λ k. drop k xs) (sym (add-one n))
+
+-- where so many elements went, something is left, and then one element less
+module _ {A : Type 0} (all : List A) {left : List A} (n : ℕ) (are : left ≡ drop n all) where
+  pub drop-some : n < length all → 0 < length left
+  drop-some within = let count = ap length are ∙ length-drop n all in omega (arith, count)
+
+  pub drop-next : drop 1 left ≡ drop (n + 1) all
+  drop-next = ap (drop 1) are ∙ drop-one all n
+
+-- an element that is left is there, and one that goes leaves the others
+pub drop-inside : {A : Type 0} (xs : List A) (n : ℕ) → 0 < length (drop n xs) → n < length xs
+drop-inside xs n some = let count = length-drop n xs in omega (arith, some, count)
+
+pub drop-set : {A : Type 0} (xs : List A) (n : ℕ) (x : A) → drop (n + 1) (set xs n x) ≡ drop 1 (drop n xs)
+drop-set xs n x = drop-set-lt (n + 1) xs n x (omega arith) ∙ sym (drop-one xs n)

@@ -2,7 +2,7 @@
 //!
 //! Each row that comes into a table has its key sought there. Where keys rise from row to row, neighbours' searches go by the
 //! same nodes and rows, which the caches then hold.
-ghost use Rattle.std.specs.Prelude.{◌≡◌, ◌<◌, All, IfSome, length, map, option_copied, slice_get};
+ghost use Rattle.std.specs.Prelude.{◌≡◌, IfSome, map, option_copied, slice_get};
 ghost use Rattle.std.specs.List.Sorted.{IsPermutation};
 ghost use Rattle.plain_tables.specs.Tables.{key_cmp};
 ghost use Rattle.mm_catalog.specs.LoadOrder.{row_at};
@@ -46,8 +46,7 @@ fn number_of(row: &Sequence<Value>) -> i64 {
 
 // The number and the place of each row, in the order of the block. None where no memory is found.
 fn keys_of(alloc: Global, rows: &[Sequence<Value>]) -> Option<Vec<KeyPlace>>
-    ensures each { IfSome result (λ keys. map (row_at rows.now) keys.items ≡ rows.now) }
-    ensures places { IfSome result (λ keys. All (λ k. k.1 < length rows.now) keys.items) }
+    ensures { IfSome result (λ keys. map (row_at rows.now) keys.items ≡ rows.now) }
 {
     let mut keys = Vec::with_capacity(alloc, rows.len()).ok()?;
     for (place, row) in rows.iter().enumerate() {
@@ -93,8 +92,7 @@ fn counts(held: u64, rows: usize) -> bool {
 /// and the table, which holds so many rows, is empty or large with them. None where they stand so already, where a key stands
 /// twice, or no memory is found.
 pub fn rising_places(alloc: Global, held: u64, rows: &[Sequence<Value>]) -> Option<Vec<KeyPlace>>
-    ensures order { IfSome result (λ keys. IsPermutation rows.now (map (row_at rows.now) keys.items)) }
-    ensures places { IfSome result (λ keys. All (λ k. k.1 < length rows.now) keys.items) }
+    ensures { IfSome result (λ keys. IsPermutation rows.now (map (row_at rows.now) keys.items)) }
 {
     if !counts(held, rows.len()) {
         return None;

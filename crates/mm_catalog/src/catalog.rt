@@ -3,15 +3,16 @@ ghost use Rattle.std.specs.Prelude.{◌≡◌, ◌≢◌, ◌<◌, ◌≤◌, �
 ghost use Rattle.std.specs.List.{AllPairs};
 ghost use Rattle.std.specs.Option.{option_map};
 
-use crate::by_key::{KeyPlace, rising_places};
+use crate::by_key::rising_places;
 use crate::create::{aimed, any_refers_to, count_targets};
 use crate::declare::{declare, undeclare};
 use crate::delete::{delete, take_out};
-use crate::insert::{insert, insert_moved};
+use crate::insert::insert;
 use crate::laws::a_catalog_is_consistent;
-use crate::load::{in_record, room_for};
+use crate::load::{LoadedRows, MovedRows, PlacedRows, in_record, room_for};
 use crate::references::link::Link;
 use crate::removal::{renumber_behind, unlink};
+use crate::row_values::{LentValues, RowValues};
 use crate::updating::{set_rows, shed_links};
 use indexmap::IndexSet;
 use mm_relation::{DeclaredIndex, Relation, Relations, StoredCell, TreeShape};
@@ -229,36 +230,20 @@ impl Catalog {
         ensures inserted { OnOk result (HasEffect self.old self.new (done self.old.limits (database_of self.old) (resolved.Insert table values.now)) 1) }
         ensures refused { IfErr result (IsRefusedFor self.old self.new (done self.old.limits (database_of self.old) (resolved.Insert table values.now))) }
     {
-        self.copy_in(table, values)?;
+        self.put(table, LentValues { values })?;
         Ok(())
     }
 
-    // Puts a row into a table, its values copied, and gives its reference.
-    fn copy_in(&mut self, table: TableNumber, values: &[Value]) -> Result<TupleRef, Refusal>
-        requires { IsMeant self.old.limits (database_of self.old) (resolved.Insert table values.now) }
-        ensures inserted { OnOk result (HasEffect self.old self.new (done self.old.limits (database_of self.old) (resolved.Insert table values.now)) 1) }
-        ensures came { IfOk result (HasCome self.old self.new table.0 values.now) }
-        ensures refused { IfErr result (IsRefusedFor self.old self.new (done self.old.limits (database_of self.old) (resolved.Insert table values.now))) }
+    // Puts a row into a table, and gives its reference.
+    fn put<V: RowValues>(&mut self, table: TableNumber, values: V) -> Result<TupleRef, Refusal>
+        requires { IsMeant self.old.limits (database_of self.old) (resolved.Insert table (V.left values)) }
+        ensures inserted { OnOk result (HasEffect self.old self.new (done self.old.limits (database_of self.old) (resolved.Insert table (V.left values))) 1) }
+        ensures came { IfOk result (HasCome self.old self.new table.0 (V.left values)) }
+        ensures refused { IfErr result (IsRefusedFor self.old self.new (done self.old.limits (database_of self.old) (resolved.Insert table (V.left values)))) }
     {
         let alloc = *self.relations.allocator();
         insert(
             alloc,
-            self.relations.as_mut_slice(),
-            self.limits,
-            table,
-            values,
-            &mut self.cells,
-        )
-    }
-
-    // Puts a row into a table, its values moved, and gives its reference.
-    fn take_in(&mut self, table: TableNumber, values: Sequence<Value>) -> Result<TupleRef, Refusal>
-        requires { IsMeant self.old.limits (database_of self.old) (resolved.Insert table values) }
-        ensures inserted { OnOk result (HasEffect self.old self.new (done self.old.limits (database_of self.old) (resolved.Insert table values)) 1) }
-        ensures came { IfOk result (HasCome self.old self.new table.0 values) }
-        ensures refused { IfErr result (IsRefusedFor self.old self.new (done self.old.limits (database_of self.old) (resolved.Insert table values))) }
-    {
-        insert_moved(
             self.relations.as_mut_slice(),
             self.limits,
             table,
@@ -293,7 +278,7 @@ impl Catalog {
         if self.load_by_key(table, rows.as_slice()) {
             return Ok(());
         }
-        self.load_each(table, rows)
+        self.load(table, MovedRows::new(rows))
     }
 
     // Puts rows into a table in the order of their keys, where that serves and all of them come in. Else it leaves the tables
@@ -306,50 +291,28 @@ impl Catalog {
         a_catalog_is_consistent(self);
         let held = self.at(table).len();
         match rising_places(self.allocator(), held, rows) {
-            Some(places) => self.load_places(table, rows, places.as_slice()),
+            Some(places) => {
+                let rows = PlacedRows {
+                    rows,
+                    places: places.as_slice(),
+                };
+                self.load(table, rows).is_ok()
+            }
             None => false,
         }
     }
 
-    // Puts the rows of these places into a table, one after the other. Where one of them cannot come in, those before it go
-    // out again.
-    fn load_places(
-        &mut self,
-        table: TableNumber,
-        rows: &[Sequence<Value>],
-        places: &[KeyPlace],
-    ) -> bool
-        requires meant { IsMeant self.old.limits (database_of self.old) (resolved.Load table (map (row_at rows.now) places.now)) }
-        requires within { All (λ k. k.1 < length rows.now) places.now }
-        ensures loaded { result ≡ true → HasEffect self.old self.new (done self.old.limits (database_of self.old) (resolved.Load table (map (row_at rows.now) places.now))) (length places.now) }
-        ensures kept { result ≡ false → KeepsDatabase self.old self.new }
-    {
-        a_catalog_is_consistent(self);
-        let Ok(mut taken) = room_for(self.allocator(), places.len()) else {
-            return false;
-        };
-        for place in places {
-            match self.copy_in(table, rows[place.1].as_slice()) {
-                Ok(r) => taken.push_reserved(r),
-                Err(_) => {
-                    self.take_back(table, taken.as_slice());
-                    return false;
-                }
-            }
-        }
-        true
-    }
-
     // Puts rows into a table, one after the other. Where one of them cannot come in, those before it go out again.
-    fn load_each(&mut self, table: TableNumber, rows: Vec<Sequence<Value>>) -> Result<(), Refusal>
-        requires { IsMeant self.old.limits (database_of self.old) (resolved.Load table rows.items) }
-        ensures loaded { OnOk result (HasEffect self.old self.new (done self.old.limits (database_of self.old) (resolved.Load table rows.items)) (length rows.items)) }
-        ensures refused { IfErr result (IsDeclinedFor self.old self.new (done self.old.limits (database_of self.old) (resolved.Load table rows.items))) }
+    fn load<R: LoadedRows>(&mut self, table: TableNumber, mut rows: R) -> Result<(), Refusal>
+        requires { IsMeant self.old.limits (database_of self.old) (resolved.Load table (R.left rows)) }
+        ensures loaded { OnOk result (HasEffect self.old self.new (done self.old.limits (database_of self.old) (resolved.Load table (R.left rows))) (length (R.left rows))) }
+        ensures refused { IfErr result (IsDeclinedFor self.old self.new (done self.old.limits (database_of self.old) (resolved.Load table (R.left rows)))) }
     {
         a_catalog_is_consistent(self);
-        let mut taken = room_for(self.allocator(), rows.len())?;
-        for row in rows {
-            match self.take_in(table, row) {
+        let count = rows.len();
+        let mut taken = room_for(self.allocator(), count)?;
+        for _ in 0..count {
+            match self.put(table, rows.next()) {
                 Ok(r) => taken.push_reserved(r),
                 Err(refusal) => {
                     self.take_back(table, taken.as_slice());

@@ -11,14 +11,15 @@ ghost use Rattle.mm_catalog.specs.Linked.{target_at, row_links};
 ghost use Rattle.mm_catalog.specs.Counted.{IsHeldIn, HaveRoom};
 
 use crate::before::Before;
-use crate::references::cells::{lent_cell, moved_cell, named_row};
+use crate::references::cells::named_row;
 use crate::references::counting::count_up_links;
 use crate::references::link::target_number;
+use crate::row_values::RowValues;
 use mm_relation::laws::a_relation_is_kept;
 use mm_relation::{ColumnNumber, Relation, RowRefusal, StoredCell};
 use no_memory::NoMemory;
 use part_raw::TupleRef;
-use plain_tables::{Limits, Refusal, Sequence, TableNumber, Value};
+use plain_tables::{Limits, Refusal, TableNumber, Value};
 use std::alloc::Global;
 
 // The refusal of a row of these cells that cannot come in: its key is held already, or there is this reason.
@@ -69,44 +70,25 @@ fn empty_for(cells: &mut Vec<StoredCell>, count: usize) -> Result<(), NoMemory>
     Ok(())
 }
 
-// Packs the cells of the values of a row, which are copied, in place of what is there.
-fn pack_lent(
+// Packs the cells of the values of a row, in place of what is there.
+fn pack<V: RowValues>(
     alloc: Global,
     before: &[Relation],
     relation: &Relation,
-    values: &[Value],
+    mut values: V,
     cells: &mut Vec<StoredCell>,
 ) -> Result<(), Refusal>
-    requires width { length values.now ≤ length relation.now.targets }
+    requires width { length (V.left values) ≤ length relation.now.targets }
     requires back { (column : ℕ) (table : ℕ) → target_at relation.now.targets column ≡ Some table → table < length before.now }
-    ensures cells { OnOk result ((key : Value) (rest : List Value) → values.now ≡ key ∷ rest → AreRowCells before.now relation.now.targets key rest cells.new.items) }
-    ensures refused { IfErr result (λ refusal. (most : ℕ) (key : Value) (rest : List Value) → values.now ≡ key ∷ rest → IsKeptOut before.now relation.now most key rest refusal) }
+    ensures cells { OnOk result ((key : Value) (rest : List Value) → V.left values ≡ key ∷ rest → AreRowCells before.now relation.now.targets key rest cells.new.items) }
+    ensures refused { IfErr result (λ refusal. (most : ℕ) (key : Value) (rest : List Value) → V.left values ≡ key ∷ rest → IsKeptOut before.now relation.now most key rest refusal) }
 {
-    empty_for(cells, values.len())?;
-    for value in values {
-        let named = next_named(before, relation, cells.as_slice(), value)?;
-        let cell = lent_cell(alloc, named, value)?;
+    let count = values.len();
+    empty_for(cells, count)?;
+    for _ in 0..count {
+        let named = next_named(before, relation, cells.as_slice(), values.next())?;
+        let cell = values.take(alloc, named)?;
         cells.push_reserved(cell);
-    }
-    Ok(())
-}
-
-// The same, where the values are moved.
-fn pack_moved(
-    before: &[Relation],
-    relation: &Relation,
-    values: Vec<Value>,
-    cells: &mut Vec<StoredCell>,
-) -> Result<(), Refusal>
-    requires width { length values.items ≤ length relation.now.targets }
-    requires back { (column : ℕ) (table : ℕ) → target_at relation.now.targets column ≡ Some table → table < length before.now }
-    ensures cells { OnOk result ((key : Value) (rest : List Value) → values.items ≡ key ∷ rest → AreRowCells before.now relation.now.targets key rest cells.new.items) }
-    ensures refused { IfErr result (λ refusal. (most : ℕ) (key : Value) (rest : List Value) → values.items ≡ key ∷ rest → IsKeptOut before.now relation.now most key rest refusal) }
-{
-    empty_for(cells, values.len())?;
-    for value in values {
-        let named = next_named(before, relation, cells.as_slice(), &value)?;
-        cells.push_reserved(moved_cell(named, value));
     }
     Ok(())
 }
@@ -170,50 +152,27 @@ fn insert_packed(
     take_in(before, relation, cells)
 }
 
-// Puts the row of these values, which are copied, into the relation of this number, whose links lead into those before it.
-// It gives the reference of the row. Its cells are packed in the vector on their way, in place of what is there.
-pub fn insert(
+// Puts the row of these values into the relation of this number, whose links lead into those before it. It gives the
+// reference of the row. Its cells are packed in the vector on their way, in place of what is there.
+pub fn insert<V: RowValues>(
     alloc: Global,
     relations: &mut [Relation],
     limits: Limits,
     table: TableNumber,
-    values: &[Value],
+    values: V,
     cells: &mut Vec<StoredCell>,
 ) -> Result<TupleRef, Refusal>
     requires few { limits.rows ≤ 16777216 }
     requires there { table.0 < length relations.old }
     requires stands { Stands relations.old table.0 }
-    requires some { 0 < length values.now }
-    requires width { (s : RelationState) → slice_get relations.old table.0 ≡ Some s → length values.now ≡ length s.targets }
-    ensures inserted { IfOk result (IsInsertedAt relations.old relations.new table.0 limits.rows values.now) }
-    ensures refused { IfErr result (IsRefusedAt relations.old table.0 limits.rows values.now) }
+    requires some { 0 < length (V.left values) }
+    requires width { (s : RelationState) → slice_get relations.old table.0 ≡ Some s → length (V.left values) ≡ length s.targets }
+    ensures inserted { IfOk result (IsInsertedAt relations.old relations.new table.0 limits.rows (V.left values)) }
+    ensures refused { IfErr result (IsRefusedAt relations.old table.0 limits.rows (V.left values)) }
     ensures unchanged { OnErr result (relations.new ≡ relations.old) }
 {
     let (before, rest) = relations.split_at_mut(table.0);
     let relation = &mut rest[0];
-    pack_lent(alloc, before, relation, values, cells)?;
-    insert_packed(before, relation, limits, cells)
-}
-
-// The same, where the values are moved.
-pub fn insert_moved(
-    relations: &mut [Relation],
-    limits: Limits,
-    table: TableNumber,
-    values: Sequence<Value>,
-    cells: &mut Vec<StoredCell>,
-) -> Result<TupleRef, Refusal>
-    requires few { limits.rows ≤ 16777216 }
-    requires there { table.0 < length relations.old }
-    requires stands { Stands relations.old table.0 }
-    requires some { 0 < length values }
-    requires width { (s : RelationState) → slice_get relations.old table.0 ≡ Some s → length values ≡ length s.targets }
-    ensures inserted { IfOk result (IsInsertedAt relations.old relations.new table.0 limits.rows values) }
-    ensures refused { IfErr result (IsRefusedAt relations.old table.0 limits.rows values) }
-    ensures unchanged { OnErr result (relations.new ≡ relations.old) }
-{
-    let (before, rest) = relations.split_at_mut(table.0);
-    let relation = &mut rest[0];
-    pack_moved(before, relation, values.into_vec(), cells)?;
+    pack(alloc, before, relation, values, cells)?;
     insert_packed(before, relation, limits, cells)
 }

@@ -29,6 +29,7 @@ pub mod laws;
 mod load;
 mod references;
 mod removal;
+mod row_values;
 mod schemas;
 mod updating;
 

@@ -1,16 +1,12 @@
-use Rattle.std.proofs.Common.{◌<◌, List, length, map, subst}
+use Rattle.std.proofs.Common.{List, map, subst}
 use Rattle.std.specs.List.Sorted.{IsPermutation}
-use Rattle.std.proofs.lemmas.List.Sorted.{All-permutation, IsPermutation-map}
+use Rattle.std.proofs.lemmas.List.Sorted.{IsPermutation-map}
 use Rattle.mm_catalog.specs.LoadOrder.{KeyPlace, row_at}
 use Rattle.mm_catalog.proofs.by_key.rising_places.Goals as goal
 
-pub returns-then-is_sorted_by-2-clause-order : goal.returns-then-is_sorted_by-2-clause-order
-returns-then-is_sorted_by-2-clause-order c =
+pub returns-then-is_sorted_by-2 : goal.returns-then-is_sorted_by-2
+returns-then-is_sorted_by-2 c =
     let rows = c.args.rows.now in
     let keys : List KeyPlace = c.in_ok-keys.keys.items in
     let sorted : List KeyPlace = c.sort_unstable_by.new.self.items in
-    subst (λ rs. IsPermutation rs (map (row_at rows) sorted)) c.in_ok-keys.ensures.each (IsPermutation-map (row_at rows) keys sorted c.sort_unstable_by.ensures.permutation)
-
-pub returns-then-is_sorted_by-2-clause-places : goal.returns-then-is_sorted_by-2-clause-places
-returns-then-is_sorted_by-2-clause-places c =
-    All-permutation (λ (k : KeyPlace). k.1 < length c.args.rows.now) c.in_ok-keys.keys.items c.sort_unstable_by.new.self.items c.sort_unstable_by.ensures.permutation c.in_ok-keys.ensures.places
+    subst (λ rs. IsPermutation rs (map (row_at rows) sorted)) c.in_ok-keys.ensures (IsPermutation-map (row_at rows) keys sorted c.sort_unstable_by.ensures.permutation)

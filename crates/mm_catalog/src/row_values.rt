@@ -1,0 +1,104 @@
+//! The values of rows on their way into cells: those that are lent are copied, and the others moved.
+ghost use Rattle.std.specs.Prelude.{◌≡◌, ◌<◌, List, Some, IfOk, OnOk, drop, length, slice_get};
+ghost use Rattle.plain_tables.specs.declared.value.Value.{Value as PlainValue};
+ghost use Rattle.mm_catalog.specs.Cells.{cell_for};
+
+use crate::references::cells::{lent_cell, moved_cell};
+use mm_relation::StoredCell;
+use no_memory::NoMemory;
+use part_raw::TupleRef;
+use plain_tables::{Sequence, Value};
+use std::alloc::Global;
+use std::mem;
+
+/// The values of a row, which go into its cells one after the other, the key the first.
+pub trait RowValues: Drop {
+    // the values that are left
+    ghost left: { Self → List PlainValue };
+
+    /// How many are left.
+    fn len(&self) -> usize
+        ensures { result ≡ length (left self.now) };
+
+    /// The next value.
+    fn next(&self) -> &Value
+        requires { 0 < length (left self.now) }
+        ensures { slice_get (left self.now) 0 ≡ Some result.now };
+
+    /// The cell of the next value, which names this row or else holds the value.
+    fn take(&mut self, alloc: Global, named: Option<TupleRef>) -> Result<StoredCell, NoMemory>
+        requires { 0 < length (left self.old) }
+        ensures cell { IfOk result (λ cell. (value : PlainValue) → slice_get (left self.old) 0 ≡ Some value → cell ≡ cell_for value named) }
+        ensures rest { OnOk result (left self.new ≡ drop 1 (left self.old)) };
+}
+
+/// Values that are lent, of which each is copied. One of at most 14 bytes takes no memory.
+#[derive(Drop)]
+pub struct LentValues<'a> {
+    pub values: &'a [Value],
+}
+
+impl<'a> RowValues for LentValues<'a> {
+    ghost left = { λ v. v.values.now };
+
+    #[inline]
+    fn len(&self) -> usize {
+        self.values.len()
+    }
+
+    #[inline]
+    fn next(&self) -> &Value {
+        &self.values[0]
+    }
+
+    #[inline]
+    fn take(&mut self, alloc: Global, named: Option<TupleRef>) -> Result<StoredCell, NoMemory> {
+        let Some((value, rest)) = self.values.split_first() else {
+            unreachable!()
+        };
+        let cell = lent_cell(alloc, named, value)?;
+        self.values = rest;
+        Ok(cell)
+    }
+}
+
+/// Values that are moved, each out of its place. It takes no memory.
+#[derive(Drop)]
+pub struct MovedValues {
+    values: Vec<Value>,
+    place: usize,
+}
+
+impl MovedValues {
+    /// All of these values.
+    pub fn new(values: Sequence<Value>) -> MovedValues
+        ensures values { result.values.items ≡ values }
+        ensures first { result.place ≡ 0 }
+    {
+        MovedValues {
+            values: values.into_vec(),
+            place: 0,
+        }
+    }
+}
+
+impl RowValues for MovedValues {
+    ghost left = { λ v. drop v.place v.values.items };
+
+    #[inline]
+    fn len(&self) -> usize {
+        self.values.len().saturating_sub(self.place)
+    }
+
+    #[inline]
+    fn next(&self) -> &Value {
+        &self.values[self.place]
+    }
+
+    #[inline]
+    fn take(&mut self, _alloc: Global, named: Option<TupleRef>) -> Result<StoredCell, NoMemory> {
+        let value = mem::replace(&mut self.values[self.place], Value::Null);
+        self.place += 1;
+        Ok(moved_cell(named, value))
+    }
+}
