@@ -2,7 +2,7 @@
 use Rattle.std.proofs.Common.{◌≡◌, ◌≢◌, ℕ, zero, suc, ◌+◌, ◌<◌, List, [], ◌∷◌, Some, refl, sym, ap, ◌∙◌, arith, length, map, set, take, drop, get_or, add-one, ◌++◌}
 use Rattle.std.specs.List.{slice_get, zip, All}
 use Rattle.std.proofs.Math.Seq.{take-append_seam}
-use Rattle.std.proofs.lemmas.List.{length-drop, drop-set-lt}
+use Rattle.std.proofs.lemmas.List.{length-drop}
 use Rattle.std.proofs.lemmas.Option.{none-some, same_Some}
 use Rattle.std.proofs.lemmas.List.Elements.{All-head, All-tail}
 
@@ -92,10 +92,3 @@ module _ {A : Type 0} (all : List A) {left : List A} (n : ℕ) (are : left ≡ d
 
   pub drop-next : drop 1 left ≡ drop (n + 1) all
   drop-next = ap (drop 1) are ∙ drop-one all n
-
--- an element that is left is there, and one that goes leaves the others
-pub drop-inside : {A : Type 0} (xs : List A) (n : ℕ) → 0 < length (drop n xs) → n < length xs
-drop-inside xs n some = let count = length-drop n xs in omega (arith, some, count)
-
-pub drop-set : {A : Type 0} (xs : List A) (n : ℕ) (x : A) → drop (n + 1) (set xs n x) ≡ drop 1 (drop n xs)
-drop-set xs n x = drop-set-lt (n + 1) xs n x (omega arith) ∙ sym (drop-one xs n)

@@ -31,7 +31,7 @@ pub trait LoadedRows: Drop {
         ensures rest { left self.new ≡ drop 1 (left self.old) };
 }
 
-/// The rows at these places, which are lent.
+/// The rows at these places, which are lent. A place at which there is none has a row without values.
 #[derive(Drop)]
 pub struct PlacedRows<'a> {
     pub rows: &'a [Sequence<Value>],
