@@ -9,6 +9,38 @@ from support import hand, harness, model, random_streams, sizes, streams, tested
 
 STREAMS = sizes.size(100, 5_000)
 TOLD = re.compile(rb"mmdb: line (\d+): (error (\d\d) [^:\n]*): ([^\n]+)\n")
+WANTED = re.compile(rb"column (\d+): wanted (.+), found \?(: .+)?")
+COLUMN = re.compile(rb"column (\d+): ")
+#: Lines that lead to each place of the grammar, with a blank between two symbols.
+SPELLED = """table t ( t int , u text , v ref t , w ref t null )
+drop table t
+drop index t t tree
+index t t hash
+insert t ( 0 , 'x' )
+update t set t = 0 , u = 'x' where t = 0
+delete t where t = 0 and t . u <> 'x'
+select * from t
+select distinct * from t
+select distinct t from t
+select t , t . u , t from t join u on t . t = u . u join v on t . t = v . v where t < 0
+load t 0
+dump t
+tables""".splitlines()
+KEYWORDS = """and delete distinct drop dump from hash index insert int join load null on ref select set table tables text tree
+update where""".split()
+OPERATORS = ["=", "<>", "<", "<=", ">", ">="]
+VALUES = ["0", "-1", "'x'", "null"]
+SYMBOLS = [*KEYWORDS, *OPERATORS, "(", ")", ",", ".", "*", "t", "0", "-1", "'x'"]
+#: What the words of a reason stand for, where they are no symbol.
+MEANT = {
+    "a table's name": ["t"],
+    "a column's name": ["t"],
+    "a value": VALUES,
+    "an operator": OPERATORS,
+    "a number of bytes": ["0"],
+    "a comma": [","],
+    "a dot": ["."],
+}
 
 
 def numbered_units(stream):
@@ -77,6 +109,31 @@ class Program(unittest.TestCase):
             come = len(end[1:])
             words = b"the line asks for 9 bytes, and %d have come" % come
             self.assertEqual(told, [(b"1", b"error 13 block cut short", b"13", words)])
+
+
+class Places(unittest.TestCase):
+    """At each place of the grammar just what a reason says is wanted may stand."""
+
+    def reasons(self, lines):
+        """Why each of these lines is no command, or nothing of one that is."""
+        stream = "".join(f"{line}\n" for line in lines).encode()
+        told = TOLD.findall(harness.run_whole(stream, ["--explain"]).err)
+        found = {int(line): words for line, _, number, words in told if number == b"20"}
+        return [found.get(number) for number in range(1, len(lines) + 1)]
+
+    def test_just_what_is_wanted_may_stand(self):
+        spelled = [line.split() for line in SPELLED]
+        fronts = {"".join(f"{it} " for it in symbols[:at]) for symbols in spelled for at in range(len(symbols) + 1)} - {""}
+        for front in ["", *sorted(fronts)]:
+            other, whole, *behind = self.reasons([f"{front}?", front, *(f"{front}{symbol} ?" for symbol in SYMBOLS)])
+            with self.subTest(front=front):
+                column, words, _ = WANTED.fullmatch(other).groups()
+                wanted = set(words.decode().replace(" or ", ", ").split(", "))
+                self.assertEqual(int(column), len(front) + 1)
+                self.assertEqual(bool(front) and not whole, "the end of the line" in wanted)
+                stops = [int(COLUMN.match(words)[1]) for words in behind]
+                admitted = {symbol for symbol, stop in zip(SYMBOLS, stops, strict=True) if stop > len(front) + 1}
+                self.assertEqual(admitted, {it for words in wanted for it in MEANT.get(words, [words])} - {"the end of the line"})
 
 
 class Bytes(ctypes.Structure):

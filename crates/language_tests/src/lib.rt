@@ -11,3 +11,5 @@ mod hashes;
 mod spellings;
 #[cfg(test)]
 mod statements;
+#[cfg(test)]
+mod stops;

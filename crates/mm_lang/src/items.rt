@@ -10,7 +10,9 @@ ghost use Rattle.mm_lang.specs.Printing.{IsFree, joined, kind_symbols-free, colu
 use crate::ParseRefusal;
 use crate::lexemes::split_lexeme;
 use crate::numbers::push_integer;
+use crate::places::Place;
 use crate::sink::Sink;
+use crate::stops::Stopped;
 use crate::symbols::{after, expect, name, operator};
 use crate::texts::{push_text, text};
 use plain_tables::{ColKind, ColName, Column, Cond, NoMemory, Op, Setting, Text, Value, integer};
@@ -21,10 +23,15 @@ pub trait Item: Drop {
     // the symbols by which a line spells it
     ghost symbols: { Self → List Symbol };
 
-    /// The item at the front, and what stands behind it.
-    fn read(alloc: Global, line: &[u8]) -> Result<(Self, &[u8]), ParseRefusal>
+    /// The item at the front, which begins at this place, and what stands behind it.
+    fn read(alloc: Global, line: &[u8], place: Place) -> Result<(Self, &[u8]), Stopped>
         ensures item { IfOk result (λ r. BeginsWith symbols line.now r.0 r.1.now) }
         ensures syntax { IsErrOf result ParseRefusal.Syntax → BeginsWithNone symbols line.now };
+
+    /// The place behind it, where no more items of a list follow.
+    fn place_behind(&self) -> Place {
+        Place::BehindListed
+    }
 }
 
 /// An item that has a canonical spelling.
@@ -36,26 +43,34 @@ pub trait PrintedItem: Item {
     ghost free: { (x : Self) → IsFree (Self.symbols x) };
 }
 
-/// The value that these characters spell.
-pub(crate) fn value(alloc: Global, characters: &[u8]) -> Result<Value, ParseRefusal>
+/// The value that these characters spell: those of the symbol at the front of what is left of a line, at this place.
+pub(crate) fn value(
+    alloc: Global,
+    characters: &[u8],
+    left: &[u8],
+    place: Place,
+) -> Result<Value, Stopped>
     ensures value { IfOk result (λ v. IsSymbol characters.now (Literal v)) }
     ensures syntax { IsErrOf result ParseRefusal.Syntax → IsUtf8 characters.now → (v : Value) → IsSymbol characters.now (Literal v) → ⊥ }
 {
     if characters == b"null".as_slice() {
         return Ok(Value::Null);
     }
-    match integer(characters) {
-        Some(number) => Ok(Value::Int(number)),
-        None => Ok(Value::Text(text(alloc, characters)?)),
+    if let Some(number) = integer(characters) {
+        return Ok(Value::Int(number));
+    }
+    match text(alloc, characters) {
+        Ok(text) => Ok(Value::Text(text)),
+        Err(refusal) => Err(Stopped::by(refusal, left, place)),
     }
 }
 
 impl Item for Value {
     ghost symbols = { value_symbols };
 
-    fn read(alloc: Global, line: &[u8]) -> Result<(Value, &[u8]), ParseRefusal> {
+    fn read(alloc: Global, line: &[u8], place: Place) -> Result<(Value, &[u8]), Stopped> {
         let (characters, rest) = split_lexeme(line);
-        Ok((value(alloc, characters)?, rest))
+        Ok((value(alloc, characters, line, place)?, rest))
     }
 }
 
@@ -75,15 +90,15 @@ impl PrintedItem for Value {
 impl Item for ColKind {
     ghost symbols = { kind_symbols };
 
-    fn read(alloc: Global, line: &[u8]) -> Result<(ColKind, &[u8]), ParseRefusal> {
+    fn read(alloc: Global, line: &[u8], place: Place) -> Result<(ColKind, &[u8]), Stopped> {
         if let Some(rest) = after(line, b"int") {
             return Ok((ColKind::Int, rest));
         }
         if let Some(rest) = after(line, b"text") {
             return Ok((ColKind::Text, rest));
         }
-        let front = expect(line, b"ref")?;
-        let (table, rest) = name(alloc, front)?;
+        let front = expect(line, b"ref", place)?;
+        let (table, rest) = name(alloc, front, Place::Table)?;
         match after(rest, b"null") {
             Some(behind) => Ok((ColKind::RefOrNull(table), behind)),
             None => Ok((ColKind::Ref(table), rest)),
@@ -115,10 +130,17 @@ impl PrintedItem for ColKind {
 impl Item for Column {
     ghost symbols = { column_symbols };
 
-    fn read(alloc: Global, line: &[u8]) -> Result<(Column, &[u8]), ParseRefusal> {
-        let (name, line) = name(alloc, line)?;
-        let (kind, line) = ColKind::read(alloc, line)?;
+    fn read(alloc: Global, line: &[u8], place: Place) -> Result<(Column, &[u8]), Stopped> {
+        let (name, line) = name(alloc, line, place)?;
+        let (kind, line) = ColKind::read(alloc, line, Place::ColumnType)?;
         Ok((Column { name, kind }, line))
+    }
+
+    fn place_behind(&self) -> Place {
+        match self.kind {
+            ColKind::Ref(_) => Place::BehindReference,
+            _ => Place::BehindListed,
+        }
     }
 }
 
@@ -135,8 +157,8 @@ impl PrintedItem for Column {
 impl Item for ColName {
     ghost symbols = { name_symbols };
 
-    fn read(alloc: Global, line: &[u8]) -> Result<(ColName, &[u8]), ParseRefusal> {
-        let (first, rest) = name(alloc, line)?;
+    fn read(alloc: Global, line: &[u8], place: Place) -> Result<(ColName, &[u8]), Stopped> {
+        let (first, rest) = name(alloc, line, place)?;
         match after(rest, b".") {
             None => Ok((
                 ColName {
@@ -146,7 +168,7 @@ impl Item for ColName {
                 rest,
             )),
             Some(behind) => {
-                let (column, rest) = name(alloc, behind)?;
+                let (column, rest) = name(alloc, behind, Place::Column)?;
                 Ok((
                     ColName {
                         table: Some(first),
@@ -155,6 +177,13 @@ impl Item for ColName {
                     rest,
                 ))
             }
+        }
+    }
+
+    fn place_behind(&self) -> Place {
+        match self.table {
+            Some(_) => Place::BehindItem,
+            None => Place::BehindItemName,
         }
     }
 }
@@ -176,35 +205,45 @@ impl PrintedItem for ColName {
 pub(crate) fn assigned<V: Item>(
     alloc: Global,
     line: &[u8],
-) -> Result<(Text, V, &[u8]), ParseRefusal>
+    place: Place,
+) -> Result<(Text, V, &[u8]), Stopped>
     ensures item { IfOk result (λ r. BeginsWith (assigned_symbols V.symbols) line.now (r.0, r.1) r.2.now) }
     ensures syntax { IsErrOf result ParseRefusal.Syntax → BeginsWithNone (assigned_symbols V.symbols) line.now }
 {
-    let (column, line) = name(alloc, line)?;
-    let line = expect(line, b"=")?;
-    let (value, line) = V::read(alloc, line)?;
+    let (column, line) = name(alloc, line, place)?;
+    let line = expect(line, b"=", Place::Equals)?;
+    let (value, line) = V::read(alloc, line, Place::Value)?;
     Ok((column, value, line))
+}
+
+// The place behind the column of a condition.
+fn operator_place(column: &ColName) -> Place {
+    match column.table {
+        Some(_) => Place::Operator,
+        None => Place::BehindConditionName,
+    }
 }
 
 /// A column, an operator and what it is compared with, and what stands behind them.
 pub(crate) fn compared<V: Item>(
     alloc: Global,
     line: &[u8],
-) -> Result<(ColName, Op, V, &[u8]), ParseRefusal>
+    place: Place,
+) -> Result<(ColName, Op, V, &[u8]), Stopped>
     ensures item { IfOk result (λ r. BeginsWith (compared_symbols V.symbols) line.now (r.0, r.1, r.2) r.3.now) }
     ensures syntax { IsErrOf result ParseRefusal.Syntax → BeginsWithNone (compared_symbols V.symbols) line.now }
 {
-    let (column, line) = ColName::read(alloc, line)?;
-    let (op, line) = operator(line)?;
-    let (value, line) = V::read(alloc, line)?;
+    let (column, line) = ColName::read(alloc, line, place)?;
+    let (op, line) = operator(line, operator_place(&column))?;
+    let (value, line) = V::read(alloc, line, Place::ComparedValue)?;
     Ok((column, op, value, line))
 }
 
 impl Item for Setting {
     ghost symbols = { setting_symbols };
 
-    fn read(alloc: Global, line: &[u8]) -> Result<(Setting, &[u8]), ParseRefusal> {
-        let (column, value, line) = assigned(alloc, line)?;
+    fn read(alloc: Global, line: &[u8], place: Place) -> Result<(Setting, &[u8]), Stopped> {
+        let (column, value, line) = assigned(alloc, line, place)?;
         Ok((Setting { column, value }, line))
     }
 }
@@ -236,8 +275,8 @@ fn operator_str(op: Op) -> &'static str
 impl Item for Cond {
     ghost symbols = { condition_symbols };
 
-    fn read(alloc: Global, line: &[u8]) -> Result<(Cond, &[u8]), ParseRefusal> {
-        let (column, op, value, line) = compared(alloc, line)?;
+    fn read(alloc: Global, line: &[u8], place: Place) -> Result<(Cond, &[u8]), Stopped> {
+        let (column, op, value, line) = compared(alloc, line, place)?;
         Ok((Cond { column, op, value }, line))
     }
 }
@@ -254,12 +293,15 @@ impl PrintedItem for Cond {
     }
 }
 
-/// The items of a list, one or more, with this keyword or sign between two of them, and what stands behind the last.
+/// The items of a list, one or more, with this keyword or sign between two of them, and what stands behind the last. The
+/// first and each further one begin at these places.
 pub fn list<'a, T: Item>(
     alloc: Global,
     line: &'a [u8],
     between: &[u8],
-) -> Result<(Vec<T>, &'a [u8]), ParseRefusal>
+    first: Place,
+    further: Place,
+) -> Result<(Vec<T>, &'a [u8]), Stopped>
     requires some { 0 < length between.now }
     requires ends_item { EndsItem between.now }
     ensures items { IfOk result (λ r. BeginsWithList T.symbols between.now line.now r.0.items r.1.now) }
@@ -267,13 +309,23 @@ pub fn list<'a, T: Item>(
 {
     let mut items = Vec::new(alloc);
     let mut rest = line;
+    let mut place = first;
     loop {
-        let (item, behind) = T::read(alloc, rest)?;
+        let (item, behind) = T::read(alloc, rest, place)?;
         items.push(item)?;
         match after(behind, between) {
             Some(next) => rest = next,
             None => return Ok((items, behind)),
         }
+        place = further;
+    }
+}
+
+/// The place behind the last item of a list.
+pub(crate) fn behind_last<T: Item>(items: &[T]) -> Place {
+    match items.last() {
+        Some(item) => item.place_behind(),
+        None => Place::BehindListed,
     }
 }
 

@@ -8,7 +8,9 @@ ghost use Rattle.mm_lang.specs.Printing.{behind};
 
 use crate::ParseRefusal;
 use crate::items::{Item, PrintedItem, list, push_list};
+use crate::places::Place;
 use crate::sink::Sink;
+use crate::stops::Stopped;
 use crate::symbols::{after, expect, name};
 use plain_tables::{Join, JoinSide, NoMemory};
 use std::alloc::Global;
@@ -16,10 +18,10 @@ use std::alloc::Global;
 impl Item for JoinSide {
     ghost symbols = { side_symbols };
 
-    fn read(alloc: Global, line: &[u8]) -> Result<(JoinSide, &[u8]), ParseRefusal> {
-        let (table, line) = name(alloc, line)?;
-        let line = expect(line, b".")?;
-        let (column, line) = name(alloc, line)?;
+    fn read(alloc: Global, line: &[u8], place: Place) -> Result<(JoinSide, &[u8]), Stopped> {
+        let (table, line) = name(alloc, line, place)?;
+        let line = expect(line, b".", Place::Dot)?;
+        let (column, line) = name(alloc, line, Place::Column)?;
         Ok((JoinSide { table, column }, line))
     }
 }
@@ -39,12 +41,12 @@ impl PrintedItem for JoinSide {
 impl Item for Join {
     ghost symbols = { joined_symbols };
 
-    fn read(alloc: Global, line: &[u8]) -> Result<(Join, &[u8]), ParseRefusal> {
-        let (table, line) = name(alloc, line)?;
-        let line = expect(line, b"on")?;
-        let (left, line) = JoinSide::read(alloc, line)?;
-        let line = expect(line, b"=")?;
-        let (right, line) = JoinSide::read(alloc, line)?;
+    fn read(alloc: Global, line: &[u8], place: Place) -> Result<(Join, &[u8]), Stopped> {
+        let (table, line) = name(alloc, line, place)?;
+        let line = expect(line, b"on", Place::On)?;
+        let (left, line) = JoinSide::read(alloc, line, Place::Table)?;
+        let line = expect(line, b"=", Place::Equals)?;
+        let (right, line) = JoinSide::read(alloc, line, Place::Table)?;
         Ok((Join { table, left, right }, line))
     }
 }
@@ -62,13 +64,13 @@ impl PrintedItem for Join {
 }
 
 /// The joins at the front, or none, and what stands behind the last.
-pub fn joins(alloc: Global, line: &[u8]) -> Result<(Vec<Join>, &[u8]), ParseRefusal>
+pub fn joins(alloc: Global, line: &[u8]) -> Result<(Vec<Join>, &[u8]), Stopped>
     ensures joins { IfOk result (λ r. BeginsWithJoins line.now r.0.items r.1.now) }
     ensures syntax { IsErrOf result ParseRefusal.Syntax → BeginsWithNoJoins line.now }
 {
     match after(line, b"join") {
         None => Ok((Vec::new(alloc), line)),
-        Some(front) => list(alloc, front, b"join"),
+        Some(front) => list(alloc, front, b"join", Place::Table, Place::Table),
     }
 }
 

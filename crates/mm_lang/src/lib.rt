@@ -12,6 +12,9 @@
 //!
 //! The module `statements` reads statements, by the productions of `parser` for what commands and statements have in common,
 //! with the items of `slots`, in which a hole may stand for a value.
+//!
+//! A line that spells nothing stops at a symbol (`stops`), at a place of the grammar. `places` has what may stand at each place,
+//! as reasons list it. A production that is changed changes its places too.
 #![tactic(auto)]
 
 mod items;
@@ -20,18 +23,23 @@ mod lexemes;
 mod line;
 mod numbers;
 mod parser;
+mod places;
 mod printer;
 mod refusal;
 mod sink;
 mod slots;
 mod statements;
+mod stops;
 mod symbols;
 mod texts;
 
+pub use lexemes::split_lexeme;
 pub use line::Line;
-pub use parser::{block_length, parse};
+pub use parser::{block_length, parse, parse_or_stop};
+pub use places::{Place, Wanted};
 pub use printer::{print, print_index, print_load, print_table};
 pub use refusal::ParseRefusal;
 pub use sink::Sink;
-pub use statements::parse_statement;
+pub use statements::{parse_statement, parse_statement_or_stop};
+pub use stops::{Stop, Stopped};
 pub use symbols::{LONGEST_NAME, is_reserved_word, is_whole_name};

@@ -13,11 +13,13 @@ ghost use Rattle.mm_lang.specs.Words.{letters};
 ghost use Rattle.mm_lang.specs.Parsing.{Completes, IsOfText, IsWhole, IsNameAndList, IsFrom, IsWhere, IsUpdate, IsDelete, IsSelect, BeginsWithDistinct, BeginsWithItems, BeginsWithNoItems};
 
 use crate::ParseRefusal;
-use crate::items::{Item, list};
+use crate::items::{Item, behind_last, list};
 use crate::joins::joins;
 use crate::lexemes::split_lexeme;
 use crate::line::Line;
 use crate::numbers::count;
+use crate::places::Place;
+use crate::stops::Stopped;
 use crate::symbols::{after, after_name, expect, index_kind, name};
 use plain_tables::{Command, IndexKind, Items, Join, Schema, Sequence, Text};
 use std::alloc::Global;
@@ -57,7 +59,7 @@ pub(crate) fn command_word(characters: &[u8]) -> Option<CommandWord>
 }
 
 // The command that begins with a word, of which this is the rest.
-fn command(alloc: Global, word: CommandWord, rest: &[u8]) -> Result<Command, ParseRefusal>
+fn command(alloc: Global, word: CommandWord, rest: &[u8]) -> Result<Command, Stopped>
     ensures command { IfOk result (Completes (letters word) rest.now) }
     ensures syntax { IsErrOf result ParseRefusal.Syntax → IsOfText rest.now → (c : Command) → Completes (letters word) rest.now c → ⊥ }
 {
@@ -75,6 +77,19 @@ fn command(alloc: Global, word: CommandWord, rest: &[u8]) -> Result<Command, Par
     }
 }
 
+/// The command that a line spells, or where it stops to spell one.
+///
+/// The error is `Syntax` where the line spells none, and `NoMemory` where a growth was refused.
+pub fn parse_or_stop(alloc: Global, line: &Line<'_>) -> Result<Command, Stopped>
+    ensures command { IfOk result (λ c. Spells line.now c) }
+    ensures syntax { IsErrOf result ParseRefusal.Syntax → (c : Command) → Spells line.now c → ⊥ }
+{
+    let Some(word) = command_word(line.word()) else {
+        return Err(Stopped::at(line.as_str().as_bytes(), Place::Command));
+    };
+    command(alloc, word, line.rest())
+}
+
 /// The command that a line spells.
 ///
 /// The error is `Syntax` where the line spells none, and `NoMemory` where a growth was refused.
@@ -82,10 +97,7 @@ pub fn parse(alloc: Global, line: &Line<'_>) -> Result<Command, ParseRefusal>
     ensures command { IfOk result (λ c. Spells line.now c) }
     ensures syntax { IsErrOf result ParseRefusal.Syntax → (c : Command) → Spells line.now c → ⊥ }
 {
-    let Some(word) = command_word(line.word()) else {
-        return Err(ParseRefusal::Syntax);
-    };
-    command(alloc, word, line.rest())
+    Ok(parse_or_stop(alloc, line)?)
 }
 
 /// The length of the block that follows a line: the count of bytes of the load that the line spells, if it spells one.
@@ -102,11 +114,11 @@ pub fn block_length(line: &Line<'_>) -> Option<u64>
 }
 
 // NAME ( COLUMN {, COLUMN} )
-fn table(alloc: Global, line: &[u8]) -> Result<Command, ParseRefusal>
+fn table(alloc: Global, line: &[u8]) -> Result<Command, Stopped>
     ensures command { IfOk result (λ c. Completes (codes "table") line.now c) }
     ensures syntax { IsErrOf result ParseRefusal.Syntax → IsOfText line.now → (c : Command) → Completes (codes "table") line.now c → ⊥ }
 {
-    let (name, columns) = name_and_list(alloc, line)?;
+    let (name, columns) = name_and_list(alloc, line, Place::Columns, Place::Column)?;
     Ok(Command::Table {
         name,
         schema: Schema {
@@ -116,7 +128,7 @@ fn table(alloc: Global, line: &[u8]) -> Result<Command, ParseRefusal>
 }
 
 // table NAME, or index NAME NAME KIND
-fn drop_command(alloc: Global, line: &[u8]) -> Result<Command, ParseRefusal>
+fn drop_command(alloc: Global, line: &[u8]) -> Result<Command, Stopped>
     ensures command { IfOk result (λ c. Completes (codes "drop") line.now c) }
     ensures syntax { IsErrOf result ParseRefusal.Syntax → (c : Command) → Completes (codes "drop") line.now c → ⊥ }
 {
@@ -124,7 +136,7 @@ fn drop_command(alloc: Global, line: &[u8]) -> Result<Command, ParseRefusal>
         let table = only_name(alloc, front)?;
         return Ok(Command::DropTable { table });
     }
-    let front = expect(line, b"index")?;
+    let front = expect(line, b"index", Place::Dropped)?;
     let (table, column, kind) = index_parts(alloc, front)?;
     Ok(Command::DropIndex {
         table,
@@ -134,7 +146,7 @@ fn drop_command(alloc: Global, line: &[u8]) -> Result<Command, ParseRefusal>
 }
 
 // NAME NAME KIND
-fn index(alloc: Global, line: &[u8]) -> Result<Command, ParseRefusal>
+fn index(alloc: Global, line: &[u8]) -> Result<Command, Stopped>
     ensures command { IfOk result (λ c. Completes (codes "index") line.now c) }
     ensures syntax { IsErrOf result ParseRefusal.Syntax → (c : Command) → Completes (codes "index") line.now c → ⊥ }
 {
@@ -147,26 +159,26 @@ fn index(alloc: Global, line: &[u8]) -> Result<Command, ParseRefusal>
 }
 
 // the end of the line
-fn tables(line: &[u8]) -> Result<Command, ParseRefusal>
+fn tables(line: &[u8]) -> Result<Command, Stopped>
     ensures command { IfOk result (λ c. Completes (codes "tables") line.now c) }
     ensures syntax { IsErrOf result ParseRefusal.Syntax → (c : Command) → Completes (codes "tables") line.now c → ⊥ }
 {
-    end(line)?;
+    end(line, Place::End)?;
     Ok(Command::Tables)
 }
 
 // NAME COUNT
-fn load(alloc: Global, line: &[u8]) -> Result<Command, ParseRefusal>
+fn load(alloc: Global, line: &[u8]) -> Result<Command, Stopped>
     ensures command { IfOk result (λ c. Completes (codes "load") line.now c) }
     ensures syntax { IsErrOf result ParseRefusal.Syntax → (c : Command) → Completes (codes "load") line.now c → ⊥ }
 {
-    let (table, rest) = name(alloc, line)?;
+    let (table, rest) = name(alloc, line, Place::Table)?;
     let bytes = only_count(rest)?;
     Ok(Command::Load { table, bytes })
 }
 
 // NAME
-fn dump(alloc: Global, line: &[u8]) -> Result<Command, ParseRefusal>
+fn dump(alloc: Global, line: &[u8]) -> Result<Command, Stopped>
     ensures command { IfOk result (λ c. Completes (codes "dump") line.now c) }
     ensures syntax { IsErrOf result ParseRefusal.Syntax → (c : Command) → Completes (codes "dump") line.now c → ⊥ }
 {
@@ -175,11 +187,11 @@ fn dump(alloc: Global, line: &[u8]) -> Result<Command, ParseRefusal>
 }
 
 // NAME ( VALUE {, VALUE} )
-fn insert(alloc: Global, line: &[u8]) -> Result<Command, ParseRefusal>
+fn insert(alloc: Global, line: &[u8]) -> Result<Command, Stopped>
     ensures command { IfOk result (λ c. Completes (codes "insert") line.now c) }
     ensures syntax { IsErrOf result ParseRefusal.Syntax → IsOfText line.now → (c : Command) → Completes (codes "insert") line.now c → ⊥ }
 {
-    let (table, values) = name_and_list(alloc, line)?;
+    let (table, values) = name_and_list(alloc, line, Place::Values, Place::Value)?;
     Ok(Command::Insert {
         table,
         values: Sequence::from_vec(values),
@@ -187,7 +199,7 @@ fn insert(alloc: Global, line: &[u8]) -> Result<Command, ParseRefusal>
 }
 
 // NAME set NAME = VALUE {, NAME = VALUE} [where ..]
-fn update(alloc: Global, line: &[u8]) -> Result<Command, ParseRefusal>
+fn update(alloc: Global, line: &[u8]) -> Result<Command, Stopped>
     ensures command { IfOk result (λ c. Completes (codes "update") line.now c) }
     ensures syntax { IsErrOf result ParseRefusal.Syntax → IsOfText line.now → (c : Command) → Completes (codes "update") line.now c → ⊥ }
 {
@@ -200,7 +212,7 @@ fn update(alloc: Global, line: &[u8]) -> Result<Command, ParseRefusal>
 }
 
 // NAME [where ..]
-fn delete(alloc: Global, line: &[u8]) -> Result<Command, ParseRefusal>
+fn delete(alloc: Global, line: &[u8]) -> Result<Command, Stopped>
     ensures command { IfOk result (λ c. Completes (codes "delete") line.now c) }
     ensures syntax { IsErrOf result ParseRefusal.Syntax → IsOfText line.now → (c : Command) → Completes (codes "delete") line.now c → ⊥ }
 {
@@ -212,7 +224,7 @@ fn delete(alloc: Global, line: &[u8]) -> Result<Command, ParseRefusal>
 }
 
 // [distinct] ITEMS from NAME {join ..} [where ..]
-fn select(alloc: Global, line: &[u8]) -> Result<Command, ParseRefusal>
+fn select(alloc: Global, line: &[u8]) -> Result<Command, Stopped>
     ensures command { IfOk result (λ c. Completes (codes "select") line.now c) }
     ensures syntax { IsErrOf result ParseRefusal.Syntax → IsOfText line.now → (c : Command) → Completes (codes "select") line.now c → ⊥ }
 {
@@ -230,27 +242,24 @@ fn select(alloc: Global, line: &[u8]) -> Result<Command, ParseRefusal>
 pub(crate) fn update_parts<S: Item, C: Item>(
     alloc: Global,
     line: &[u8],
-) -> Result<(Text, Vec<S>, Vec<C>), ParseRefusal>
+) -> Result<(Text, Vec<S>, Vec<C>), Stopped>
     ensures parts { IfOk result (λ r. IsUpdate S.symbols C.symbols line.now r.0 r.1.items r.2.items) }
     ensures syntax { IsErrOf result ParseRefusal.Syntax → IsOfText line.now → (table : List ℕ) (ss : List S) (cs : List C) → IsUpdate S.symbols C.symbols line.now table ss cs → ⊥ }
 {
-    let (table, behind_name) = name(alloc, line)?;
-    let front = expect(behind_name, b"set")?;
-    let (settings, rest) = list(alloc, front, b",")?;
-    let conditions = conditions(alloc, rest)?;
+    let (table, behind_name) = name(alloc, line, Place::Table)?;
+    let front = expect(behind_name, b"set", Place::Set)?;
+    let (settings, rest) = list(alloc, front, b",", Place::Column, Place::Column)?;
+    let conditions = conditions(alloc, rest, Place::BehindSetting)?;
     Ok((table, settings, conditions))
 }
 
 // NAME [where ..]
-pub(crate) fn delete_parts<C: Item>(
-    alloc: Global,
-    line: &[u8],
-) -> Result<(Text, Vec<C>), ParseRefusal>
+pub(crate) fn delete_parts<C: Item>(alloc: Global, line: &[u8]) -> Result<(Text, Vec<C>), Stopped>
     ensures parts { IfOk result (λ r. IsDelete C.symbols line.now r.0 r.1.items) }
     ensures syntax { IsErrOf result ParseRefusal.Syntax → IsOfText line.now → (table : List ℕ) (cs : List C) → IsDelete C.symbols line.now table cs → ⊥ }
 {
-    let (table, rest) = name(alloc, line)?;
-    let conditions = conditions(alloc, rest)?;
+    let (table, rest) = name(alloc, line, Place::DeletedTable)?;
+    let conditions = conditions(alloc, rest, Place::BehindDeletedTable)?;
     Ok((table, conditions))
 }
 
@@ -265,16 +274,13 @@ pub(crate) struct SelectParts<C> {
 }
 
 // [distinct] ITEMS from NAME {join ..} [where ..]
-pub(crate) fn select_parts<C: Item>(
-    alloc: Global,
-    line: &[u8],
-) -> Result<SelectParts<C>, ParseRefusal>
+pub(crate) fn select_parts<C: Item>(alloc: Global, line: &[u8]) -> Result<SelectParts<C>, Stopped>
     ensures parts { IfOk result (λ s. IsSelect C.symbols line.now s.distinct s.items s.table s.joins.items s.conditions.items) }
     ensures syntax { IsErrOf result ParseRefusal.Syntax → IsOfText line.now → (d : Bool) (i : Items) (table : List ℕ) (js : List Join) (cs : List C) → IsSelect C.symbols line.now d i table js cs → ⊥ }
 {
     let (distinct, front) = distinct(line);
-    let (items, rest) = items(alloc, front)?;
-    let (table, joins, conditions) = from(alloc, rest)?;
+    let (items, rest) = items(alloc, front, first_item(distinct))?;
+    let (table, joins, conditions) = from(alloc, rest, behind_items(&items))?;
     Ok(SelectParts {
         distinct,
         items,
@@ -294,104 +300,127 @@ fn distinct(line: &[u8]) -> (bool, &[u8])
     }
 }
 
+// The place of the first item of a select.
+fn first_item(distinct: bool) -> Place {
+    if distinct {
+        Place::Distinct
+    } else {
+        Place::Select
+    }
+}
+
 // * or NAME {, NAME}
-fn items(alloc: Global, line: &[u8]) -> Result<(Items, &[u8]), ParseRefusal>
+fn items(alloc: Global, line: &[u8], place: Place) -> Result<(Items, &[u8]), Stopped>
     ensures items { IfOk result (λ r. BeginsWithItems line.now r.0 r.1.now) }
     ensures syntax { IsErrOf result ParseRefusal.Syntax → BeginsWithNoItems line.now }
 {
     match after(line, b"*") {
         Some(rest) => Ok((Items::All, rest)),
         None => {
-            let (names, rest) = list(alloc, line, b",")?;
+            let (names, rest) = list(alloc, line, b",", place, Place::Column)?;
             Ok((Items::Named(Sequence::from_vec(names)), rest))
         }
     }
 }
 
+// The place behind the items of a select.
+fn behind_items(items: &Items) -> Place {
+    match items {
+        Items::All => Place::From,
+        Items::Named(names) => behind_last(names.as_slice()),
+    }
+}
+
 // from NAME {join ..} [where ..], and the end of the line
-fn from<C: Item>(alloc: Global, line: &[u8]) -> Result<(Text, Vec<Join>, Vec<C>), ParseRefusal>
+fn from<C: Item>(
+    alloc: Global,
+    line: &[u8],
+    place: Place,
+) -> Result<(Text, Vec<Join>, Vec<C>), Stopped>
     ensures parts { IfOk result (λ r. IsFrom C.symbols line.now r.0 r.1.items r.2.items) }
     ensures syntax { IsErrOf result ParseRefusal.Syntax → IsOfText line.now → (table : List ℕ) (js : List Join) (cs : List C) → IsFrom C.symbols line.now table js cs → ⊥ }
 {
-    let front = expect(line, b"from")?;
-    let (table, behind_table) = name(alloc, front)?;
+    let front = expect(line, b"from", place)?;
+    let (table, behind_table) = name(alloc, front, Place::Table)?;
     let (joins, rest) = joins(alloc, behind_table)?;
-    let conditions = conditions(alloc, rest)?;
+    let conditions = conditions(alloc, rest, Place::BehindTable)?;
     Ok((table, joins, conditions))
 }
 
 // where CONDITION {and CONDITION}, or nothing, and the end of the line
-fn conditions<C: Item>(alloc: Global, line: &[u8]) -> Result<Vec<C>, ParseRefusal>
+fn conditions<C: Item>(alloc: Global, line: &[u8], place: Place) -> Result<Vec<C>, Stopped>
     ensures conditions { IfOk result (λ v. IsWhere C.symbols line.now v.items) }
     ensures syntax { IsErrOf result ParseRefusal.Syntax → IsOfText line.now → (cs : List C) → IsWhere C.symbols line.now cs → ⊥ }
 {
     let Some(front) = after(line, b"where") else {
-        end(line)?;
+        end(line, place)?;
         return Ok(Vec::new(alloc));
     };
-    let (conditions, rest) = list(alloc, front, b"and")?;
-    end(rest)?;
+    let (conditions, rest) = list(alloc, front, b"and", Place::Column, Place::Column)?;
+    end(rest, Place::BehindCondition)?;
     Ok(conditions)
 }
 
 // NAME, and the end of the line
-fn only_name(alloc: Global, line: &[u8]) -> Result<Text, ParseRefusal>
+fn only_name(alloc: Global, line: &[u8]) -> Result<Text, Stopped>
     ensures name { IfOk result (λ name. IsWhole line.now (Name name ∷ [])) }
     ensures syntax { IsErrOf result ParseRefusal.Syntax → (name : List ℕ) → IsWhole line.now (Name name ∷ []) → ⊥ }
 {
-    let (name, rest) = name(alloc, line)?;
-    end(rest)?;
+    let (name, rest) = name(alloc, line, Place::Table)?;
+    end(rest, Place::End)?;
     Ok(name)
 }
 
 // COUNT, and the end of the line
-fn only_count(line: &[u8]) -> Result<u64, ParseRefusal>
+fn only_count(line: &[u8]) -> Result<u64, Stopped>
     ensures { MatchResult result (λ n. IsWhole line.now (Count n ∷ [])) (λ _. (n : ℕ) → IsWhole line.now (Count n ∷ []) → ⊥) }
 {
     let (characters, rest) = split_lexeme(line);
     let Some(number) = count(characters) else {
-        return Err(ParseRefusal::Syntax);
+        return Err(Stopped::at(line, Place::Count));
     };
-    end(rest)?;
+    end(rest, Place::End)?;
     Ok(number)
 }
 
 // NAME NAME KIND, an index, and the end of the line
-fn index_parts(alloc: Global, line: &[u8]) -> Result<(Text, Text, IndexKind), ParseRefusal>
+fn index_parts(alloc: Global, line: &[u8]) -> Result<(Text, Text, IndexKind), Stopped>
     ensures parts { IfOk result (λ r. IsWhole line.now (index_symbols r.0 r.1 r.2)) }
     ensures syntax { IsErrOf result ParseRefusal.Syntax → (table column : List ℕ) (k : IndexKind) → IsWhole line.now (index_symbols table column k) → ⊥ }
 {
-    let (table, behind_table) = name(alloc, line)?;
-    let (column, behind_column) = name(alloc, behind_table)?;
+    let (table, behind_table) = name(alloc, line, Place::Table)?;
+    let (column, behind_column) = name(alloc, behind_table, Place::IndexedColumn)?;
     let (kind, rest) = index_kind(behind_column)?;
-    end(rest)?;
+    end(rest, Place::End)?;
     Ok((table, column, kind))
 }
 
-// NAME ( ITEM {, ITEM} )
+// NAME ( ITEM {, ITEM} ), with the parenthesis and the items at these places
 pub(crate) fn name_and_list<T: Item>(
     alloc: Global,
     line: &[u8],
-) -> Result<(Text, Vec<T>), ParseRefusal>
+    opening: Place,
+    place: Place,
+) -> Result<(Text, Vec<T>), Stopped>
     ensures both { IfOk result (λ r. IsNameAndList T.symbols line.now r.0 r.1.items) }
     ensures syntax { IsErrOf result ParseRefusal.Syntax → IsOfText line.now → (name : List ℕ) (xs : List T) → IsNameAndList T.symbols line.now name xs → ⊥ }
 {
-    let (name, behind_name) = name(alloc, line)?;
-    let front = expect(behind_name, b"(")?;
-    let (items, behind_items) = list(alloc, front, b",")?;
-    let rest = expect(behind_items, b")")?;
-    end(rest)?;
+    let (name, behind_name) = name(alloc, line, Place::Table)?;
+    let front = expect(behind_name, b"(", opening)?;
+    let (items, behind_items) = list(alloc, front, b",", place, place)?;
+    let rest = expect(behind_items, b")", behind_last(items.as_slice()))?;
+    end(rest, Place::End)?;
     Ok((name, items))
 }
 
 // Refuses a line that isn't blanks alone.
-fn end(line: &[u8]) -> Result<(), ParseRefusal>
+fn end(line: &[u8], place: Place) -> Result<(), Stopped>
     ensures { MatchResult result (λ _. lexeme line.now ≡ []) (λ _. lexeme line.now ≢ []) }
 {
     let (characters, _) = split_lexeme(line);
     if characters.is_empty() {
         Ok(())
     } else {
-        Err(ParseRefusal::Syntax)
+        Err(Stopped::at(line, place))
     }
 }

@@ -1,15 +1,17 @@
 //! Slots, what has one, and the numbers of holes.
 
-ghost use Rattle.std.specs.Prelude.{◌≡◌, ◌+◌, ℕ, List, [], ◌∷◌, map, length, cond, IfOk, IsErrOf};
+ghost use Rattle.std.specs.Prelude.{◌≡◌, ◌+◌, ℕ, List, [], ◌∷◌, map, length, cond, IfOk};
 ghost use Rattle.std.specs.List.{flat_map};
 ghost use Rattle.plain_statements.specs.declared.statement.Slot.{Slot};
 ghost use Rattle.plain_statements.specs.StatementSpelling.{numbers_of};
 ghost use Rattle.mm_lang.specs.Statements.{slot_symbol, slot_by, setting_by, condition_by, AreFrom};
 
-use crate::ParseRefusal;
 use crate::items::{Item, assigned, compared, value};
 use crate::lexemes::split_lexeme;
+use crate::places::Place;
+use crate::stops::Stopped;
 use plain_statements::{Slot, SlotCond, SlotSetting};
+use plain_tables::NoMemory;
 use std::alloc::Global;
 
 /// An item in which a slot stands.
@@ -26,12 +28,13 @@ pub trait SlotItem: Item {
 impl Item for Slot {
     ghost symbols = { slot_by slot_symbol };
 
-    fn read(alloc: Global, line: &[u8]) -> Result<(Slot, &[u8]), ParseRefusal> {
+    fn read(alloc: Global, line: &[u8], place: Place) -> Result<(Slot, &[u8]), Stopped> {
         let (characters, rest) = split_lexeme(line);
         if characters == b"?".as_slice() {
             return Ok((Slot::Hole(0), rest));
         }
-        Ok((Slot::Given(value(alloc, characters)?), rest))
+        let value = value(alloc, characters, line, place)?;
+        Ok((Slot::Given(value), rest))
     }
 }
 
@@ -52,8 +55,8 @@ impl SlotItem for Slot {
 impl Item for SlotSetting {
     ghost symbols = { setting_by slot_symbol };
 
-    fn read(alloc: Global, line: &[u8]) -> Result<(SlotSetting, &[u8]), ParseRefusal> {
-        let (column, slot, line) = assigned(alloc, line)?;
+    fn read(alloc: Global, line: &[u8], place: Place) -> Result<(SlotSetting, &[u8]), Stopped> {
+        let (column, slot, line) = assigned(alloc, line, place)?;
         Ok((SlotSetting { column, slot }, line))
     }
 }
@@ -69,8 +72,8 @@ impl SlotItem for SlotSetting {
 impl Item for SlotCond {
     ghost symbols = { condition_by slot_symbol };
 
-    fn read(alloc: Global, line: &[u8]) -> Result<(SlotCond, &[u8]), ParseRefusal> {
-        let (column, op, slot, line) = compared(alloc, line)?;
+    fn read(alloc: Global, line: &[u8], place: Place) -> Result<(SlotCond, &[u8]), Stopped> {
+        let (column, op, slot, line) = compared(alloc, line, place)?;
         Ok((SlotCond { column, op, slot }, line))
     }
 }
@@ -85,16 +88,15 @@ impl SlotItem for SlotCond {
 
 /// Numbers the holes from this number on, as they stand, and gives the next one. There is no memory for holes past the
 /// numbers.
-pub fn number_holes<T: SlotItem>(items: &mut [T], first: usize) -> Result<usize, ParseRefusal>
+pub fn number_holes<T: SlotItem>(items: &mut [T], first: usize) -> Result<usize, NoMemory>
     ensures symbols { IfOk result (λ next. map T.symbols items.new ≡ map T.symbols items.old) }
     ensures numbers { IfOk result (λ next. AreFrom first (flat_map numbers_of (map T.slot items.new))) }
     ensures next { IfOk result (λ next. next ≡ first + length (flat_map numbers_of (map T.slot items.new))) }
-    ensures syntax { IsErrOf result ParseRefusal.Syntax → ⊥ }
 {
     let mut next = first;
     for item in items.iter_mut() {
         if item.number(next) {
-            next = next.checked_add(1).ok_or(ParseRefusal::NoMemory)?;
+            next = next.checked_add(1).ok_or(NoMemory)?;
         }
     }
     Ok(next)

@@ -12,13 +12,21 @@ use crate::line::Line;
 use crate::parser::{
     CommandWord, SelectParts, command_word, delete_parts, name_and_list, select_parts, update_parts,
 };
+use crate::places::Place;
 use crate::slots::number_holes;
+use crate::stops::Stopped;
 use plain_statements::{Slot, SlotCond, SlotSetting, Statement};
 use plain_tables::{Sequence, Text};
 use std::alloc::Global;
 
-// The statement that begins with a word, of which this is the rest. Some words begin commands alone.
-fn statement(alloc: Global, word: CommandWord, rest: &[u8]) -> Result<Statement, ParseRefusal>
+// The statement that begins with a word, of which this is the rest. Some words begin commands alone: there the line stops at
+// its front.
+fn statement(
+    alloc: Global,
+    line: &[u8],
+    word: CommandWord,
+    rest: &[u8],
+) -> Result<Statement, Stopped>
     ensures statement { IfOk result (CompletesStatement (letters word) rest.now) }
     ensures syntax { IsErrOf result ParseRefusal.Syntax → IsOfText rest.now → (s : Statement) → IsStatement (letters word) rest.now s → ⊥ }
 {
@@ -27,8 +35,22 @@ fn statement(alloc: Global, word: CommandWord, rest: &[u8]) -> Result<Statement,
         CommandWord::Insert => insert(alloc, rest),
         CommandWord::Select => select(alloc, rest),
         CommandWord::Update => update(alloc, rest),
-        _ => Err(ParseRefusal::Syntax),
+        _ => Err(Stopped::at(line, Place::Statement)),
     }
+}
+
+/// The statement that a line spells, or where it stops to spell one.
+///
+/// The error is `Syntax` where the line spells none, and `NoMemory` where a growth was refused.
+pub fn parse_statement_or_stop(alloc: Global, line: &Line<'_>) -> Result<Statement, Stopped>
+    ensures statement { IfOk result (λ s. SpellsStatement line.now s) }
+    ensures syntax { IsErrOf result ParseRefusal.Syntax → (s : Statement) → SpellsStatement line.now s → ⊥ }
+{
+    let whole = line.as_str().as_bytes();
+    let Some(word) = command_word(line.word()) else {
+        return Err(Stopped::at(whole, Place::Statement));
+    };
+    statement(alloc, whole, word, line.rest())
 }
 
 /// The statement that a line spells.
@@ -38,18 +60,20 @@ pub fn parse_statement(alloc: Global, line: &Line<'_>) -> Result<Statement, Pars
     ensures statement { IfOk result (λ s. SpellsStatement line.now s) }
     ensures syntax { IsErrOf result ParseRefusal.Syntax → (s : Statement) → SpellsStatement line.now s → ⊥ }
 {
-    let Some(word) = command_word(line.word()) else {
-        return Err(ParseRefusal::Syntax);
-    };
-    statement(alloc, word, line.rest())
+    Ok(parse_statement_or_stop(alloc, line)?)
 }
 
 // NAME ( SLOT {, SLOT} )
-fn insert(alloc: Global, line: &[u8]) -> Result<Statement, ParseRefusal>
+fn insert(alloc: Global, line: &[u8]) -> Result<Statement, Stopped>
     ensures statement { IfOk result (λ s. CompletesStatement (codes "insert") line.now s) }
     ensures syntax { IsErrOf result ParseRefusal.Syntax → IsOfText line.now → (s : Statement) → IsStatement (codes "insert") line.now s → ⊥ }
 {
-    let (table, mut slots): (Text, Vec<Slot>) = name_and_list(alloc, line)?;
+    let (table, mut slots): (Text, Vec<Slot>) = name_and_list(
+        alloc,
+        line,
+        Place::Values,
+        Place::Value,
+    )?;
     number_holes(slots.as_mut_slice(), 0)?;
     Ok(Statement::Insert {
         table,
@@ -58,7 +82,7 @@ fn insert(alloc: Global, line: &[u8]) -> Result<Statement, ParseRefusal>
 }
 
 // NAME set NAME = SLOT {, NAME = SLOT} [where ..]
-fn update(alloc: Global, line: &[u8]) -> Result<Statement, ParseRefusal>
+fn update(alloc: Global, line: &[u8]) -> Result<Statement, Stopped>
     ensures statement { IfOk result (λ s. CompletesStatement (codes "update") line.now s) }
     ensures syntax { IsErrOf result ParseRefusal.Syntax → IsOfText line.now → (s : Statement) → IsStatement (codes "update") line.now s → ⊥ }
 {
@@ -74,7 +98,7 @@ fn update(alloc: Global, line: &[u8]) -> Result<Statement, ParseRefusal>
 }
 
 // NAME [where ..]
-fn delete(alloc: Global, line: &[u8]) -> Result<Statement, ParseRefusal>
+fn delete(alloc: Global, line: &[u8]) -> Result<Statement, Stopped>
     ensures statement { IfOk result (λ s. CompletesStatement (codes "delete") line.now s) }
     ensures syntax { IsErrOf result ParseRefusal.Syntax → IsOfText line.now → (s : Statement) → IsStatement (codes "delete") line.now s → ⊥ }
 {
@@ -87,7 +111,7 @@ fn delete(alloc: Global, line: &[u8]) -> Result<Statement, ParseRefusal>
 }
 
 // [distinct] ITEMS from NAME {join ..} [where ..]
-fn select(alloc: Global, line: &[u8]) -> Result<Statement, ParseRefusal>
+fn select(alloc: Global, line: &[u8]) -> Result<Statement, Stopped>
     ensures statement { IfOk result (λ s. CompletesStatement (codes "select") line.now s) }
     ensures syntax { IsErrOf result ParseRefusal.Syntax → IsOfText line.now → (s : Statement) → IsStatement (codes "select") line.now s → ⊥ }
 {

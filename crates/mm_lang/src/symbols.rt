@@ -11,6 +11,8 @@ ghost use Rattle.plain_tables.specs.declared.schema.IndexKind.{IndexKind};
 
 use crate::ParseRefusal;
 use crate::lexemes::{is_letter_byte, is_word_byte, split_lexeme};
+use crate::places::Place;
+use crate::stops::Stopped;
 use plain_tables::{IndexKind, Op, Text};
 use std::alloc::Global;
 
@@ -95,23 +97,23 @@ pub fn after<'a>(line: &'a [u8], symbol: &[u8]) -> Option<&'a [u8]>
 }
 
 /// What stands behind this keyword or sign. The error is `Syntax`, where the line begins with something else.
-pub fn expect<'a>(line: &'a [u8], symbol: &[u8]) -> Result<&'a [u8], ParseRefusal>
+pub fn expect<'a>(line: &'a [u8], symbol: &[u8], place: Place) -> Result<&'a [u8], Stopped>
     ensures { MatchResult result (λ rest. (lexeme line.now ≡ symbol.now) × (rest.now ≡ after_lexeme line.now)) (λ _. lexeme line.now ≢ symbol.now) }
 {
     match after(line, symbol) {
         Some(rest) => Ok(rest),
-        None => Err(ParseRefusal::Syntax),
+        None => Err(Stopped::at(line, place)),
     }
 }
 
 /// The name at the front, and what stands behind it.
-pub fn name(alloc: Global, line: &[u8]) -> Result<(Text, &[u8]), ParseRefusal>
+pub fn name(alloc: Global, line: &[u8], place: Place) -> Result<(Text, &[u8]), Stopped>
     ensures name { IfOk result (λ r. IsName (lexeme line.now) × (r.0 ≡ lexeme line.now) × (r.1.now ≡ after_lexeme line.now)) }
     ensures syntax { IsErrOf result ParseRefusal.Syntax → IsName (lexeme line.now) → ⊥ }
 {
     let (characters, rest) = split_lexeme(line);
     if !is_whole_name(characters) {
-        return Err(ParseRefusal::Syntax);
+        return Err(Stopped::at(line, place));
     }
     let text = str::from_utf8(characters).unwrap();
     Ok((Text::from_str(alloc, text)?, rest))
@@ -145,13 +147,13 @@ fn operator_of(characters: &[u8]) -> Option<Op>
 }
 
 /// The operator at the front, and what stands behind it.
-pub fn operator(line: &[u8]) -> Result<(Op, &[u8]), ParseRefusal>
+pub fn operator(line: &[u8], place: Place) -> Result<(Op, &[u8]), Stopped>
     ensures { MatchResult result (λ r. (lexeme line.now ≡ operator_text r.0) × (r.1.now ≡ after_lexeme line.now)) (λ _. (op : Op) → lexeme line.now ≢ operator_text op) }
 {
     let (characters, rest) = split_lexeme(line);
     match operator_of(characters) {
         Some(op) => Ok((op, rest)),
-        None => Err(ParseRefusal::Syntax),
+        None => Err(Stopped::at(line, place)),
     }
 }
 
@@ -167,12 +169,12 @@ fn index_kind_of(characters: &[u8]) -> Option<IndexKind>
 }
 
 /// The kind of an index at the front, and what stands behind it.
-pub fn index_kind(line: &[u8]) -> Result<(IndexKind, &[u8]), ParseRefusal>
+pub fn index_kind(line: &[u8]) -> Result<(IndexKind, &[u8]), Stopped>
     ensures { MatchResult result (λ r. (lexeme line.now ≡ index_word r.0) × (r.1.now ≡ after_lexeme line.now)) (λ _. (k : IndexKind) → lexeme line.now ≢ index_word k) }
 {
     let (characters, rest) = split_lexeme(line);
     match index_kind_of(characters) {
         Some(kind) => Ok((kind, rest)),
-        None => Err(ParseRefusal::Syntax),
+        None => Err(Stopped::at(line, Place::IndexKind)),
     }
 }

@@ -1,9 +1,9 @@
 //! What is said to those who write as other databases want it.
 
-use crate::grammar::{State, begins_command, may_end};
+use mm_lang::{Place, Wanted};
 
 // Symbols that stand where they may not, or any where none is named; where that is, if it matters; and what is to be known.
-type Hint = (&'static [&'static str], Option<State>, &'static str);
+type Hint = (&'static [&'static str], Option<Place>, &'static str);
 
 static HINTS: [Hint; 35] = [
     (
@@ -26,27 +26,23 @@ static HINTS: [Hint; 35] = [
     (&["quit", "exit"], None, "a session ends with its input"),
     (
         &["("],
-        Some(State::IndexColumn),
+        Some(Place::IndexedColumn),
         "an index is index T c tree",
     ),
     (
         &[],
-        Some(State::UpdateSet),
+        Some(Place::Set),
         "an update is update T set c = 1 where id = 1",
     ),
     (
         &[],
-        Some(State::LoadCount),
+        Some(Place::Count),
         "a load is load T 20, with 20 bytes behind the line",
     ),
-    (
-        &[],
-        Some(State::InsertList),
-        "an insert is insert T (1, 'x')",
-    ),
+    (&[], Some(Place::Values), "an insert is insert T (1, 'x')"),
     (
         &["from"],
-        Some(State::Delete),
+        Some(Place::DeletedTable),
         "a delete is delete T where id = 1",
     ),
     (
@@ -69,15 +65,15 @@ static HINTS: [Hint; 35] = [
     ),
     (
         &[","],
-        Some(State::BehindTable),
+        Some(Place::BehindTable),
         "a join is join U on T.a = U.b",
     ),
     (
         &["="],
-        Some(State::LeftDot),
+        Some(Place::Dot),
         "a join names each column with its table",
     ),
-    (&["="], Some(State::ConditionValue), "the operator is ="),
+    (&["="], Some(Place::ComparedValue), "the operator is ="),
     (&["!"], None, "the operator is <>"),
     (&["or"], None, "conditions are joined by and alone"),
     (&["is"], None, "the condition is = null or <> null"),
@@ -107,7 +103,11 @@ static HINTS: [Hint; 35] = [
         "texts stand between single quote marks, and names between none",
     ),
     (&[";"], None, "a line needs no sign at its end"),
-    (&["("], Some(State::BehindName), "there are no functions"),
+    (
+        &["("],
+        Some(Place::BehindItemName),
+        "there are no functions",
+    ),
     (
         &["-"],
         None,
@@ -122,13 +122,28 @@ fn is_one_of(symbol: &str, symbols: &[&str]) -> bool {
         .any(|known| known.eq_ignore_ascii_case(symbol))
 }
 
+// Whether a line may end at a place.
+fn may_end(place: Place) -> bool {
+    place
+        .wanted()
+        .iter()
+        .any(|wanted| matches!(wanted, Wanted::End))
+}
+
+// Whether a command begins with this word.
+fn begins_command(word: &str) -> bool {
+    Place::Command.wanted().iter().any(
+        |wanted| matches!(wanted, Wanted::Keyword(keyword) if *keyword == word),
+    )
+}
+
 /// What is to be known where a symbol stands at a place where it may not.
-pub fn hint(state: State, symbol: &str) -> Option<&'static str> {
-    if may_end(state) && begins_command(symbol) {
+pub fn hint(place: Place, symbol: &str) -> Option<&'static str> {
+    if may_end(place) && begins_command(symbol) {
         return Some("a line is one command");
     }
     let found = HINTS.iter().find(|hint| {
-        let is_here = hint.1.is_none() || hint.1 == Some(state);
+        let is_here = hint.1.is_none() || hint.1 == Some(place);
         is_here && (hint.0.is_empty() || is_one_of(symbol, hint.0))
     })?;
     Some(found.2)

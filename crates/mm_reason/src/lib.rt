@@ -2,7 +2,7 @@
 //! value, row or limit it was of one that is.
 //!
 //! ```text
-//!  line that is no command ──▶ syntax: tokens against the table of grammar, and hints
+//!  line that is no command ──▶ syntax: the symbol where the parser stops, what may stand there, and hints
 //!  command                 ──▶ declaring, inserting, updating, selecting, blocks: by tables, conditions and values
 //!  delete of named rows    ──▶ referrers
 //! ```
@@ -19,7 +19,6 @@ mod blocks;
 mod conditions;
 mod declaring;
 mod found;
-mod grammar;
 mod hints;
 mod inserting;
 mod nearest;
@@ -29,7 +28,6 @@ mod selecting;
 mod shown;
 mod syntax;
 mod tables;
-mod tokens;
 mod updating;
 mod values;
 

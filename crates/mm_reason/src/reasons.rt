@@ -5,10 +5,10 @@ ghost use Rattle.plain_tables.specs.Spelling.{IsSpellable};
 use crate::blocks::Refused;
 use crate::found::{Found, Search, tell};
 use crate::referrers::delete_rows;
-use crate::syntax::why_no_command;
+use crate::syntax::why_stopped;
 use crate::{blocks, declaring, inserting, selecting, updating};
 use mm_catalog::Catalog;
-use mm_lang::{Line, ParseRefusal, parse};
+use mm_lang::{Line, Stopped, parse_or_stop};
 use mm_session::{Judged, LONGEST_LINE, judge_line, split_line};
 use no_memory::NoMemory;
 use plain_tables::{Command, Refusal};
@@ -85,19 +85,17 @@ fn of_command(alloc: Global, catalog: &Catalog, command: Command, refused: Refus
 }
 
 // That a line spells no command.
-fn no_command(alloc: Global, line: &str) -> Search {
-    match why_no_command(alloc, line)? {
-        Some(words) => tell(Refusal::NotACommand, Ok(words)),
-        None => Ok(None),
-    }
+fn no_command(alloc: Global, line: &str, stopped: Stopped) -> Search {
+    let stop = stopped.stop().ok_or(NoMemory)?;
+    let words = why_stopped(alloc, line, stop)?;
+    tell(Refusal::NotACommand, Ok(words))
 }
 
 // Why a line that can be read is refused.
 fn of_text(alloc: Global, catalog: &Catalog, line: &Line<'_>, refused: Refused<'_>) -> Search {
-    match parse(alloc, line) {
+    match parse_or_stop(alloc, line) {
         Ok(command) => of_command(alloc, catalog, command, refused),
-        Err(ParseRefusal::Syntax) => no_command(alloc, line.as_str()),
-        Err(ParseRefusal::NoMemory) => Err(NoMemory),
+        Err(stopped) => no_command(alloc, line.as_str(), stopped),
     }
 }
 

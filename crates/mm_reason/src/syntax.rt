@@ -1,12 +1,121 @@
-//! Why a line is no command: where the first symbol stands that may not stand there, and what was wanted.
+//! Why a line is no command, or no statement: what stands where the parser stops, and what may stand there.
 
-use crate::grammar::{RULES, State, Wanted, behind, nearest_keyword};
 use crate::hints::hint;
+use crate::nearest::Nearest;
 use crate::shown::Cut;
-use crate::tokens::{Kind, Token, Tokens};
-use mm_lang::{LONGEST_NAME, is_reserved_word};
+use mm_lang::{LONGEST_NAME, Place, Stop, Wanted, is_reserved_word, split_lexeme};
 use no_memory::NoMemory;
 use std::alloc::Global;
+
+// What a symbol is, by its characters.
+#[derive(Clone, Copy, PartialEq, Eq)]
+enum Kind {
+    Word,
+    // A digit or a `-`, then letters, digits and `_`.
+    Number,
+    // A quote mark that no other closes, and all behind it.
+    OpenText,
+    // A whole text, an operator or any other character.
+    Other,
+    // The end of the line.
+    End,
+}
+
+// A symbol at a place where it may not stand. Columns count characters from 1.
+#[derive(Clone, Copy)]
+struct Unfit<'a> {
+    place: Place,
+    column: usize,
+    kind: Kind,
+    text: &'a str,
+    is_behind_text: bool,
+}
+
+// In a text each quote mark within is written twice, so that a text that is closed has an even number of them.
+fn is_open(text: &str) -> bool {
+    text.bytes().filter(|c| *c == b'\'').count() % 2 == 1
+}
+
+fn kind_of(text: &str) -> Kind {
+    match text.bytes().next() {
+        None => Kind::End,
+        Some(b'a'..=b'z' | b'A'..=b'Z' | b'_') => Kind::Word,
+        Some(b'0'..=b'9' | b'-') => Kind::Number,
+        Some(b'\'') if is_open(text) => Kind::OpenText,
+        Some(_) => Kind::Other,
+    }
+}
+
+// The first character of a text.
+fn first_character(text: &str) -> &str {
+    let length = text.chars().next().map_or(0, |c| c.len_utf8());
+    text.get(..length).unwrap_or(text)
+}
+
+// The symbol where a line stops. Of a character that no symbol has the parser takes the first byte: here it is whole.
+fn symbol_at(line: &str, stop: Stop) -> Unfit<'_> {
+    let bytes = line.as_bytes();
+    let left = bytes
+        .get(bytes.len().saturating_sub(stop.left)..)
+        .unwrap_or(b"");
+    let (symbol, behind) = split_lexeme(left);
+    let length = symbol.len().saturating_add(behind.len());
+    let (front, rest) = line
+        .split_at_checked(bytes.len().saturating_sub(length))
+        .unwrap_or((line, ""));
+    let text = str::from_utf8(symbol).unwrap_or(first_character(rest));
+    Unfit {
+        place: stop.place,
+        column: front.chars().count().saturating_add(1),
+        kind: kind_of(text),
+        text,
+        is_behind_text: front.ends_with('\''),
+    }
+}
+
+// What may stand at a place, in words.
+fn words_of(wanted: Wanted) -> &'static str {
+    match wanted {
+        Wanted::Sign(",") => "a comma",
+        Wanted::Sign(".") => "a dot",
+        Wanted::Sign(symbol) | Wanted::Keyword(symbol) => symbol,
+        Wanted::TableName => "a table's name",
+        Wanted::ColumnName => "a column's name",
+        Wanted::Value => "a value",
+        Wanted::Operator => "an operator",
+        Wanted::Count => "a number of bytes",
+        Wanted::End => "the end of the line",
+    }
+}
+
+// All that may stand at a place, in words.
+fn wanted(alloc: Global, place: Place) -> Result<String, NoMemory> {
+    let mut words = String::new(alloc);
+    let mut left = place.wanted().len();
+    for wanted in place.wanted() {
+        if !words.is_empty() {
+            words.push_str(if left == 1 { " or " } else { ", " })?;
+        }
+        words.push_str(words_of(*wanted))?;
+        left = left.saturating_sub(1);
+    }
+    Ok(words)
+}
+
+// The keyword that is nearest to a word, of those that may stand at a place.
+fn nearest_keyword(
+    alloc: Global,
+    place: Place,
+    word: &str,
+) -> Result<Option<&'static str>, NoMemory> {
+    let mut nearest = Nearest::of(word);
+    for wanted in place.wanted() {
+        if let Wanted::Keyword(keyword) = wanted {
+            nearest.look_at(alloc, *keyword)?;
+        }
+    }
+    Ok(nearest.found())
+}
 
 // Whether a symbol is a number by its form: digits, with a `-` before them or not.
 fn is_numeral(text: &str) -> bool {
@@ -14,27 +123,12 @@ fn is_numeral(text: &str) -> bool {
     !digits.is_empty() && digits.bytes().all(|c| c.is_ascii_digit())
 }
 
-// What is wanted at a place, in words.
-fn wanted(alloc: Global, state: State) -> Result<String, NoMemory> {
-    let mut words = String::new(alloc);
-    let mut left = RULES.iter().filter(|rule| rule.0 == state).count();
-    for rule in RULES.iter().filter(|rule| rule.0 == state) {
-        if !words.is_empty() {
-            words.push_str(if left == 1 { " or " } else { ", " })?;
-        }
-        words.push_str(rule.1.words())?;
-        left = left.saturating_sub(1);
-    }
-    Ok(words)
-}
-
 // What is wrong with a symbol wherever it stands.
-fn misformed(alloc: Global, token: &Token<'_>) -> Result<Option<String>, NoMemory> {
-    let text = Cut(token.text);
-    let words = match token.kind {
+fn misformed(alloc: Global, unfit: &Unfit<'_>) -> Result<Option<String>, NoMemory> {
+    let text = Cut(unfit.text);
+    let words = match unfit.kind {
         Kind::OpenText => { format!(in alloc; "the text {text} has no quote mark at its end")? }
-        Kind::Number if token.text == "-" => return Ok(None),
-        Kind::Number if !is_numeral(token.text) => {
+        Kind::Number if unfit.text != "-" && !is_numeral(unfit.text) => {
             format!(in alloc; "{text} is no number, and a name begins with a letter")?
         }
         _ => return Ok(None),
@@ -42,139 +136,105 @@ fn misformed(alloc: Global, token: &Token<'_>) -> Result<Option<String>, NoMemor
     Ok(Some(words))
 }
 
-// What is wrong with a word where this is wanted, if there is more to be said of it.
-fn unfit_word(
-    alloc: Global,
-    state: State,
-    is_name_wanted: bool,
-    word: &str,
-) -> Result<String, NoMemory> {
+// Why a word is no name, where one may stand.
+fn no_name(alloc: Global, place: Place, word: &str) -> Result<String, NoMemory> {
     let (text, bytes) = (Cut(word), word.len());
-    if !is_name_wanted {
-        return Ok(format!(in alloc; "{text} is no value: a text stands between quote marks")?);
-    }
     if is_reserved_word(word.as_bytes()) {
-        let wanted = wanted(alloc, state)?;
+        let wanted = wanted(alloc, place)?;
         return Ok(format!(in alloc; "wanted {wanted}, and {text} is a reserved word")?);
     }
     Ok(format!(in alloc; "the name {text} has {bytes} bytes, and {LONGEST_NAME} are allowed")?)
 }
 
-// What is wrong with a symbol where this is wanted, if there is more to be said of it.
-fn unfit(
-    alloc: Global,
-    state: State,
-    wanted: Wanted,
-    token: &Token<'_>,
-) -> Result<Option<String>, NoMemory> {
-    match (wanted, token.kind) {
-        (Wanted::Name(_), Kind::Word) => { Ok(Some(unfit_word(alloc, state, true, token.text)?)) }
-        (Wanted::Value, Kind::Word) => Ok(Some(unfit_word(alloc, state, false, token.text)?)),
-        (Wanted::Value, Kind::Number) => {
-            let text = Cut(token.text);
-            Ok(Some(format!(in alloc; "{text} is past 64 bits")?))
+// Why a symbol is not what may stand at its place, if there is more to be said of it.
+fn unlike(alloc: Global, wanted: Wanted, unfit: &Unfit<'_>) -> Result<Option<String>, NoMemory> {
+    let text = Cut(unfit.text);
+    let words = match (wanted, unfit.kind) {
+        (Wanted::TableName | Wanted::ColumnName, Kind::Word) => {
+            no_name(alloc, unfit.place, unfit.text)?
         }
-        _ => Ok(None),
-    }
+        (Wanted::Value, Kind::Word) => {
+            format!(in alloc; "{text} is no value: a text stands between quote marks")?
+        }
+        (Wanted::Value, Kind::Number) if unfit.text != "-" => {
+            format!(in alloc; "{text} is past 64 bits")?
+        }
+        _ => return Ok(None),
+    };
+    Ok(Some(words))
 }
 
 // What was wanted at a place, and what stands there.
-fn unwanted(alloc: Global, state: State, token: &Token<'_>) -> Result<String, NoMemory> {
-    let wanted = wanted(alloc, state)?;
-    if token.kind == Kind::End {
+fn unwanted(alloc: Global, unfit: &Unfit<'_>) -> Result<String, NoMemory> {
+    let wanted = wanted(alloc, unfit.place)?;
+    if unfit.kind == Kind::End {
         return Ok(format!(in alloc; "wanted {wanted}, found the end of the line")?);
     }
-    let text = Cut(token.text);
+    let text = Cut(unfit.text);
     Ok(format!(in alloc; "wanted {wanted}, found {text}")?)
 }
 
-// Why the first word is no command.
-fn no_command(alloc: Global, token: &Token<'_>) -> Result<String, NoMemory> {
-    let is_known = hint(State::Start, token.text).is_some()
-        || nearest_keyword(alloc, State::Start, token.text)?.is_some();
+// Why a line doesn't begin with what its first symbol was to be.
+fn no_beginning(alloc: Global, unfit: &Unfit<'_>, what: &str) -> Result<String, NoMemory> {
+    let is_known = hint(unfit.place, unfit.text).is_some()
+        || nearest_keyword(alloc, unfit.place, unfit.text)?.is_some();
     if !is_known {
-        return unwanted(alloc, State::Start, token);
+        return unwanted(alloc, unfit);
     }
-    let text = Cut(token.text);
-    Ok(format!(in alloc; "{text} is no command")?)
+    let text = Cut(unfit.text);
+    Ok(format!(in alloc; "{text} is no {what}")?)
 }
 
-// Why a symbol may not stand at a place, without what other databases have to do with it.
-fn told(alloc: Global, state: State, token: &Token<'_>) -> Result<String, NoMemory> {
-    if let Some(words) = misformed(alloc, token)? {
+// Why a symbol may not stand at its place, without what other databases have to do with it.
+fn told(alloc: Global, unfit: &Unfit<'_>) -> Result<String, NoMemory> {
+    if let Some(words) = misformed(alloc, unfit)? {
         return Ok(words);
     }
-    if state == State::Start {
-        return no_command(alloc, token);
+    match unfit.place {
+        Place::Command => return no_beginning(alloc, unfit, "command"),
+        Place::Statement => return no_beginning(alloc, unfit, "statement"),
+        _ => {}
     }
-    for rule in RULES.iter().filter(|rule| rule.0 == state) {
-        if let Some(words) = unfit(alloc, state, rule.1, token)? {
+    for wanted in unfit.place.wanted() {
+        if let Some(words) = unlike(alloc, *wanted, unfit)? {
             return Ok(words);
         }
     }
-    unwanted(alloc, state, token)
+    unwanted(alloc, unfit)
 }
 
-// What is to be known of a symbol at a place where it may not stand, behind another.
-fn hint_of(state: State, before: &Token<'_>, token: &Token<'_>) -> Option<&'static str> {
-    let end = before.column.saturating_add(before.text.chars().count());
-    if before.kind == Kind::Text && token.kind == Kind::Word && end == token.column {
+// What is to be known of a symbol where it may not stand.
+fn hint_of(unfit: &Unfit<'_>) -> Option<&'static str> {
+    if unfit.is_behind_text && unfit.kind == Kind::Word {
         return Some("a quote mark in a text is written twice");
     }
-    hint(state, token.text)
+    hint(unfit.place, unfit.text)
 }
 
-// The keyword that may be meant by a word at a place, in words.
-fn meant(alloc: Global, state: State, token: &Token<'_>) -> Result<Option<String>, NoMemory> {
-    if token.kind != Kind::Word {
+// The keyword that may be meant by a symbol, in words.
+fn meant(alloc: Global, unfit: &Unfit<'_>) -> Result<Option<String>, NoMemory> {
+    if unfit.kind != Kind::Word {
         return Ok(None);
     }
-    let Some(keyword) = nearest_keyword(alloc, state, token.text)? else {
+    let Some(keyword) = nearest_keyword(alloc, unfit.place, unfit.text)? else {
         return Ok(None);
     };
-    if keyword.eq_ignore_ascii_case(token.text) {
+    if keyword.eq_ignore_ascii_case(unfit.text) {
         return Ok(Some(format!(in alloc; "{keyword} is written in small letters")?));
     }
     Ok(Some(format!(in alloc; "is {keyword} meant?")?))
 }
 
-// Why a symbol may not stand at a place, in whole.
-fn refused(
-    alloc: Global,
-    state: State,
-    before: &Token<'_>,
-    token: &Token<'_>,
-) -> Result<String, NoMemory> {
-    let column = token.column;
-    let words = told(alloc, state, token)?;
-    if let Some(hint) = hint_of(state, before, token) {
+/// Why a line stops to be a command or a statement, by where it stops.
+pub fn why_stopped(alloc: Global, line: &str, stop: Stop) -> Result<String, NoMemory> {
+    let unfit = symbol_at(line, stop);
+    let column = unfit.column;
+    let words = told(alloc, &unfit)?;
+    if let Some(hint) = hint_of(&unfit) {
         return Ok(format!(in alloc; "column {column}: {words}: {hint}")?);
     }
-    match meant(alloc, state, token)? {
+    match meant(alloc, &unfit)? {
         Some(meant) => Ok(format!(in alloc; "column {column}: {words}: {meant}")?),
         None => Ok(format!(in alloc; "column {column}: {words}")?),
     }
-}
-
-/// Why a line is no command. Of one that is a command nothing is said.
-pub fn why_no_command(alloc: Global, line: &str) -> Result<Option<String>, NoMemory> {
-    let mut tokens = Tokens::of(line);
-    let mut state = State::Start;
-    let mut before = Token {
-        column: 1,
-        kind: Kind::End,
-        text: "",
-    };
-    for _ in 0..=line.len() {
-        let token = tokens.take_next();
-        let Some(next) = behind(state, &token) else {
-            return Ok(Some(refused(alloc, state, &before, &token)?));
-        };
-        if token.kind == Kind::End {
-            return Ok(None);
-        }
-        state = next;
-        before = token;
-    }
-    Ok(None)
 }

@@ -7,7 +7,7 @@ use Rattle.mm_lang.specs.Words.{letters}
 use Rattle.mm_lang.specs.Statements.{CompletesStatement}
 use Rattle.mm_lang.proofs.Complete.{not-statement, unknown-statement}
 use Rattle.mm_lang.proofs.Sound.{statement-spelled}
-use Rattle.mm_lang.proofs.statements.parse_statement.Goals as goal
+use Rattle.mm_lang.proofs.statements.parse_statement_or_stop.Goals as goal
 
 pub returns-in_default-clause-syntax : goal.returns-in_default-clause-syntax
 returns-in_default-clause-syntax c = λ _. unknown-statement c.args.line.now (λ w is. c.in_default.ensures w (c.word.ensures ∙ is))

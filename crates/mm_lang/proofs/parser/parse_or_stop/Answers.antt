@@ -6,7 +6,7 @@ use Rattle.plain_tables.specs.Reading.{lexeme}
 use Rattle.mm_lang.specs.Parsing.{Completes}
 use Rattle.mm_lang.specs.Words.{letters}
 use Rattle.mm_lang.proofs.Spelled.{spelled, not-spelled, unknown-word}
-use Rattle.mm_lang.proofs.parser.parse.Goals as goal
+use Rattle.mm_lang.proofs.parser.parse_or_stop.Goals as goal
 
 pub returns-in_default-clause-syntax : goal.returns-in_default-clause-syntax
 returns-in_default-clause-syntax c = λ _. unknown-word c.args.line.now (λ w is. c.in_default.ensures w (c.word.ensures ∙ is))
