@@ -12,7 +12,7 @@ ghost use Rattle.mm_catalog.specs.Seen.{database_of, plain_index};
 use crate::catalog::Catalog;
 use crate::laws::a_catalog_is_consistent;
 use mm_relation::DeclaredIndex;
-use mm_resolver::{Schemas, resolve, resolve_statement, type_of};
+use mm_resolver::{Culprit, Schemas, resolve, resolve_statement, type_of};
 use plain_statements::{Resolution, Statement};
 use plain_tables::{
     BaseKind, ColKind, Column, ColumnNumber, Command, IndexKind, Refusal, Resolved, TableNumber,
@@ -81,6 +81,9 @@ impl Schemas for Catalog {
     fn allocator(&self) -> Global {
         self.allocator()
     }
+
+    #[inline]
+    fn blame(&self, _refusal: Refusal, _culprit: Culprit) {}
 }
 
 impl Catalog {

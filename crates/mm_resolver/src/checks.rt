@@ -10,6 +10,7 @@ ghost use Rattle.mm_resolver.specs.Checks.{verdict};
 ghost use Rattle.mm_resolver.specs.Select.{asks_too_much as asks_too_much_so, joined_rest};
 ghost use Rattle.plain_tables.specs.Queries.{same_place};
 
+use crate::culprit::Culprit;
 use crate::repeats::repeats_name;
 use crate::schemas::Schemas;
 use crate::scope::Scope;
@@ -47,13 +48,14 @@ fn shows_place(place: Place, places: &[Place]) -> bool
     places.iter().any(|other| place.source == other.source && place.column.0 == other.column.0)
 }
 
-// Whether a place stands twice.
-fn repeats_place(places: &[Place]) -> bool
+// Whether a column is shown twice.
+fn repeats_place<S: Schemas>(schemas: &S, places: &[Place]) -> bool
     ensures { result ≡ effects.repeats same_place places.now }
 {
     let mut rest = places;
     while let Some((first, others)) = rest.split_first() {
         if shows_place(*first, others) {
+            schemas.blame(Refusal::ColumnNamedTwice, Culprit::Shown(*first));
             return true;
         }
         rest = others;
@@ -71,19 +73,46 @@ fn shown_places(shown: &Shown) -> &[Place]
     }
 }
 
+/// Whether there are more than the most that there may be. The culprit is then to blame.
+pub fn are_too_many<S: Schemas>(schemas: &S, count: usize, most: usize, culprit: Culprit) -> bool
+    ensures { result ≡ nat_lt most count }
+{
+    if count <= most {
+        return false;
+    }
+    schemas.blame(Refusal::TooMany, culprit);
+    true
+}
+
 /// Whether a select names more items, conditions or joins than it may.
-pub fn asks_too_much(shown: &Shown, conditions: usize, joins: usize) -> bool
+pub fn asks_too_much<S: Schemas>(
+    schemas: &S,
+    shown: &Shown,
+    conditions: usize,
+    joins: usize,
+) -> bool
     ensures { result ≡ asks_too_much_so shown.now conditions joins }
 {
     let items = shown_places(shown).len();
-    items > MOST_ITEMS || conditions > MOST_CONDITIONS || joins > MOST_JOINS
+    are_too_many(schemas, items, MOST_ITEMS, Culprit::Items)
+        || are_too_many(schemas, conditions, MOST_CONDITIONS, Culprit::Conditions)
+        || are_too_many(schemas, joins, MOST_JOINS, Culprit::Joins)
 }
 
 // Whether a column refers to a table that isn't there.
 fn refers_to_missing<S: Schemas>(schemas: &S, columns: &[Column]) -> bool
     ensures { result ≡ list_any (λ c. not (plain.refers_into (S.database schemas.now) c)) columns.now }
 {
-    columns.iter().any(|column| !refers_into(schemas, column))
+    match columns
+        .iter()
+        .position(|column| !refers_into(schemas, column))
+    {
+        Some(number) => {
+            schemas.blame(Refusal::NoSuchTable, Culprit::Column(number));
+            true
+        }
+        None => false,
+    }
 }
 
 pub fn has_table<S: Schemas>(schemas: &S, name: &Text) -> bool
@@ -96,7 +125,14 @@ pub fn has_table<S: Schemas>(schemas: &S, name: &Text) -> bool
 fn is_full<S: Schemas>(schemas: &S, columns: &[Column]) -> bool
     ensures { result ≡ (nat_lt 16 (length columns.now) || nat_le 64 (length (S.database schemas.now))) }
 {
-    columns.len() > MOST_COLUMNS || schemas.table_count() >= MOST_TABLES
+    if are_too_many(schemas, columns.len(), MOST_COLUMNS, Culprit::Columns) {
+        return true;
+    }
+    if schemas.table_count() < MOST_TABLES {
+        return false;
+    }
+    schemas.blame(Refusal::TooMany, Culprit::Tables);
+    true
 }
 
 /// The tables that are referred to are there, the name is new, no column is named twice, the key refers to no table, and
@@ -109,12 +145,14 @@ pub fn check_table<S: Schemas>(schemas: &S, name: &Text, schema: &Schema) -> Res
         return Err(Refusal::NoSuchTable);
     }
     if has_table(schemas, name) {
+        schemas.blame(Refusal::TableExists, Culprit::Table);
         return Err(Refusal::TableExists);
     }
-    if repeats_name(columns) {
+    if repeats_name(schemas, columns) {
         return Err(Refusal::ColumnNamedTwice);
     }
     if key_refers(columns) {
+        schemas.blame(Refusal::WrongType, Culprit::Key);
         return Err(Refusal::WrongType);
     }
     if is_full(schemas, columns) {
@@ -123,7 +161,8 @@ pub fn check_table<S: Schemas>(schemas: &S, name: &Text, schema: &Schema) -> Res
     Ok(())
 }
 
-/// No column is shown twice, no table named twice, and the two columns of each join are of one type.
+/// No column is shown twice, no table named twice, and the two columns of each join are of one type. The join that names a table
+/// twice was blamed when it was made.
 pub fn check_joined<S: Schemas>(
     schemas: &S,
     scope: &Scope<'_>,
@@ -131,7 +170,7 @@ pub fn check_joined<S: Schemas>(
 ) -> Result<(), Refusal>
     ensures { result ≡ verdict (joined_rest (S.database schemas.now) scope.now shown.now) }
 {
-    if repeats_place(shown_places(shown)) {
+    if repeats_place(schemas, shown_places(shown)) {
         return Err(Refusal::ColumnNamedTwice);
     }
     if scope.tables.len() <= scope.sides.len() {

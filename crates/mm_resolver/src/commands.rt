@@ -10,6 +10,7 @@ ghost use Rattle.plain_tables.specs.Resolving.{resolved_of};
 ghost use Rattle.mm_csv.specs.BlockReading.{block_records};
 
 use crate::checks::check_table;
+use crate::culprit::Culprit;
 use crate::load::resolve_load;
 use crate::rows::{find_deletion, find_insertion, find_update};
 use crate::schemas::{Schemas, named_table};
@@ -68,8 +69,9 @@ fn resolve_table<S: Schemas>(schemas: &S, name: Text, schema: Schema) -> Result<
 fn resolve_drop_table<S: Schemas>(schemas: &S, table: Text) -> Result<Resolved, Refusal>
     ensures { result ≡ resolved_of [] (S.database schemas.now) (command.DropTable table) }
 {
-    let named_table = named_table(schemas, &table)?;
+    let named_table = named_table(schemas, &table, Culprit::Table)?;
     if schemas.is_table_referenced(named_table.name) {
+        schemas.blame(Refusal::TableIsReferenced, Culprit::Table);
         return Err(Refusal::TableIsReferenced);
     }
     Ok(Resolved::DropTable {
@@ -97,6 +99,15 @@ fn has_index<S: Schemas>(
     is_key_tree(column, kind) || schemas.declares(table, column, kind)
 }
 
+// What is there already of an index that exists.
+fn existing(column: ColumnNumber, kind: IndexKind) -> Culprit {
+    if is_key_tree(column, kind) {
+        Culprit::KeyTree
+    } else {
+        Culprit::Index
+    }
+}
+
 fn resolve_index<S: Schemas>(
     schemas: &S,
     table: Text,
@@ -105,9 +116,10 @@ fn resolve_index<S: Schemas>(
 ) -> Result<Resolved, Refusal>
     ensures { result ≡ resolved_of [] (S.database schemas.now) (command.Index table column kind) }
 {
-    let named_table = named_table(schemas, &table)?;
-    let column = named_table.own_column(&column)?;
+    let named_table = named_table(schemas, &table, Culprit::Table)?;
+    let column = named_table.own_column(schemas, &column)?;
     if has_index(schemas, named_table.table, column, kind) {
+        schemas.blame(Refusal::IndexExists, existing(column, kind));
         return Err(Refusal::IndexExists);
     }
     Ok(Resolved::Index {
@@ -125,9 +137,10 @@ fn resolve_drop_index<S: Schemas>(
 ) -> Result<Resolved, Refusal>
     ensures { result ≡ resolved_of [] (S.database schemas.now) (command.DropIndex table column kind) }
 {
-    let named_table = named_table(schemas, &table)?;
-    let column = named_table.own_column(&column)?;
+    let named_table = named_table(schemas, &table, Culprit::Table)?;
+    let column = named_table.own_column(schemas, &column)?;
     if !schemas.declares(named_table.table, column, kind) {
+        schemas.blame(Refusal::NoSuchIndex, Culprit::Index);
         return Err(Refusal::NoSuchIndex);
     }
     Ok(Resolved::DropIndex {
@@ -211,7 +224,7 @@ fn resolve_select<S: Schemas>(
 fn resolve_dump<S: Schemas>(schemas: &S, table: Text) -> Result<Resolved, Refusal>
     ensures { result ≡ resolved_of [] (S.database schemas.now) (command.Dump table) }
 {
-    let named_table = named_table(schemas, &table)?;
+    let named_table = named_table(schemas, &table, Culprit::Table)?;
     Ok(Resolved::Dump {
         table: named_table.table,
     })

@@ -14,6 +14,7 @@
 
 mod checks;
 mod commands;
+mod culprit;
 mod late;
 mod load;
 mod named_table;
@@ -28,9 +29,12 @@ mod slotted;
 mod statements;
 mod types;
 mod wanted;
+mod witness;
 
 pub use checks::{MOST_COLUMNS, MOST_CONDITIONS, MOST_ITEMS, MOST_JOINS, MOST_TABLES};
 pub use commands::resolve;
+pub use culprit::Culprit;
 pub use schemas::Schemas;
 pub use statements::resolve_statement;
 pub use types::{referred, type_of};
+pub use witness::{command_culprit, statement_culprit};

@@ -6,6 +6,7 @@ ghost use Rattle.plain_tables.specs.declared.command.Command.TheVariants as comm
 ghost use Rattle.plain_tables.specs.declared.refusal.Refusal.TheVariants as refusal;
 ghost use Rattle.mm_csv.specs.BlockReading.{block_records, column_of, columns_of};
 
+use crate::culprit::Culprit;
 use crate::schemas::Schemas;
 use crate::types::type_of;
 use mm_csv::{CsvRefusal, Field, rows_of};
@@ -47,6 +48,7 @@ pub fn resolve_load<S: Schemas>(schemas: &S, name: &Text, block: &[u8]) -> Resul
     ensures refused { IfErr result (λ e. e ≢ refusal.NoMemory → (bytes : ℕ) → resolved_of (block_records block.now) (S.database schemas.now) (command.Load name.now bytes) ≡ Err e) }
 {
     let Some(table) = schemas.table_number(name) else {
+        schemas.blame(Refusal::NoSuchTable, Culprit::Table);
         return Err(Refusal::NoSuchTable);
     };
     let layout = layout(schemas, table)?;
@@ -55,8 +57,14 @@ pub fn resolve_load<S: Schemas>(schemas: &S, name: &Text, block: &[u8]) -> Resul
             table,
             rows: Sequence::from_vec(rows),
         }),
-        Err(CsvRefusal::Header) => Err(Refusal::BadHeader),
-        Err(CsvRefusal::BadRow(record)) => Err(Refusal::BadRecord { record }),
+        Err(CsvRefusal::Header) => {
+            schemas.blame(Refusal::BadHeader, Culprit::Block);
+            Err(Refusal::BadHeader)
+        }
+        Err(CsvRefusal::BadRow(record)) => {
+            schemas.blame(Refusal::BadRecord { record }, Culprit::Block);
+            Err(Refusal::BadRecord { record })
+        }
         Err(CsvRefusal::NoMemory) => Err(Refusal::NoMemory),
     }
 }

@@ -7,7 +7,9 @@ ghost use Rattle.plain_tables.specs.declared.refusal.Refusal.TheVariants.{NoSuch
 ghost use Rattle.plain_tables.specs.Databases.{table_named};
 ghost use Rattle.plain_tables.specs.Queries.{fits as fits_so, place_meant};
 
+use crate::culprit::Culprit;
 use crate::names::{Name, NamedColumn, column};
+use crate::schemas::Schemas;
 use plain_tables::{Column, ColumnNumber, Place, Refusal, TableNumber, Text};
 use std::slice::from_ref;
 
@@ -67,15 +69,18 @@ impl<'a> NamedTable<'a> {
         Some(named.place.column)
     }
 
-    /// The column of that name.
-    pub fn own_column(&self, name: &Text) -> Result<ColumnNumber, Refusal>
+    /// The column of that name, which an index is on.
+    pub fn own_column<S: Schemas>(&self, schemas: &S, name: &Text) -> Result<ColumnNumber, Refusal>
         ensures found { IfOk result (λ column. place_meant (columns_of self.now) (bare name.now) ≡ Some (own_place column)) }
         ensures refused { IfErr result (λ e. e ≡ NoSuchColumn) }
         ensures missed { IfErr result (λ _. place_meant (columns_of self.now) (bare name.now) ≡ None) }
     {
         match self.place(Name::bare(name)) {
             Some(column) => Ok(column),
-            None => Err(Refusal::NoSuchColumn),
+            None => {
+                schemas.blame(Refusal::NoSuchColumn, Culprit::IndexColumn);
+                Err(Refusal::NoSuchColumn)
+            }
         }
     }
 }

@@ -4,8 +4,10 @@ ghost use Rattle.std.specs.List.{list_any};
 ghost use Rattle.std.specs.Str.{bytes_eq};
 ghost use Rattle.plain_tables.specs.Effects.{repeats};
 
+use crate::culprit::Culprit;
+use crate::schemas::Schemas;
 use plain_statements::SlotSetting;
-use plain_tables::{Column, Setting, Text};
+use plain_tables::{Column, Refusal, Setting, Text};
 
 /// What has the name of a column.
 pub trait HasName {
@@ -14,6 +16,9 @@ pub trait HasName {
 
     fn name(&self) -> &Text
         ensures { result.now ≡ named self.now };
+
+    /// What is to blame where the one of that number has a name that stands twice.
+    fn culprit(number: usize) -> Culprit;
 }
 
 impl HasName for Column {
@@ -21,6 +26,10 @@ impl HasName for Column {
 
     fn name(&self) -> &Text {
         &self.name
+    }
+
+    fn culprit(number: usize) -> Culprit {
+        Culprit::Column(number)
     }
 }
 
@@ -30,6 +39,10 @@ impl HasName for Setting {
     fn name(&self) -> &Text {
         &self.column
     }
+
+    fn culprit(number: usize) -> Culprit {
+        Culprit::Name(number)
+    }
 }
 
 impl HasName for SlotSetting {
@@ -37,6 +50,10 @@ impl HasName for SlotSetting {
 
     fn name(&self) -> &Text {
         &self.column
+    }
+
+    fn culprit(number: usize) -> Culprit {
+        Culprit::Name(number)
     }
 }
 
@@ -48,13 +65,15 @@ fn has_name<N: HasName>(items: &[N], name: &Text) -> bool
         .any(|item| name.as_bytes() == item.name().as_bytes())
 }
 
-/// Whether two have one name.
-pub fn repeats_name<N: HasName>(items: &[N]) -> bool
+/// Whether two have one name. The first of them is then to blame.
+pub fn repeats_name<S: Schemas, N: HasName>(schemas: &S, items: &[N]) -> bool
     ensures { result ≡ repeats bytes_eq (map N.named items.now) }
 {
     let mut rest = items;
     while let Some((first, others)) = rest.split_first() {
         if has_name(others, first.name()) {
+            let number = items.len().saturating_sub(rest.len());
+            schemas.blame(Refusal::ColumnNamedTwice, N::culprit(number));
             return true;
         }
         rest = others;

@@ -6,6 +6,7 @@ ghost use Rattle.plain_statements.specs.declared.resolution.Template.TheVariants
 ghost use Rattle.plain_statements.specs.declared.statement.Statement.TheVariants as statement;
 ghost use Rattle.mm_resolver.specs.Wanted.{IsFound};
 
+use crate::culprit::Culprit;
 use crate::late::{delete_late, update_late};
 use crate::repeats::repeats_name;
 use crate::schemas::{Schemas, named_table};
@@ -52,8 +53,9 @@ pub fn find_insertion<S: Schemas, V: AsSlot>(
     ensures found { IfOk result (λ f. IsFound (S.database schemas.now) (statement.Insert table.now (map V.as_slot row)) f.wanted None (template.Insert f.table (map V.as_slot f.row))) }
     ensures refused { IfErr result (λ e. e ≢ refusal.NoMemory → Refuses (S.database schemas.now) (statement.Insert table.now (map V.as_slot row)) e) }
 {
-    let named_table = named_table(schemas, table)?;
+    let named_table = named_table(schemas, table, Culprit::Table)?;
     if row.len() != named_table.columns.len() {
+        schemas.blame(Refusal::WrongNumberOfValues, Culprit::Row);
         return Err(Refusal::WrongNumberOfValues);
     }
     let wanted = row_wanted(schemas, named_table.columns, row.as_slice())?;
@@ -74,15 +76,15 @@ pub fn find_update<S: Schemas, A: AsSetting, C: AsCondition>(
     ensures found { IfOk result (λ f. IsFound (S.database schemas.now) (statement.Update table.now (map A.as_setting settings) (map C.as_condition conditions)) f.wanted f.last (template.Update f.table (map A.as_assignment f.assignments) (map C.as_test f.tests))) }
     ensures refused { IfErr result (λ e. e ≢ refusal.NoMemory → Refuses (S.database schemas.now) (statement.Update table.now (map A.as_setting settings) (map C.as_condition conditions)) e) }
 {
-    let named_table = named_table(schemas, table)?;
-    let repeated = repeats_name(settings.as_slice());
+    let named_table = named_table(schemas, table, Culprit::Table)?;
+    let repeated = repeats_name(schemas, settings.as_slice());
     let mut wanted = Wanted::new(schemas.allocator());
     let assignments = assignments(schemas, from_ref(&named_table), settings, &mut wanted)?;
     let tests = tests(schemas, from_ref(&named_table), conditions, &mut wanted)?;
     if repeated {
         return Err(Refusal::ColumnNamedTwice);
     }
-    let last = update_late::<A>(assignments.as_slice(), tests.len());
+    let last = update_late::<S, A>(schemas, assignments.as_slice(), tests.len());
     Ok(Update {
         table: named_table.table,
         assignments,
@@ -101,10 +103,10 @@ pub fn find_deletion<S: Schemas, C: AsCondition>(
     ensures found { IfOk result (λ f. IsFound (S.database schemas.now) (statement.Delete table.now (map C.as_condition conditions)) f.wanted f.last (template.Delete f.table (map C.as_test f.tests))) }
     ensures refused { IfErr result (λ e. e ≢ refusal.NoMemory → Refuses (S.database schemas.now) (statement.Delete table.now (map C.as_condition conditions)) e) }
 {
-    let named_table = named_table(schemas, table)?;
+    let named_table = named_table(schemas, table, Culprit::Table)?;
     let mut wanted = Wanted::new(schemas.allocator());
     let tests = tests(schemas, from_ref(&named_table), conditions, &mut wanted)?;
-    let last = delete_late(tests.len());
+    let last = delete_late(schemas, tests.len());
     Ok(Deletion {
         table: named_table.table,
         tests,

@@ -8,6 +8,7 @@ ghost use Rattle.plain_tables.specs.declared.command.Limits.{Limits as PlainLimi
 ghost use Rattle.plain_tables.specs.declared.refusal.Refusal.TheVariants.{NoSuchTable};
 ghost use Rattle.mm_resolver.specs.Naming.{IsNamedTableOf, table_number};
 
+use crate::culprit::Culprit;
 use crate::named_table::NamedTable;
 use plain_tables::{Column, ColumnNumber, IndexKind, Refusal, TableNumber, Text};
 use std::alloc::Global;
@@ -53,16 +54,25 @@ pub trait Schemas {
 
     /// Where lists get their memory.
     fn allocator(&self) -> Global;
+
+    /// Hears what of a command is to blame if it is refused so. It may be refused for something else in the end. Where more than
+    /// one thing is to blame for one refusal, the first that it hears of is the culprit.
+    fn blame(&self, refusal: Refusal, culprit: Culprit);
 }
 
-/// The table of that name, and what of it can be named.
-pub fn named_table<'a, S: Schemas>(schemas: &'a S, name: &Text) -> Result<NamedTable<'a>, Refusal>
+/// The table of that name, and what of it can be named. Where there is none, the culprit is to blame.
+pub fn named_table<'a, S: Schemas>(
+    schemas: &'a S,
+    name: &Text,
+    culprit: Culprit,
+) -> Result<NamedTable<'a>, Refusal>
     ensures found { IfOk result (IsNamedTableOf (S.database schemas.now) name.now) }
     ensures refused { IfErr result (λ e. e ≡ NoSuchTable) }
     ensures missed { IfErr result (λ _. table_named name.now (S.database schemas.now) ≡ None) }
 {
     schemas.are_sound();
     let Some(table) = schemas.table_number(name) else {
+        schemas.blame(Refusal::NoSuchTable, culprit);
         return Err(Refusal::NoSuchTable);
     };
     Ok(NamedTable {

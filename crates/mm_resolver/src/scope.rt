@@ -5,10 +5,12 @@ ghost use Rattle.std.specs.Option.{option_map, option_to_list, option_zip};
 ghost use Rattle.std.specs.Str.{bytes_eq};
 ghost use Rattle.plain_tables.specs.Queries.{column_meant, sides_meant, side_name};
 
+use crate::culprit::Culprit;
 use crate::named_table::NamedTable;
 use crate::names::{Name, NamedColumn, column};
+use crate::schemas::Schemas;
 use no_memory::NoMemory;
-use plain_tables::{Join, JoinSide};
+use plain_tables::{Join, JoinSide, Refusal};
 use std::alloc::Global;
 use std::slice::from_ref;
 
@@ -77,17 +79,26 @@ impl<'a> Scope<'a> {
             .any(|table| table.name.as_bytes() == name.as_bytes())
     }
 
-    /// Joins a table. Whether the join names two columns.
-    pub fn join(&mut self, own: NamedTable<'a>, join: &Join) -> Result<bool, NoMemory>
+    /// Joins a table, by the join of that number. Whether the join names two columns.
+    pub fn join<S: Schemas>(
+        &mut self,
+        schemas: &S,
+        number: usize,
+        own: NamedTable<'a>,
+        join: &Join,
+    ) -> Result<bool, NoMemory>
         ensures tables { OnOk result (self.new.tables.items ≡ (if list_any (λ s. bytes_eq s.name.now own.entry.name.now) self.old.tables.items then self.old.tables.items else self.old.tables.items ++ own.entry ∷ [])) }
         ensures named { IfOk result (λ named. named ≡ is_some (sides_meant (columns_of_all self.old.tables.items) (columns_of own.entry) join.now)) }
         ensures sides { OnOk result (map sides_found self.new.sides.items ≡ map sides_found self.old.sides.items ++ option_to_list (option_map placed_sides (sides_meant (columns_of_all self.old.tables.items) (columns_of own.entry) join.now))) }
     {
         let sides = self.sides(&own, join);
-        if !self.has(own.name) {
+        if self.has(own.name) {
+            schemas.blame(Refusal::TableNamedTwice, Culprit::Join(number));
+        } else {
             self.tables.push(own)?;
         }
         let Some(sides) = sides else {
+            schemas.blame(Refusal::NoSuchColumn, Culprit::Join(number));
             return Ok(false);
         };
         self.sides.push(sides)?;

@@ -16,6 +16,7 @@ ghost use Rattle.mm_resolver.specs.Slots.{slot_joined_by, slot_query, slot_sourc
 ghost use Rattle.mm_resolver.specs.Wanted.{Adds, IsFound};
 
 use crate::checks::check_joined;
+use crate::culprit::Culprit;
 use crate::late::select_late;
 use crate::named_table::NamedTable;
 use crate::names::{Name, column};
@@ -64,11 +65,14 @@ pub fn scope_of<'a, S: Schemas>(
     ensures found { IfOk result (IsScopeOf (S.database schemas.now) table.now joins.now) }
     ensures refused { IfErr result (λ e. e ≢ refusal.NoMemory → RefusesSelects (S.database schemas.now) table.now joins.now e) }
 {
-    let mut scope = Scope::of(schemas.allocator(), named_table(schemas, table)?)?;
+    let mut scope = Scope::of(
+        schemas.allocator(),
+        named_table(schemas, table, Culprit::Table)?,
+    )?;
     let mut missed = false;
-    for join in joins {
-        let own = named_table(schemas, &join.table)?;
-        let named = scope.join(own, join)?;
+    for (number, join) in joins.iter().enumerate() {
+        let own = named_table(schemas, &join.table, Culprit::Join(number))?;
+        let named = scope.join(schemas, number, own, join)?;
         missed |= !named;
     }
     if missed {
@@ -121,8 +125,8 @@ pub fn find_selection<S: Schemas, C: AsCondition>(
     ensures refused { IfErr result (λ e. e ≢ refusal.NoMemory → (distinct : Bool) → Refuses (S.database schemas.now) (statement.Select distinct items table.now joins.now (map C.as_condition conditions)) e) }
 {
     let scope = scope_of(schemas, table, joins)?;
-    let shown = scope.shown(items)?;
-    let last = select_late(&shown, conditions.len(), scope.sides.len());
+    let shown = scope.shown(schemas, items)?;
+    let last = select_late(schemas, &shown, conditions.len(), scope.sides.len());
     let mut wanted = Wanted::new(schemas.allocator());
     let mut sources = sources(schemas, &scope.tables, conditions, &mut wanted)?;
     check_joined(schemas, &scope, &shown)?;
@@ -148,18 +152,24 @@ impl<'a> Scope<'a> {
     }
 
     // The places of the columns that names mean. Names that mean none are left out.
-    fn places_meant(&self, names: Vec<ColName>) -> Result<Vec<Place>, NoMemory>
-        ensures { IfOk result (λ places. places.items ≡ places_meant (columns_of_all self.now.tables.items) names.items) }
+    fn places_meant(&self, alloc: Global, names: &[ColName]) -> Result<Vec<Place>, NoMemory>
+        ensures { IfOk result (λ places. places.items ≡ places_meant (columns_of_all self.now.tables.items) names.now) }
     {
         let places = names
             .iter()
             .filter_map(|name| self.place(name))
-            .collect(*names.allocator())?;
+            .collect(alloc)?;
         Ok(places)
     }
 
+    // The first of these names that means no column.
+    fn missed(&self, names: &[ColName]) -> Culprit {
+        let number = names.iter().position(|name| self.place(name).is_none());
+        Culprit::Item(number.unwrap_or(0))
+    }
+
     /// The columns that items show.
-    pub fn shown(&self, items: Items) -> Result<Shown, Refusal>
+    pub fn shown<S: Schemas>(&self, schemas: &S, items: Items) -> Result<Shown, Refusal>
         ensures shown { IfOk result (λ shown. shown ≡ shown_of (columns_of_all self.now.tables.items) items) }
         ensures named { IfOk result (λ _. misses (columns_of_all self.now.tables.items) (named_items items) ≡ false) }
         ensures refused { IfErr result (λ e. e ≢ refusal.NoMemory → e ≡ refusal.NoSuchColumn) }
@@ -168,9 +178,10 @@ impl<'a> Scope<'a> {
         let Items::Named(names) = items else {
             return Ok(Shown::All);
         };
-        let count = names.len();
-        let places = self.places_meant(names.into_vec())?;
-        if places.len() < count {
+        let names = names.as_slice();
+        let places = self.places_meant(schemas.allocator(), names)?;
+        if places.len() < names.len() {
+            schemas.blame(Refusal::NoSuchColumn, self.missed(names));
             return Err(Refusal::NoSuchColumn);
         }
         Ok(Shown::Columns(Sequence::from_vec(places)))

@@ -8,6 +8,7 @@ ghost use Rattle.plain_statements.specs.Slots.{slot_condition_names, slot_settin
 ghost use Rattle.mm_resolver.specs.Naming.{columns_of_all};
 ghost use Rattle.mm_resolver.specs.Wanted.{IsWantedOf, Adds};
 
+use crate::culprit::Culprit;
 use crate::named_table::NamedTable;
 use crate::names::{Name, column};
 use crate::schemas::Schemas;
@@ -15,7 +16,7 @@ use crate::slotted::{AsCondition, AsSetting, AsSlot};
 use crate::types::{compared_need, stored_need};
 use crate::wanted::Wanted;
 use no_memory::NoMemory;
-use plain_tables::{Column, Place, Refusal, Sequence};
+use plain_tables::{Column, ColumnNumber, Place, Refusal, Sequence};
 
 /// What is asked of the values of a row for a table of these columns.
 pub fn row_wanted<S: Schemas, V: AsSlot>(
@@ -27,7 +28,12 @@ pub fn row_wanted<S: Schemas, V: AsSlot>(
 {
     let mut wanted = Wanted::new(schemas.allocator());
     for (column, value) in columns.iter().zip(row) {
-        value.want(stored_need(schemas, &column.kind), &mut wanted)?;
+        let place = Place {
+            source: 0,
+            column: ColumnNumber(wanted.asked()),
+        };
+        let need = stored_need(schemas, &column.kind);
+        value.want(schemas, place, need, &mut wanted)?;
     }
     Ok(wanted)
 }
@@ -46,10 +52,11 @@ pub fn place_condition<S: Schemas, C: AsCondition>(
     ensures missed { IfErr result (λ e. e ≢ refusal.NoMemory → place_meant (columns_of_all tables.now) (C.as_condition condition.now).column ≡ None) }
 {
     let Some(named) = column(tables, Name::of(condition.column())) else {
+        schemas.blame(Refusal::NoSuchColumn, Culprit::Name(wanted.asked()));
         return Err(Refusal::NoSuchColumn);
     };
     let need = compared_need(schemas, &named.column.kind, condition.op());
-    condition.want(need, wanted)?;
+    condition.want(schemas, named.place, need, wanted)?;
     Ok(named.place)
 }
 
@@ -66,10 +73,11 @@ fn place_setting<S: Schemas, A: AsSetting>(
     ensures missed { IfErr result (λ e. e ≢ refusal.NoMemory → place_meant (columns_of_all tables.now) (slot_setting_name (A.as_setting setting.now)) ≡ None) }
 {
     let Some(named) = column(tables, Name::bare(setting.name())) else {
+        schemas.blame(Refusal::NoSuchColumn, Culprit::Name(wanted.asked()));
         return Err(Refusal::NoSuchColumn);
     };
     let need = stored_need(schemas, &named.column.kind);
-    setting.want(need, wanted)?;
+    setting.want(schemas, named.place, need, wanted)?;
     Ok(named.place)
 }
 

@@ -13,6 +13,7 @@ ghost use Rattle.mm_resolver.specs.Slots.{given_assignment, given_joined, given_
 ghost use Rattle.mm_resolver.specs.Wanted.{Adds};
 
 use crate::repeats::HasName;
+use crate::schemas::Schemas;
 use crate::wanted::Wanted;
 use no_memory::NoMemory;
 use plain_statements::{
@@ -29,8 +30,14 @@ pub trait AsSlot: Drop {
     // the slot that it is
     ghost as_slot: { Self → PlainSlot };
 
-    /// Adds what the value has to be.
-    fn want(&self, need: Need, wanted: &mut Wanted) -> Result<(), NoMemory>
+    /// Adds what the value has to be, which is for that column.
+    fn want<S: Schemas>(
+        &self,
+        schemas: &S,
+        column: Place,
+        need: Need,
+        wanted: &mut Wanted,
+    ) -> Result<(), NoMemory>
         ensures { OnOk result (Adds ((as_slot self.now, need) ∷ []) wanted.old wanted.new) };
 }
 
@@ -63,8 +70,14 @@ pub trait AsCondition: Drop {
     fn op(&self) -> Op
         ensures { result ≡ (as_condition self.now).op };
 
-    /// Adds what its value has to be.
-    fn want(&self, need: Need, wanted: &mut Wanted) -> Result<(), NoMemory>
+    /// Adds what its value has to be, which is for that column.
+    fn want<S: Schemas>(
+        &self,
+        schemas: &S,
+        column: Place,
+        need: Need,
+        wanted: &mut Wanted,
+    ) -> Result<(), NoMemory>
         ensures { OnOk result (Adds (((as_condition self.now).slot, need) ∷ []) wanted.old wanted.new) };
 
     /// The test that it is of the column at a place.
@@ -94,8 +107,14 @@ pub trait AsSetting: HasName + Drop {
 
     ghost as_assignment: { Self.Assignment → PlainSlotAssignment };
 
-    /// Adds what its value has to be.
-    fn want(&self, need: Need, wanted: &mut Wanted) -> Result<(), NoMemory>
+    /// Adds what its value has to be, which is for that column.
+    fn want<S: Schemas>(
+        &self,
+        schemas: &S,
+        column: Place,
+        need: Need,
+        wanted: &mut Wanted,
+    ) -> Result<(), NoMemory>
         ensures { OnOk result (Adds (((as_setting self.now).slot, need) ∷ []) wanted.old wanted.new) };
 
     /// The assignment that it is to the column at a place.
@@ -113,8 +132,14 @@ impl AsSlot for Value {
     ghost as_slot = { slots.Given };
 
     #[inline]
-    fn want(&self, need: Need, wanted: &mut Wanted) -> Result<(), NoMemory> {
-        wanted.judge(self, need);
+    fn want<S: Schemas>(
+        &self,
+        schemas: &S,
+        column: Place,
+        need: Need,
+        wanted: &mut Wanted,
+    ) -> Result<(), NoMemory> {
+        wanted.judge(schemas, column, self, need);
         Ok(())
     }
 }
@@ -123,9 +148,15 @@ impl AsSlot for Slot {
     ghost as_slot = { λ s. s };
 
     #[inline]
-    fn want(&self, need: Need, wanted: &mut Wanted) -> Result<(), NoMemory> {
+    fn want<S: Schemas>(
+        &self,
+        schemas: &S,
+        column: Place,
+        need: Need,
+        wanted: &mut Wanted,
+    ) -> Result<(), NoMemory> {
         match self {
-            Slot::Given(value) => value.want(need, wanted),
+            Slot::Given(value) => value.want(schemas, column, need, wanted),
             Slot::Hole(hole) => wanted.want(*hole, need),
         }
     }
@@ -157,8 +188,14 @@ impl AsCondition for Cond {
     }
 
     #[inline]
-    fn want(&self, need: Need, wanted: &mut Wanted) -> Result<(), NoMemory> {
-        self.value.want(need, wanted)
+    fn want<S: Schemas>(
+        &self,
+        schemas: &S,
+        column: Place,
+        need: Need,
+        wanted: &mut Wanted,
+    ) -> Result<(), NoMemory> {
+        self.value.want(schemas, column, need, wanted)
     }
 
     #[inline]
@@ -220,8 +257,14 @@ impl AsCondition for SlotCond {
     }
 
     #[inline]
-    fn want(&self, need: Need, wanted: &mut Wanted) -> Result<(), NoMemory> {
-        self.slot.want(need, wanted)
+    fn want<S: Schemas>(
+        &self,
+        schemas: &S,
+        column: Place,
+        need: Need,
+        wanted: &mut Wanted,
+    ) -> Result<(), NoMemory> {
+        self.slot.want(schemas, column, need, wanted)
     }
 
     #[inline]
@@ -267,8 +310,14 @@ impl AsSetting for Setting {
     ghost same_name = { λ s. refl };
 
     #[inline]
-    fn want(&self, need: Need, wanted: &mut Wanted) -> Result<(), NoMemory> {
-        self.value.want(need, wanted)
+    fn want<S: Schemas>(
+        &self,
+        schemas: &S,
+        column: Place,
+        need: Need,
+        wanted: &mut Wanted,
+    ) -> Result<(), NoMemory> {
+        self.value.want(schemas, column, need, wanted)
     }
 
     #[inline]
@@ -295,8 +344,14 @@ impl AsSetting for SlotSetting {
     ghost same_name = { λ s. refl };
 
     #[inline]
-    fn want(&self, need: Need, wanted: &mut Wanted) -> Result<(), NoMemory> {
-        self.slot.want(need, wanted)
+    fn want<S: Schemas>(
+        &self,
+        schemas: &S,
+        column: Place,
+        need: Need,
+        wanted: &mut Wanted,
+    ) -> Result<(), NoMemory> {
+        self.slot.want(schemas, column, need, wanted)
     }
 
     #[inline]

@@ -8,10 +8,11 @@ ghost use Rattle.plain_tables.specs.References as plain;
 ghost use Rattle.plain_statements.specs.Slots as slots;
 ghost use Rattle.mm_resolver.specs.Select.{sides_differ};
 
+use crate::culprit::Culprit;
 use crate::schemas::Schemas;
 use crate::scope::Sides;
 use plain_statements::Need;
-use plain_tables::{BaseKind, ColKind, Column, Op, Text};
+use plain_tables::{BaseKind, ColKind, Column, Op, Place, Refusal, Text};
 
 /// The name of the table that a column refers to.
 pub fn referred(column: &Column) -> Option<&Text>
@@ -123,9 +124,26 @@ fn differ_in_type<S: Schemas>(schemas: &S, sides: &Sides<'_>) -> bool
     )
 }
 
+// The columns of the join of that number, to be blamed. No table is named twice, so its own stands behind as many others.
+fn sides_of(join: usize, sides: &Sides<'_>) -> Culprit {
+    Culprit::Sides {
+        outer: sides.outer.place,
+        inner: Place {
+            source: join.saturating_add(1),
+            column: sides.inner.place.column,
+        },
+    }
+}
+
 /// Whether the two columns of one of the joins are of different types.
 pub fn sides_are_mistyped<S: Schemas>(schemas: &S, sides: &[Sides<'_>]) -> bool
     ensures { result ≡ list_any (sides_differ (S.database schemas.now)) sides.now }
 {
-    sides.iter().any(|join| differ_in_type(schemas, join))
+    match sides.iter().position(|join| differ_in_type(schemas, join)) {
+        Some(join) => {
+            schemas.blame(Refusal::WrongType, sides_of(join, &sides[join]));
+            true
+        }
+        None => false,
+    }
 }

@@ -6,9 +6,11 @@ ghost use Rattle.plain_statements.specs.Slots.{Needed, first_refusal, opened};
 ghost use Rattle.mm_resolver.specs.Checks.{verdict};
 ghost use Rattle.mm_resolver.specs.Wanted.{IsWantedOf, Adds, given_checks};
 
+use crate::culprit::Culprit;
+use crate::schemas::Schemas;
 use no_memory::NoMemory;
 use plain_statements::{Need, Resolution, Template, Want};
-use plain_tables::{Refusal, Sequence, Value};
+use plain_tables::{Place, Refusal, Sequence, Value};
 use std::alloc::Global;
 
 /// What is asked of the values of a statement: what those to come have to be, and of the given ones whether one is none that is
@@ -18,6 +20,8 @@ pub struct Wanted {
     wants: Sequence<Want>,
     given_wrong: bool,
     given_past: bool,
+    // how many values were asked for, which tells the number of the next one
+    asked: usize,
 }
 
 impl Wanted {
@@ -29,21 +33,40 @@ impl Wanted {
             wants: Sequence::new(alloc),
             given_wrong: false,
             given_past: false,
+            asked: 0,
         }
     }
 
-    /// Judges a given value.
-    pub fn judge(&mut self, value: &Value, need: Need)
+    /// How many values were asked for so far.
+    pub fn asked(&self) -> usize {
+        self.asked
+    }
+
+    /// Judges a given value, which is for that column.
+    pub fn judge<S: Schemas>(&mut self, schemas: &S, column: Place, value: &Value, need: Need)
         ensures { Adds ((slot.Given value.now, need) ∷ []) self.old self.new }
     {
-        self.given_wrong |= need.is_wrong(value);
-        self.given_past |= need.is_past(value);
+        let culprit = Culprit::Value {
+            number: self.asked,
+            column,
+        };
+        let (is_wrong, is_past) = (need.is_wrong(value), need.is_past(value));
+        if is_wrong {
+            schemas.blame(Refusal::WrongType, culprit);
+        }
+        if is_past {
+            schemas.blame(Refusal::TextTooLong, culprit);
+        }
+        self.given_wrong |= is_wrong;
+        self.given_past |= is_past;
+        self.asked = self.asked.saturating_add(1);
     }
 
     /// Keeps what the value has to be that comes for a hole.
     pub fn want(&mut self, hole: usize, need: Need) -> Result<(), NoMemory>
         ensures { OnOk result (Adds ((slot.Hole hole, need) ∷ []) self.old self.new) }
     {
+        self.asked = self.asked.saturating_add(1);
         self.wants.push(Want { hole, need })
     }
 

@@ -23,7 +23,7 @@ loop-column-preserved g c =
     pairs_more asks columns row n c.in-Some.column.now c.in-Some.value.now turn.0 turn.1 (turn.2 _) (turn.3 _) in
     let added = c.in_ok-want.ensures (map asks (take n (zip columns row))) c.loop-column.invariant in
     let needed : IsWantedOf (map asks (take n (zip columns row)) ++ asks (c.in-Some.column.now, c.in-Some.value.now) ∷ []) c.want.new.wanted =
-    subst (λ (need : Need). IsWantedOf (map asks (take n (zip columns row)) ++ (seen c.in-Some.value.now, need) ∷ []) c.want.new.wanted) c.stored_need.ensures added in
+    subst (λ (need : Need). IsWantedOf (map asks (take n (zip columns row)) ++ (seen c.in-Some.value.now, need) ∷ []) c.want.new.wanted) c.stored_need-need.ensures added in
     subst (λ (k : ℕ). IsWantedOf (map asks (take k (zip columns row))) c.want.new.wanted) (sym (length_push c.loop-column.yielded (c.in-Some.column, c.in-Some.value)))
     (subst (λ (xs : List Needed). IsWantedOf xs c.want.new.wanted) (sym more) needed)
 
