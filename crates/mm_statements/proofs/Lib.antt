@@ -3,6 +3,7 @@ pub mod DeclareLemmas
 pub mod ExecuteLemmas
 pub mod FinishedLemmas
 pub mod GivenLemmas
+pub mod LineLemmas
 pub mod MarkLemmas
 pub mod PrepareLemmas
 pub mod QueryLemmas

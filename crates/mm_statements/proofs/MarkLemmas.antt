@@ -94,7 +94,7 @@ first-heard : (values : List Value) (s : Statement) (rest : List ℕ) → is_sil
 first-heard values (statement.Insert table slots) rest = refl
 first-heard values other rest = refl
 
-statement-heard : (line : List ℕ) (values : List Value) (s : Statement) → Spells line (filled values s) → is_silent line ≡ false
+pub statement-heard : (line : List ℕ) (values : List Value) (s : Statement) → Spells line (filled values s) → is_silent line ≡ false
 statement-heard line values s spells =
     let c : Command = filled values s in
     word-heard line (first_word c) (behind_word c) (first-heard values s) (subst (λ ss. IsMadeOf line ss) (split-word c).0 spells.2)

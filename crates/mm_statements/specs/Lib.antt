@@ -6,6 +6,7 @@ pub mod Executing
 pub mod Faults
 pub mod Kept
 pub mod Lent
+pub mod LineLaws
 pub mod Preparing
 pub mod Querying
 pub mod Resolving

@@ -28,6 +28,7 @@ mod faults;
 mod filling;
 mod finishing;
 mod kept;
+pub mod laws;
 mod lent;
 mod querying;
 mod reading;
