@@ -1,5 +1,5 @@
 -- Requests of whose answers something holds.
-use Rattle.std.proofs.Common.{◌≡◌, ℕ, List, [], ◌∷◌, ◌++◌, Bool, refl, sym, ap, ◌∙◌, subst, append_assoc, append-nil}
+use Rattle.std.proofs.Common.{ℕ, List, [], ◌∷◌, ◌++◌, Bool, refl, sym, ap, ◌∙◌, subst, append_assoc, append-nil}
 use Rattle.plain_tables.specs.Databases.{Database}
 use Rattle.plain_tables.specs.declared.command.Limits.{Limits}
 use Rattle.plain_streams.specs.Requests.{Request}

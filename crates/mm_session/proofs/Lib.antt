@@ -15,6 +15,7 @@ pub mod PerformLemmas
 pub mod PickLemmas
 pub mod PlaceLemmas
 pub mod PlacedLemmas
+pub mod PlannedLemmas
 pub mod QueryLemmas
 pub mod RefusedLemmas
 pub mod RequestLemmas

@@ -1,22 +1,19 @@
 -- That a request has one answer where memory is found, and that its answer reads no declared index.
-use Rattle.std.proofs.Common.{◌≡◌, ℕ, ◌<◌, ◌≤◌, List, [], ◌∷◌, ◌++◌, Bool, true, length, map, refl, sym, ap, ◌∙◌, subst, arith}
+use Rattle.std.proofs.Common.{◌≡◌, ℕ, ◌<◌, List, [], ◌∷◌, ◌++◌, true, length, map, refl, sym, ap, ◌∙◌, subst, arith}
 use Rattle.std.specs.List.{AllByRecursion}
-use Rattle.std.specs.Str.{IsUtf8}
 use Rattle.plain_tables.specs.AnswerText.{answer_text}
 use Rattle.plain_tables.specs.Commands.{effect_of}
 use Rattle.plain_tables.specs.Databases.{Database}
 use Rattle.plain_tables.specs.Effects.{Effect, refused}
 use Rattle.plain_tables.specs.ResolvedLaws.{AreDoneAlike, unindexed}
-use Rattle.plain_tables.specs.Spelling.{Spells}
-use Rattle.plain_tables.specs.declared.command.Command.{Command}
 use Rattle.plain_tables.specs.declared.command.Command.TheVariants.{Load}
 use Rattle.plain_tables.specs.declared.command.Limits.{Limits}
 use Rattle.plain_tables.specs.declared.refusal.Refusal.TheVariants.{LineTooLong, NotUtf8, NotACommand, BlockTooLong, BlockCutShort}
 use Rattle.plain_tables.proofs.AlikeLemmas.{indexes_are_not_read}
 use Rattle.plain_tables.proofs.Uniqueness.{spells-one}
 use Rattle.mm_csv.specs.BlockReading.{block_records}
-use Rattle.plain_streams.specs.Requests.{Request, IsReadable, Asks, is_silent}
-use Rattle.plain_streams.specs.Division.{Divides, last_request}
+use Rattle.plain_streams.specs.Requests.{Request, IsReadable, is_silent}
+use Rattle.plain_streams.specs.Division.{last_request}
 use Rattle.plain_streams.specs.Runs.{Answers, AnswersAll, IsEffect, line_of}
 use Rattle.plain_streams.specs.Runs.{too_long, not_utf8, not_a_command, block_too_long, block_cut_short, command, silent, effect, no_memory}
 use Rattle.plain_streams.proofs.Asking.{asks_one}

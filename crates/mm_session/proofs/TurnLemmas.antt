@@ -1,5 +1,5 @@
 -- Turns of a reader, one after another.
-use Rattle.std.proofs.Common.{◌≡◌, ℕ, List, [], ◌∷◌, ◌++◌, Option, None, Some, refl, sym, ap, ◌∙◌, subst}
+use Rattle.std.proofs.Common.{◌≡◌, ℕ, List, [], ◌++◌, Option, None, Some, sym, ap, ◌∙◌, subst}
 use Rattle.mm_session.specs.Sessions.{Gains}
 use Rattle.mm_session.specs.Turns.{AddsTurn, ArePrompt, IsPrompt, KeepsTurns, Turn, came}
 use Rattle.mm_session.specs.WholeRuns.{IsAnsweredSoFar}

@@ -16,6 +16,7 @@ pub mod OneRequest
 pub mod OnlyRow
 pub mod Passing
 pub mod Performed
+pub mod Planned
 pub mod Refused
 pub mod Responding
 pub mod Sessions

@@ -1,5 +1,5 @@
 -- A select whose rows are shown as they are found: by a walk of a key, or, of one table, each list of values once.
-use Rattle.std.specs.Prelude.{◌≡◌, ℕ, ◌<◌, true, false, List, [], ◌∷◌, ◌++◌, Option, length, map}
+use Rattle.std.specs.Prelude.{◌≡◌, ℕ, ◌<◌, true, false, List, [], ◌++◌, Option, length, map}
 use Rattle.std.specs.List.{All, flat_map}
 use Rattle.std.specs.Io.KnownBytes.{Appends}
 use Rattle.part_raw.specs.declared.tuple_ref.TupleRef.{TupleRef}
@@ -15,9 +15,6 @@ use Rattle.mm_relation.specs.State.{RelationState}
 use Rattle.mm_catalog.specs.State.{CatalogState}
 use Rattle.mm_catalog.specs.Seen.{database_of}
 use Rattle.temp_list.specs.Reading.{value_in}
-use Rattle.mm_session.specs.Members.{HasMembers, joined_numbers}
-use Rattle.mm_session.specs.declared.execute.query.Members.{Members}
-use Rattle.mm_session.specs.declared.execute.query.Members.TheVariants as members
 
 -- the values that are shown of a row of one table
 abbrev pub shown_row : CatalogState → RelationState → List Place → TupleRef → Row
@@ -46,13 +43,6 @@ ShowsOnce query = (query.distinct ≡ true) × (query.joins ≡ [])
 -- Such a query of these tables, which a look at each row answers.
 abbrev pub IsScan : CatalogState → Query → Type 0
 IsScan c query = IsMeant c.limits (database_of c) (resolved.Select query) × ShowsOnce query
-
--- the members of a query are at hand: those of a list, or a walk or a look at each row gives them
-abbrev pub AreAtHand : CatalogState → Query → Members → Type 0
-AreAtHand c query (members.Listed list) =
-    HasMembers c (query.source.table.0 ∷ joined_numbers query.joins) (members_of (database_of c) query.source query.joins) list
-AreAtHand c query members.Walked = query.distinct ≡ false
-AreAtHand c query members.Scanned = ShowsOnce query
 
 -- the rows that a query shows
 abbrev pub rows_shown : CatalogState → Query → List Row

@@ -8,6 +8,7 @@ mod columns;
 mod indexes;
 mod listing;
 mod only_row;
+mod planned;
 mod query;
 mod respond;
 mod scanned;

@@ -1,19 +1,22 @@
 //! A select that is not answered in bytes: the values that it shows are put into cells.
 
-ghost use Rattle.std.specs.Prelude.{◌≡◌, ◌++◌, ◌<◌, [], length, map, IfOk, OnOk, slice_index_or};
+ghost use Rattle.std.specs.Prelude.{◌≡◌, ◌++◌, ◌∷◌, ◌<◌, [], length, map, IfOk, OnOk, slice_index_or};
 ghost use Rattle.std.specs.List.{All, flat_map};
 ghost use Rattle.plain_tables.specs.Doing.{done, headings, joined_tables};
+ghost use Rattle.plain_tables.specs.Joining.{members_of};
 ghost use Rattle.plain_tables.specs.ResolvedLaws.{IsMeant};
 ghost use Rattle.plain_tables.specs.declared.resolved.Resolved.TheVariants as resolved;
 ghost use Rattle.mm_catalog.specs.Seen.{database_of};
 ghost use Rattle.temp_list.specs.Lists.{IsOver, HasPlace};
 ghost use Rattle.mm_session.specs.Changing.{ShowsValues};
+ghost use Rattle.mm_session.specs.Members.{HasMembers, joined_numbers};
 ghost use Rattle.mm_session.specs.OnlyRow.{ShowsOnly};
 ghost use Rattle.mm_session.specs.Shown.{list_values, placed_values};
 ghost use Rattle.mm_session.specs.Walked.{rows_shown};
 
 use super::Executor;
 use super::only_row::{push_shown, shown_width};
+use super::planned::QueryPlan;
 use mm_catalog::Catalog;
 use mm_catalog::laws::a_catalog_is_consistent;
 use mm_cells::Cells;
@@ -79,16 +82,38 @@ impl Executor {
     }
 
     // Puts the values that a select shows of a list of its members behind the others.
-    fn push_listed(&self, query: &Query, cells: &mut Cells) -> Result<usize, NoMemory>
+    fn push_members(
+        &self,
+        query: &Query,
+        members: TempList,
+        cells: &mut Cells,
+    ) -> Result<usize, NoMemory>
+        requires meant { IsMeant self.now.catalog.limits (database_of self.now.catalog) (resolved.Select query.now) }
+        requires members { HasMembers self.now.catalog (query.now.source.table.0 ∷ joined_numbers query.now.joins) (members_of (database_of self.now.catalog) query.now.source query.now.joins) members }
+        ensures shown { OnOk result (cells.new ≡ cells.old ++ flat_map (λ row. row) (rows_shown self.now.catalog query.now)) }
+        ensures columns { IfOk result (λ columns. columns ≡ length (headings (joined_tables (database_of self.now.catalog) query.now.source query.now.joins) query.now.shown)) }
+        ensures some { IfOk result (λ columns. 0 < columns) }
+    {
+        let list = self.as_shown(query, members)?;
+        push_rows(cells, &self.catalog, &list)?;
+        Ok(list.columns().len())
+    }
+
+    // Puts the values that a select shows behind the others.
+    fn push_select(&self, query: &Query, cells: &mut Cells) -> Result<usize, NoMemory>
         requires { IsMeant self.now.catalog.limits (database_of self.now.catalog) (resolved.Select query.now) }
         ensures shown { OnOk result (cells.new ≡ cells.old ++ flat_map (λ row. row) (rows_shown self.now.catalog query.now)) }
         ensures columns { IfOk result (λ columns. columns ≡ length (headings (joined_tables (database_of self.now.catalog) query.now.source query.now.joins) query.now.shown)) }
         ensures some { IfOk result (λ columns. 0 < columns) }
     {
-        let members = self.listed(query)?;
-        let list = self.as_shown(query, members)?;
-        push_rows(cells, &self.catalog, &list)?;
-        Ok(list.columns().len())
+        let plan = self.plan(query)?;
+        if let QueryPlan::Search(search) = &plan {
+            if let Some(row) = self.only_row(query, *search) {
+                return self.push_only(query, row, cells);
+            }
+        }
+        let members = self.listed(query, &plan)?;
+        self.push_members(query, members, cells)
     }
 
     /// Makes the cells the values that a select shows, a row behind the other, and tells how many columns each row has. A failure
@@ -99,9 +124,6 @@ impl Executor {
         ensures some { IfOk result (λ columns. 0 < columns) }
     {
         cells.clear();
-        match self.only_row(query) {
-            Some(row) => self.push_only(query, row, cells),
-            None => self.push_listed(query, cells),
-        }
+        self.push_select(query, cells)
     }
 }

@@ -6,16 +6,9 @@ use Rattle.mm_session.specs.Walked.{rows_shown}
 use Rattle.mm_session.proofs.OnlyRowLemmas.{shown_alone}
 use Rattle.mm_session.proofs.execute.Executor.select_values.Goals as goal
 
-pub returns-in-Some-clause-shown : goal.returns-in-Some-clause-shown
-returns-in-Some-clause-shown c =
+pub returns-clause-shown : goal.returns-clause-shown
+returns-clause-shown c =
     let catalog = c.args.self.now.catalog in
     let query = c.args.query.now in
-    shown_alone c.push_only.result c.clear.new.self c.push_only.new.cells (flat_map (λ row. row) (rows_shown catalog query))
-    (length (headings (joined_tables (database_of catalog) query.source query.joins) query.shown)) c.clear.ensures c.push_only.ensures.shown c.push_only.ensures.columns
-
-pub returns-in-None-clause-shown : goal.returns-in-None-clause-shown
-returns-in-None-clause-shown c =
-    let catalog = c.args.self.now.catalog in
-    let query = c.args.query.now in
-    shown_alone c.push_listed.result c.clear.new.self c.push_listed.new.cells (flat_map (λ row. row) (rows_shown catalog query))
-    (length (headings (joined_tables (database_of catalog) query.source query.joins) query.shown)) c.clear.ensures c.push_listed.ensures.shown c.push_listed.ensures.columns
+    shown_alone c.push_select.result c.clear.new.self c.push_select.new.cells (flat_map (λ row. row) (rows_shown catalog query))
+    (length (headings (joined_tables (database_of catalog) query.source query.joins) query.shown)) c.clear.ensures c.push_select.ensures.shown c.push_select.ensures.columns

@@ -1,4 +1,4 @@
-use Rattle.std.proofs.Common.{◌≡◌, ◌++◌, ℕ, List, [], true, sym, refl, subst, ◌∙◌}
+use Rattle.std.proofs.Common.{[], true, sym, refl, subst, ◌∙◌}
 use Rattle.mm_catalog.specs.Seen.{database_of}
 use Rattle.mm_session.specs.Sessions.{State, Finishes, BreaksOff}
 use Rattle.mm_session.specs.declared.stream.responder.Responder.{Responder}
