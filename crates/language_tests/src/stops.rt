@@ -27,10 +27,8 @@ fn stop_of(alloc: Global, line: &str) -> Option<Stop> {
     if line.as_bytes().contains(&b'\n') {
         return None;
     }
-    match parse_statement_or_stop(alloc, &Line::new(line)) {
-        Ok(_) => None,
-        Err(stopped) => stopped.stop(),
-    }
+    let stopped = parse_statement_or_stop(alloc, &Line::new(line)).err()?;
+    stopped.stop()
 }
 
 #[test]
