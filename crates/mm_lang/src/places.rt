@@ -1,5 +1,7 @@
 //! The places of a line: where the parser may stop, and what may stand there.
 
+use self::Wanted::{ColumnName, Count, End, Keyword, Operator, Sign, TableName, Value};
+
 /// What may stand at a place of a line.
 #[derive(Clone, Copy)]
 pub enum Wanted {
@@ -63,23 +65,23 @@ pub enum Place {
 }
 
 const COMMANDS: &[Wanted] = &[
-    Wanted::Keyword("table"),
-    Wanted::Keyword("drop"),
-    Wanted::Keyword("index"),
-    Wanted::Keyword("insert"),
-    Wanted::Keyword("update"),
-    Wanted::Keyword("delete"),
-    Wanted::Keyword("select"),
-    Wanted::Keyword("load"),
-    Wanted::Keyword("dump"),
-    Wanted::Keyword("tables"),
+    Keyword("table"),
+    Keyword("drop"),
+    Keyword("index"),
+    Keyword("insert"),
+    Keyword("update"),
+    Keyword("delete"),
+    Keyword("select"),
+    Keyword("load"),
+    Keyword("dump"),
+    Keyword("tables"),
 ];
 
 const STATEMENTS: &[Wanted] = &[
-    Wanted::Keyword("insert"),
-    Wanted::Keyword("update"),
-    Wanted::Keyword("delete"),
-    Wanted::Keyword("select"),
+    Keyword("insert"),
+    Keyword("update"),
+    Keyword("delete"),
+    Keyword("select"),
 ];
 
 impl Place {
@@ -88,52 +90,32 @@ impl Place {
         match self {
             Place::Command => COMMANDS,
             Place::Statement => STATEMENTS,
-            Place::Table | Place::DeletedTable => &[Wanted::TableName],
-            Place::Column | Place::IndexedColumn => &[Wanted::ColumnName],
-            Place::Columns | Place::Values => &[Wanted::Sign("(")],
-            Place::ColumnType => &[
-                Wanted::Keyword("int"),
-                Wanted::Keyword("text"),
-                Wanted::Keyword("ref"),
-            ],
-            Place::BehindReference => &[
-                Wanted::Keyword("null"),
-                Wanted::Sign(","),
-                Wanted::Sign(")"),
-            ],
-            Place::BehindListed => &[Wanted::Sign(","), Wanted::Sign(")")],
-            Place::Dropped => &[Wanted::Keyword("table"), Wanted::Keyword("index")],
-            Place::IndexKind => &[Wanted::Keyword("tree"), Wanted::Keyword("hash")],
-            Place::Value | Place::ComparedValue => &[Wanted::Value],
-            Place::Set => &[Wanted::Keyword("set")],
-            Place::Equals => &[Wanted::Sign("=")],
-            Place::BehindSetting => &[Wanted::Sign(","), Wanted::Keyword("where"), Wanted::End],
-            Place::BehindDeletedTable => &[Wanted::Keyword("where"), Wanted::End],
-            Place::Select => &[
-                Wanted::Keyword("distinct"),
-                Wanted::Sign("*"),
-                Wanted::ColumnName,
-            ],
-            Place::Distinct => &[Wanted::Sign("*"), Wanted::ColumnName],
-            Place::BehindItemName => &[
-                Wanted::Sign("."),
-                Wanted::Sign(","),
-                Wanted::Keyword("from"),
-            ],
-            Place::BehindItem => &[Wanted::Sign(","), Wanted::Keyword("from")],
-            Place::From => &[Wanted::Keyword("from")],
-            Place::BehindTable => &[
-                Wanted::Keyword("join"),
-                Wanted::Keyword("where"),
-                Wanted::End,
-            ],
-            Place::On => &[Wanted::Keyword("on")],
-            Place::Dot => &[Wanted::Sign(".")],
-            Place::BehindConditionName => &[Wanted::Sign("."), Wanted::Operator],
-            Place::Operator => &[Wanted::Operator],
-            Place::BehindCondition => &[Wanted::Keyword("and"), Wanted::End],
-            Place::Count => &[Wanted::Count],
-            Place::End => &[Wanted::End],
+            Place::Table | Place::DeletedTable => &[TableName],
+            Place::Column | Place::IndexedColumn => &[ColumnName],
+            Place::Columns | Place::Values => &[Sign("(")],
+            Place::ColumnType => &[Keyword("int"), Keyword("text"), Keyword("ref")],
+            Place::BehindReference => &[Keyword("null"), Sign(","), Sign(")")],
+            Place::BehindListed => &[Sign(","), Sign(")")],
+            Place::Dropped => &[Keyword("table"), Keyword("index")],
+            Place::IndexKind => &[Keyword("tree"), Keyword("hash")],
+            Place::Value | Place::ComparedValue => &[Value],
+            Place::Set => &[Keyword("set")],
+            Place::Equals => &[Sign("=")],
+            Place::BehindSetting => &[Sign(","), Keyword("where"), End],
+            Place::BehindDeletedTable => &[Keyword("where"), End],
+            Place::Select => &[Keyword("distinct"), Sign("*"), ColumnName],
+            Place::Distinct => &[Sign("*"), ColumnName],
+            Place::BehindItemName => &[Sign("."), Sign(","), Keyword("from")],
+            Place::BehindItem => &[Sign(","), Keyword("from")],
+            Place::From => &[Keyword("from")],
+            Place::BehindTable => &[Keyword("join"), Keyword("where"), End],
+            Place::On => &[Keyword("on")],
+            Place::Dot => &[Sign(".")],
+            Place::BehindConditionName => &[Sign("."), Operator],
+            Place::Operator => &[Operator],
+            Place::BehindCondition => &[Keyword("and"), End],
+            Place::Count => &[Count],
+            Place::End => &[End],
         }
     }
 }
