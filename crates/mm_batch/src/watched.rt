@@ -12,8 +12,9 @@ ghost use Rattle.mm_batch.specs.Watching.{IsAnswered, IsPassed, EndsAt, EndsStre
 use crate::follower::Follower;
 use crate::joined::Parts;
 use mm_catalog::Catalog;
-use mm_reason::reason;
+use mm_reason::{reason, refusal_of};
 use mm_session::{Answer, Outlet, PromptRead, RunFault, Session};
+use plain_tables::Refusal;
 use plan_chooser::Policy;
 use std::alloc::Global;
 
@@ -22,9 +23,6 @@ const PIECE: usize = 65_536;
 
 // The greatest number of reads.
 const MOST_READS: u64 = 1 << 40;
-
-// The number of the refusal of a block that is too long.
-const BLOCK_TOO_LONG: u32 = 12;
 
 /// A request that was refused, as it is told.
 #[derive(Clone, Copy)]
@@ -63,19 +61,13 @@ impl Refused<'_> {
 
     /// Why it was refused, in words, where that can be told.
     pub fn reason(&self, alloc: Global) -> Option<String> {
+        let refusal = refusal_of(self.answer)?;
         let block = match self.follower.block() {
             Some(block) => block,
-            None if self.number == BLOCK_TOO_LONG => &[],
+            None if refusal == Refusal::BlockTooLong => &[],
             None => return None,
         };
-        reason(
-            alloc,
-            self.catalog,
-            self.follower.line(),
-            block,
-            self.number,
-        )
-        .unwrap_or(None)
+        reason(alloc, self.catalog, self.follower.line(), block, refusal).unwrap_or(None)
     }
 }
 

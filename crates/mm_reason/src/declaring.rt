@@ -1,114 +1,45 @@
-//! Why tables and indexes are not declared, and not dropped.
+//! Tables and indexes that are not declared, and not dropped.
 
-use crate::found::{Search, tell};
-use crate::tables::{Seen, nearest_table, referred, table_at, table_named, why_no_column};
+use crate::parts::IndexPart;
+use crate::tables::{Seen, table_at};
+use crate::told::{Reason, tell};
 use mm_catalog::{Catalog, MOST_COLUMNS, MOST_TABLES};
-use no_memory::NoMemory;
-use plain_tables::{Column, IndexKind, Refusal, Schema, TableNumber, Text};
+use mm_resolver::referred;
+use plain_tables::{Column, IndexKind, Refusal, TableNumber, Text};
 use std::alloc::Global;
-use std::slice::from_ref;
 
-/// That there is no table of that name.
-pub fn no_table(alloc: Global, catalog: &Catalog, name: &Text) -> Search {
-    let name = name.as_str();
-    let words = match nearest_table(alloc, catalog, name)? {
-        Some(near) => format!(in alloc; "{name} is no table: is {near} meant?"),
-        None => format!(in alloc; "{name} is no table"),
-    };
-    tell(Refusal::NoSuchTable, words)
-}
-
-// A column that refers to a table which isn't there.
-fn missing_reference(alloc: Global, catalog: &Catalog, columns: &[Column]) -> Search {
-    for column in columns {
-        if let Some(table) = referred(column) {
-            if catalog.table_number(table).is_none() {
-                let (table, column) = (table.as_str(), column.name.as_str());
-                return tell(
-                    Refusal::NoSuchTable,
-                    format!(in alloc; "{table}, which column {column} refers to, is no table"),
-                );
-            }
+/// Why a column is not declared: it refers to no table, or its name stands twice.
+pub fn column(alloc: Global, column: &Column, refusal: Refusal) -> Reason {
+    let name = column.name.as_str();
+    match (refusal, referred(column)) {
+        (Refusal::ColumnNamedTwice, _) => tell(format!(in alloc; "two columns are called {name}")),
+        (_, Some(table)) => {
+            let table = table.as_str();
+            tell(format!(in alloc; "{table}, which column {name} refers to, is no table"))
         }
+        (_, None) => Ok(None),
     }
-    Ok(None)
 }
 
-// A name that two columns have.
-fn repeated(alloc: Global, columns: &[Column]) -> Search {
-    for (place, column) in columns.iter().enumerate() {
-        let name = column.name.as_str();
-        if columns
-            .iter()
-            .take(place)
-            .any(|other| other.name.as_str() == name)
-        {
-            return tell(
-                Refusal::ColumnNamedTwice,
-                format!(in alloc; "two columns are called {name}"),
-            );
-        }
-    }
-    Ok(None)
-}
-
-// A key that refers to a table.
-fn referring_key(alloc: Global, columns: &[Column]) -> Search {
+/// That the first of the columns that are declared refers to a table.
+pub fn referring_key(alloc: Global, columns: &[Column]) -> Reason {
     let Some(key) = columns.first() else {
         return Ok(None);
     };
-    if referred(key).is_none() {
-        return Ok(None);
-    }
     let key = key.name.as_str();
-    tell(
-        Refusal::WrongType,
-        format!(in alloc;
-            "column {key} is the first, so it is the key, and a key refers to no table"
-        ),
-    )
+    tell(format!(in alloc;
+        "column {key} is the first, so it is the key, and a key refers to no table"
+    ))
 }
 
-// Too many columns, or too many tables.
-fn too_many(alloc: Global, catalog: &Catalog, columns: &[Column]) -> Search {
-    let count = columns.len();
-    if count > MOST_COLUMNS {
-        return tell(
-            Refusal::TooMany,
-            format!(in alloc;
-                "{count} columns are declared, and a table has at most {MOST_COLUMNS}"
-            ),
-        );
-    }
-    if catalog.table_count() < MOST_TABLES {
-        return Ok(None);
-    }
-    tell(
-        Refusal::TooMany,
-        format!(in alloc; "there are {MOST_TABLES} tables, and there can be no more"),
-    )
+/// That a table is declared with too many columns.
+pub fn too_many_columns(alloc: Global, count: usize) -> Reason {
+    tell(format!(in alloc; "{count} columns are declared, and a table has at most {MOST_COLUMNS}"))
 }
 
-/// Why a table is not declared.
-pub fn table(alloc: Global, catalog: &Catalog, name: &Text, schema: &Schema) -> Search {
-    let columns = schema.columns.as_slice();
-    if let Some(found) = missing_reference(alloc, catalog, columns)? {
-        return Ok(Some(found));
-    }
-    if catalog.table_number(name).is_some() {
-        let name = name.as_str();
-        return tell(
-            Refusal::TableExists,
-            format!(in alloc; "there is a table {name}"),
-        );
-    }
-    if let Some(found) = repeated(alloc, columns)? {
-        return Ok(Some(found));
-    }
-    if let Some(found) = referring_key(alloc, columns)? {
-        return Ok(Some(found));
-    }
-    too_many(alloc, catalog, columns)
+/// That there are as many tables as there may be.
+pub fn too_many_tables(alloc: Global) -> Reason {
+    tell(format!(in alloc; "there are {MOST_TABLES} tables, and there can be no more"))
 }
 
 // A column of a table that refers to the table of that name.
@@ -119,20 +50,14 @@ fn referrer<'a>(table: &Seen<'a>, name: &str) -> Option<&'a Column> {
     })
 }
 
-/// Why a table is not dropped.
-pub fn drop_table(alloc: Global, catalog: &Catalog, name: &Text) -> Search {
-    if catalog.table_number(name).is_none() {
-        return no_table(alloc, catalog, name);
-    }
+/// Why a table is not dropped: the first column that refers to it.
+pub fn referenced(alloc: Global, catalog: &Catalog, name: &Text) -> Reason {
     let name = name.as_str();
     for number in 0..catalog.table_count() {
         if let Some(table) = table_at(catalog, TableNumber(number)) {
             if let Some(column) = referrer(&table, name) {
                 let (table, column) = (table.name, column.name.as_str());
-                return tell(
-                    Refusal::TableIsReferenced,
-                    format!(in alloc; "column {column} of {table} refers to {name}"),
-                );
+                return tell(format!(in alloc; "column {column} of {table} refers to {name}"));
             }
         }
     }
@@ -146,80 +71,18 @@ fn kind_word(kind: IndexKind) -> &'static str {
     }
 }
 
-// Whether an index of this kind is on the column of that name, the key's own tree not counted.
-fn is_declared(table: &Seen<'_>, column: &Text, kind: IndexKind) -> bool {
-    table.relation.declared().iter().any(|index| {
-        index.kind == kind
-            && match table.columns.get(index.column.0) {
-                Some(on) => on.name.as_str() == column.as_str(),
-                None => false,
-            }
-    })
+/// That an index of a table is declared, or that it isn't.
+pub fn index(alloc: Global, table: &Text, index: IndexPart<'_>, refusal: Refusal) -> Reason {
+    let (table, column) = (table.as_str(), index.column.as_str());
+    let kind = kind_word(index.kind);
+    if refusal == Refusal::IndexExists {
+        return tell(format!(in alloc; "a {kind} on {column} of {table} is declared"));
+    }
+    tell(format!(in alloc; "no {kind} on {column} of {table} is declared"))
 }
 
-// Whether a column is the key.
-fn is_key(table: &Seen<'_>, column: &Text) -> bool {
-    match table.columns.first() {
-        Some(key) => key.name.as_str() == column.as_str(),
-        None => false,
-    }
-}
-
-// That a table has no column of that name.
-fn no_column(alloc: Global, table: &Seen<'_>, column: &Text) -> Result<String, NoMemory> {
-    why_no_column(alloc, from_ref(table), None, column)
-}
-
-/// Why an index is not declared.
-pub fn index(
-    alloc: Global,
-    catalog: &Catalog,
-    table: &Text,
-    column: &Text,
-    kind: IndexKind,
-) -> Search {
-    let Some(table) = table_named(catalog, table) else {
-        return no_table(alloc, catalog, table);
-    };
-    if table.column(column).is_none() {
-        return tell(Refusal::NoSuchColumn, Ok(no_column(alloc, &table, column)?));
-    }
-    let (name, word, on) = (table.name, kind_word(kind), column.as_str());
-    if is_declared(&table, column, kind) {
-        return tell(
-            Refusal::IndexExists,
-            format!(in alloc; "a {word} on {on} of {name} is declared"),
-        );
-    }
-    if is_key(&table, column) && kind == IndexKind::Tree {
-        return tell(
-            Refusal::IndexExists,
-            format!(in alloc; "{on} is the key of {name}, which has a tree of its own"),
-        );
-    }
-    Ok(None)
-}
-
-/// Why an index is not dropped.
-pub fn drop_index(
-    alloc: Global,
-    catalog: &Catalog,
-    table: &Text,
-    column: &Text,
-    kind: IndexKind,
-) -> Search {
-    let Some(table) = table_named(catalog, table) else {
-        return no_table(alloc, catalog, table);
-    };
-    if table.column(column).is_none() {
-        return tell(Refusal::NoSuchColumn, Ok(no_column(alloc, &table, column)?));
-    }
-    if is_declared(&table, column, kind) {
-        return Ok(None);
-    }
-    let (name, word, column) = (table.name, kind_word(kind), column.as_str());
-    tell(
-        Refusal::NoSuchIndex,
-        format!(in alloc; "no {word} on {column} of {name} is declared"),
-    )
+/// That the key of a table has a tree.
+pub fn key_tree(alloc: Global, table: &Text, index: IndexPart<'_>) -> Reason {
+    let (table, column) = (table.as_str(), index.column.as_str());
+    tell(format!(in alloc; "{column} is the key of {table}, which has a tree of its own"))
 }

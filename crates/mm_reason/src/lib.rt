@@ -3,32 +3,34 @@
 //!
 //! ```text
 //!  line that is no command ──▶ syntax: the symbol where the parser stops, what may stand there, and hints
-//!  command                 ──▶ declaring, inserting, updating, selecting, blocks: by tables, conditions and values
-//!  delete of named rows    ──▶ referrers
+//!  command                 ──▶ mm_resolver tells what is to blame ──▶ blamed, by declaring, joins, values and blocks
+//!  rows                    ──▶ rows: which key, which reference; referrers: who names the row
 //! ```
 //!
-//! It is asked after a refusal, which has changed nothing, and makes the checks of the command anew, in their order, until one
-//! fails: so what is found out costs nothing where nobody asks. It takes the tables by a shared reference. What it tells is
-//! tested, and its contracts say nothing of it.
+//! It is asked after a refusal, which has changed nothing: so what is found out costs nothing where nobody asks. What a command
+//! means it doesn't work out itself: the resolver resolves the line once more and tells what of it is to blame. It takes the
+//! tables by a shared reference. What it tells is tested, and its contracts say nothing of it.
 //!
 //! - Columns of a line count its characters from 1.
 //! - Texts are cut where they are shown.
 #![tactic(auto)]
 
+mod answered;
+mod blamed;
 mod blocks;
-mod conditions;
 mod declaring;
-mod found;
 mod hints;
-mod inserting;
+mod joins;
 mod nearest;
+mod parts;
 mod reasons;
 mod referrers;
-mod selecting;
+mod rows;
 mod shown;
 mod syntax;
 mod tables;
-mod updating;
+mod told;
 mod values;
 
+pub use answered::refusal_of;
 pub use reasons::reason;

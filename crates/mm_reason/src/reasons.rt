@@ -1,114 +1,99 @@
 //! The reason for a refusal.
 
-ghost use Rattle.plain_tables.specs.Spelling.{IsSpellable};
-
-use crate::blocks::Refused;
-use crate::found::{Found, Search, tell};
-use crate::referrers::delete_rows;
+use crate::blamed::Blamed;
+use crate::blocks::{cut_short, too_long, too_long_dump};
+use crate::parts::Parts;
+use crate::rows::refused_by_rows;
 use crate::syntax::why_stopped;
-use crate::{blocks, declaring, inserting, selecting, updating};
+use crate::told::{Reason, tell};
 use mm_catalog::Catalog;
 use mm_lang::{Line, Stopped, parse_or_stop};
+use mm_resolver::command_culprit;
 use mm_session::{Judged, LONGEST_LINE, judge_line, split_line};
 use no_memory::NoMemory;
 use plain_tables::{Command, Refusal};
 use std::alloc::Global;
 
-// The number of the refusal of a line for which no memory was found.
-const NO_MEMORY: u32 = 90;
-
-// Why a command is refused, as far as it is seen without the rows that a delete is of.
-fn without_rows(
+// Why a command is refused by the resolver, which resolves it again and tells what of it is to blame.
+fn of_names(
     alloc: Global,
     catalog: &Catalog,
     command: &Command,
-    refused: Refused<'_>,
-) -> Search {
-    match command {
-        Command::Table { name, schema } => declaring::table(alloc, catalog, name, schema),
-        Command::DropTable { table } => declaring::drop_table(alloc, catalog, table),
-        Command::Index {
-            table,
-            column,
-            kind,
-        } => declaring::index(alloc, catalog, table, column, *kind),
-        Command::DropIndex {
-            table,
-            column,
-            kind,
-        } => declaring::drop_index(alloc, catalog, table, column, *kind),
-        Command::Insert { table, values } => {
-            inserting::insert(alloc, catalog, table, values.as_slice())
-        }
-        Command::Update {
-            table,
-            settings,
-            conditions,
-        } => updating::update(
-            alloc,
-            catalog,
-            table,
-            settings.as_slice(),
-            conditions.as_slice(),
-        ),
-        Command::Delete { table, conditions } => {
-            updating::delete(alloc, catalog, table, conditions.as_slice())
-        }
-        Command::Select {
-            items,
-            table,
-            joins,
-            conditions,
-            ..
-        } => selecting::select(
-            alloc,
-            catalog,
-            items,
-            table,
-            joins.as_slice(),
-            conditions.as_slice(),
-        ),
-        Command::Load { table, bytes } => blocks::load(alloc, catalog, table, *bytes, refused),
-        Command::Dump { table } => blocks::dump(alloc, catalog, table),
-        Command::Tables => Ok(None),
+    again: Command,
+    block: &[u8],
+    refusal: Refusal,
+) -> Reason {
+    let Some(parts) = Parts::of(alloc, command)? else {
+        return Ok(None);
+    };
+    let Some(culprit) = command_culprit(catalog, again, block, refusal)? else {
+        return Ok(None);
+    };
+    Blamed {
+        alloc,
+        catalog,
+        parts,
+        block,
+        refusal,
+    }
+    .reason(culprit)
+}
+
+// Why a command is refused. It comes twice: to be talked of, and to be resolved again.
+fn of_command(
+    alloc: Global,
+    catalog: &Catalog,
+    command: &Command,
+    again: Command,
+    block: &[u8],
+    refusal: Refusal,
+) -> Reason {
+    match (command, refusal) {
+        (Command::Load { bytes, .. }, Refusal::BlockTooLong) => too_long(alloc, catalog, *bytes),
+        (Command::Load { bytes, .. }, Refusal::BlockCutShort) => cut_short(alloc, *bytes, block),
+        (Command::Dump { table }, Refusal::DumpTooLong) => too_long_dump(alloc, catalog, table),
+        (_, Refusal::KeyExists { .. })
+        | (_, Refusal::NoReferencedRow { .. })
+        | (_, Refusal::TableFull { .. })
+        | (_, Refusal::RowIsReferenced) => refused_by_rows(alloc, catalog, again, block, refusal),
+        _ => of_names(alloc, catalog, command, again, block, refusal),
     }
 }
 
-// Why a command is refused.
-fn of_command(alloc: Global, catalog: &Catalog, command: Command, refused: Refused<'_>) -> Search
-    requires { IsSpellable command }
-{
-    if let Some(found) = without_rows(alloc, catalog, &command, refused)? {
-        return Ok(Some(found));
-    }
-    delete_rows(alloc, catalog, command)
-}
-
-// That a line spells no command.
-fn no_command(alloc: Global, line: &str, stopped: Stopped) -> Search {
+// Why a line spells no command, where it is refused for that.
+fn no_command(alloc: Global, line: &str, stopped: Stopped, refusal: Refusal) -> Reason {
     let stop = stopped.stop().ok_or(NoMemory)?;
-    let words = why_stopped(alloc, line, stop)?;
-    tell(Refusal::NotACommand, Ok(words))
+    if refusal != Refusal::NotACommand {
+        return Ok(None);
+    }
+    Ok(Some(why_stopped(alloc, line, stop)?))
 }
 
-// Why a line that can be read is refused.
-fn of_text(alloc: Global, catalog: &Catalog, line: &Line<'_>, refused: Refused<'_>) -> Search {
+// Why a line that can be read is refused, with the block behind it.
+fn of_text(
+    alloc: Global,
+    catalog: &Catalog,
+    line: &Line<'_>,
+    block: &[u8],
+    refusal: Refusal,
+) -> Reason {
+    let command = match parse_or_stop(alloc, line) {
+        Ok(command) => command,
+        Err(stopped) => return no_command(alloc, line.as_str(), stopped, refusal),
+    };
     match parse_or_stop(alloc, line) {
-        Ok(command) => of_command(alloc, catalog, command, refused),
-        Err(stopped) => no_command(alloc, line.as_str(), stopped),
+        Ok(again) => of_command(alloc, catalog, &command, again, block, refusal),
+        Err(_) => Err(NoMemory),
     }
 }
 
 // Where a line is not UTF-8.
-fn not_utf8(alloc: Global, line: &[u8]) -> Search {
+fn not_utf8(alloc: Global, line: &[u8]) -> Reason {
     let Err(error) = str::from_utf8(line) else {
         return Ok(None);
     };
     let byte = error.valid_up_to().saturating_add(1);
-    tell(
-        Refusal::NotUtf8,
-        format!(in alloc; "at byte {byte} no character begins"),
-    )
+    tell(format!(in alloc; "at byte {byte} no character begins"))
 }
 
 // The first of the requests in some bytes that has an answer: its line, and what stands behind its line feed, or the block
@@ -134,44 +119,40 @@ fn asked_of<'a>(line: &Judged<'_>, bytes: &'a [u8]) -> &'a [u8] {
 }
 
 // Why a line is refused, with the block that the bytes begin with.
-fn of_line(alloc: Global, catalog: &Catalog, line: &[u8], bytes: &[u8], number: u32) -> Search {
+fn of_line(
+    alloc: Global,
+    catalog: &Catalog,
+    line: &[u8],
+    bytes: &[u8],
+    refusal: Refusal,
+) -> Reason {
     let Some(judged) = judge_line(line) else {
         return Ok(None);
     };
     let block = asked_of(&judged, bytes);
-    match judged {
-        Judged::TooLong => tell(
-            Refusal::LineTooLong,
-            format!(in alloc; "a line has at most {LONGEST_LINE} bytes"),
-        ),
-        Judged::NotUtf8 => not_utf8(alloc, line),
-        Judged::Text(text) => of_text(alloc, catalog, &text, Refused { block, number }),
-        Judged::Silent => Ok(None),
+    match (&judged, refusal) {
+        (Judged::TooLong, Refusal::LineTooLong) => {
+            tell(format!(in alloc; "a line has at most {LONGEST_LINE} bytes"))
+        }
+        (Judged::NotUtf8, Refusal::NotUtf8) => not_utf8(alloc, line),
+        (Judged::Text(line), _) => of_text(alloc, catalog, line, block, refusal),
+        _ => Ok(None),
     }
 }
 
-/// Why the request of a line and a block was refused by the refusal of this number, in words, if that can be told. It is
-/// asked of the tables as they were when the request was refused. Of a block that came in part the line is asked with that
-/// part, and of one past its limit with none. Where the line has line feeds, as a piece of a stream has, it is asked of the first
-/// request in it that has an answer.
+/// Why the request of a line and a block was refused so, in words, if that can be told. It is asked of the tables as they were
+/// when the request was refused. Of a block that came in part the line is asked with that part, and of one past its limit with
+/// none. Where the line has line feeds, as a piece of a stream has, it is asked of the first request in it that has an answer.
 pub fn reason(
     alloc: Global,
     catalog: &Catalog,
     line: &[u8],
     block: &[u8],
-    number: u32,
+    refusal: Refusal,
 ) -> Result<Option<String>, NoMemory> {
-    if number == NO_MEMORY {
-        return Ok(Some(format!(in alloc;
-            "no memory was found for it, and all tables are as before"
-        )?));
+    if refusal == Refusal::NoMemory {
+        return tell(format!(in alloc; "no memory was found for it, and all tables are as before"));
     }
     let (line, bytes) = first_request(line, block);
-    let Some(Found { refusal, words }) = of_line(alloc, catalog, line, bytes, number)? else {
-        return Ok(None);
-    };
-    if u32::from(refusal.number()) != number {
-        return Ok(None);
-    }
-    Ok(Some(words))
+    of_line(alloc, catalog, line, bytes, refusal)
 }

@@ -3,20 +3,22 @@
 ghost use Rattle.std.specs.Prelude.{IsSome};
 ghost use Rattle.std.specs.FinMap as finite;
 ghost use Rattle.std.specs.List.{All};
-ghost use Rattle.plain_tables.specs.ResolvedLaws.{OfTable, AreTests, IsMeant};
-ghost use Rattle.plain_tables.specs.Spelling.{IsSpellable};
+ghost use Rattle.plain_tables.specs.ResolvedLaws.{OfTable, AreTests};
 ghost use Rattle.mm_catalog.specs.Seen.{database_of};
 
-use crate::found::{Search, tell};
 use crate::shown::Shown;
-use crate::tables::{Seen, referred, table_at};
+use crate::tables::{Seen, table_at};
+use crate::told::{Reason, tell};
 use mm_catalog::Catalog;
 use mm_catalog::laws::a_catalog_is_consistent;
 use mm_relation::laws::a_relation_is_kept;
 use mm_relation::{ColumnNumber, Relation, Relations, TupleRef};
+use mm_resolver::referred;
 use mm_session::rows_passing;
 use no_memory::NoMemory;
-use plain_tables::{Command, Refusal, Resolved, StoredValue, TableNumber, Test};
+use plain_tables::{
+    Command, Cond, Refusal, Resolved, Sequence, StoredValue, TableNumber, Test, Text,
+};
 use plan_chooser::Policy;
 use std::alloc::Global;
 
@@ -44,12 +46,7 @@ fn naming_key(relation: &Relation, column: ColumnNumber, named: TupleRef) -> Opt
 }
 
 // The row of one table that names this one of another, in words.
-fn why_named_by(
-    alloc: Global,
-    table: &Seen<'_>,
-    named: &str,
-    r: TupleRef,
-) -> Result<Option<String>, NoMemory> {
+fn why_named_by(alloc: Global, table: &Seen<'_>, named: &str, r: TupleRef) -> Reason {
     for (place, column) in table.columns.iter().enumerate() {
         let refers = match referred(column) {
             Some(other) => other.as_str() == named,
@@ -58,9 +55,9 @@ fn why_named_by(
         if refers {
             if let Some(key) = naming_key(table.relation, ColumnNumber(place), r) {
                 let (name, column, key) = (table.name, column.name.as_str(), Shown(key.seen()));
-                return Ok(Some(format!(in alloc;
+                return tell(format!(in alloc;
                     "column {column} of the row of {name} with the key {key}"
-                )?));
+                ));
             }
         }
     }
@@ -85,16 +82,13 @@ fn why_named(
 }
 
 // That this row of a table stays, since another names it.
-fn stays(alloc: Global, catalog: &Catalog, table: &Seen<'_>, r: TupleRef) -> Search {
+fn stays(alloc: Global, catalog: &Catalog, table: &Seen<'_>, r: TupleRef) -> Reason {
     let Some(key) = table.relation.key_if_held(r) else {
         return Ok(None);
     };
     let why = why_named(alloc, catalog, table.name, r)?;
     let (name, key) = (table.name, Shown(key.seen()));
-    tell(
-        Refusal::RowIsReferenced,
-        format!(in alloc; "the row of {name} with the key {key} is named in {why}"),
-    )
+    tell(format!(in alloc; "the row of {name} with the key {key} is named in {why}"))
 }
 
 // The first row that passes the tests and that others name.
@@ -111,14 +105,11 @@ fn passing_named(
     Ok(first_named(catalog.at(table), &rows))
 }
 
-// Why rows are not taken out, of a delete that is resolved.
-fn named_rows(alloc: Global, catalog: &Catalog, resolved: Resolved) -> Search
-    requires { IsMeant catalog.now.limits (database_of catalog.now) resolved }
+// Why the rows of a table that pass these tests are not taken out: the first of them that others name.
+fn why_kept(alloc: Global, catalog: &Catalog, table: TableNumber, tests: &[Test]) -> Reason
+    requires { OfTable table (database_of catalog.now) (λ t. AreTests (database_of catalog.now) t tests.now) }
 {
-    let Resolved::Delete { table, tests } = resolved else {
-        return Ok(None);
-    };
-    let Some(r) = passing_named(alloc, catalog, table, tests.as_slice())? else {
+    let Some(r) = passing_named(alloc, catalog, table, tests)? else {
         return Ok(None);
     };
     match table_at(catalog, table) {
@@ -127,12 +118,18 @@ fn named_rows(alloc: Global, catalog: &Catalog, resolved: Resolved) -> Search
     }
 }
 
-/// Why a delete takes no rows out, of which nothing is wrong but the rows.
-pub fn delete_rows(alloc: Global, catalog: &Catalog, command: Command) -> Search
-    requires { IsSpellable command }
-{
-    match catalog.resolve(command, &[]) {
-        Ok(resolved) => named_rows(alloc, catalog, resolved),
+/// Why the rows of the table of that name that meet these conditions are not taken out, where nothing is wrong but the rows.
+pub fn named_rows(
+    alloc: Global,
+    catalog: &Catalog,
+    table: Text,
+    conditions: Sequence<Cond>,
+) -> Reason {
+    match catalog.resolve(Command::Delete { table, conditions }, &[]) {
+        Ok(Resolved::Delete { table, tests }) => {
+            why_kept(alloc, catalog, table, tests.as_slice())
+        }
+        Ok(_) => Ok(None),
         Err(Refusal::NoMemory) => Err(NoMemory),
         Err(_) => Ok(None),
     }

@@ -1,11 +1,13 @@
-//! The tables and columns that a command names.
+//! The tables that a command names, and why names mean none of them and no column of theirs.
 
 use crate::nearest::Nearest;
+use crate::parts::Name;
+use crate::told::{Reason, tell};
 use mm_catalog::Catalog;
 use mm_catalog::laws::a_catalog_is_consistent;
 use mm_relation::{Relation, Relations};
 use no_memory::NoMemory;
-use plain_tables::{ColKind, ColName, Column, TableNumber, Text};
+use plain_tables::{Column, Join, Place, TableNumber, Text};
 use std::alloc::Global;
 use std::slice::from_ref;
 
@@ -16,13 +18,6 @@ pub struct Seen<'a> {
     pub name: &'a str,
     pub columns: &'a [Column],
     pub relation: &'a Relation,
-}
-
-/// A column of a table that is there.
-#[derive(Clone, Copy)]
-pub struct Named<'a> {
-    pub table: Seen<'a>,
-    pub column: &'a Column,
 }
 
 /// The table of that number, if there is one.
@@ -44,14 +39,6 @@ pub fn table_named<'a>(catalog: &'a Catalog, name: &Text) -> Option<Seen<'a>> {
     table_at(catalog, catalog.table_number(name)?)
 }
 
-/// The table that a column refers to, if it refers to one.
-pub fn referred(column: &Column) -> Option<&Text> {
-    match &column.kind {
-        ColKind::Int | ColKind::Text => None,
-        ColKind::Ref(table) | ColKind::RefOrNull(table) => Some(table),
-    }
-}
-
 impl<'a> Seen<'a> {
     /// The column of that name, if there is one.
     pub fn column(&self, name: &Text) -> Option<&'a Column> {
@@ -59,49 +46,40 @@ impl<'a> Seen<'a> {
             .iter()
             .find(|column| column.name.as_str() == name.as_str())
     }
+}
 
-    // Whether the table goes by the name before a column's, if one is written.
-    fn is_called(&self, name: Option<&Text>) -> bool {
-        match name {
-            Some(name) => name.as_str() == self.name,
-            None => true,
-        }
+/// The table of that name and those that are joined with it, each once, as far as they are there.
+pub fn tables_of<'a>(
+    alloc: Global,
+    catalog: &'a Catalog,
+    table: &Text,
+    joins: &[Join],
+) -> Result<Vec<Seen<'a>>, NoMemory> {
+    let mut tables: Vec<Seen<'a>> = Vec::new(alloc);
+    if let Some(first) = table_named(catalog, table) {
+        tables.push(first)?;
     }
-}
-
-/// The column that a name means among those of these tables, if it means just one.
-pub fn meant<'a>(tables: &[Seen<'a>], name: &ColName) -> Option<Named<'a>> {
-    column_meant(tables, name.table.as_ref(), &name.column)
-}
-
-/// The column that a name means, with its table's name before it or not.
-pub fn column_meant<'a>(
-    tables: &[Seen<'a>],
-    table: Option<&Text>,
-    column: &Text,
-) -> Option<Named<'a>> {
-    let mut found = None;
-    for seen in tables {
-        let fitting = if seen.is_called(table) {
-            seen.column(column)
-        } else {
-            None
-        };
-        if let Some(column) = fitting {
-            if found.is_some() {
-                return None;
+    for join in joins {
+        if let Some(own) = table_named(catalog, &join.table) {
+            if !tables.iter().any(|table| table.name == own.name) {
+                tables.push(own)?;
             }
-            found = Some(Named {
-                table: *seen,
-                column,
-            });
         }
     }
-    found
+    Ok(tables)
 }
 
-/// The names of tables, with a word between each two.
-pub fn names(alloc: Global, tables: &[Seen<'_>], between: &str) -> Result<String, NoMemory> {
+/// The column at a place, and its table.
+pub fn column_at<'a, 'b>(
+    tables: &'b [Seen<'a>],
+    place: Place,
+) -> Option<(&'b Seen<'a>, &'a Column)> {
+    let table = tables.get(place.source)?;
+    Some((table, table.columns.get(place.column.0)?))
+}
+
+// The names of tables, with a word between each two.
+fn names(alloc: Global, tables: &[Seen<'_>], between: &str) -> Result<String, NoMemory> {
     let mut names = String::new(alloc);
     for table in tables {
         if !names.is_empty() {
@@ -127,8 +105,8 @@ fn having<'a>(
     Ok(having)
 }
 
-/// The name of a table that is near to a word, if one is.
-pub fn nearest_table<'a>(
+// The name of a table that is near to a word, if one is.
+fn nearest_table<'a>(
     alloc: Global,
     catalog: &'a Catalog,
     word: &str,
@@ -186,15 +164,23 @@ fn why_no_bare(alloc: Global, tables: &[Seen<'_>], column: &Text) -> Result<Stri
 pub fn why_no_column(
     alloc: Global,
     tables: &[Seen<'_>],
-    table: Option<&Text>,
-    column: &Text,
+    name: Name<'_>,
 ) -> Result<String, NoMemory> {
-    let Some(table) = table else {
-        return why_no_bare(alloc, tables, column);
+    let Some(table) = name.table else {
+        return why_no_bare(alloc, tables, name.column);
     };
     if let Some(seen) = tables.iter().find(|seen| seen.name == table.as_str()) {
-        return missing_everywhere(alloc, from_ref(seen), column.as_str());
+        return missing_everywhere(alloc, from_ref(seen), name.column.as_str());
     }
-    let (table, column) = (table.as_str(), column.as_str());
+    let (table, column) = (table.as_str(), name.column.as_str());
     Ok(format!(in alloc; "{table} of {table}.{column} is no table of this command")?)
+}
+
+/// That there is no table of that name.
+pub fn no_table(alloc: Global, catalog: &Catalog, name: &Text) -> Reason {
+    let name = name.as_str();
+    match nearest_table(alloc, catalog, name)? {
+        Some(near) => tell(format!(in alloc; "{name} is no table: is {near} meant?")),
+        None => tell(format!(in alloc; "{name} is no table")),
+    }
 }

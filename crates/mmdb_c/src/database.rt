@@ -4,7 +4,7 @@ ghost use Rattle.std.specs.Prelude.{◌≡◌, ◌≤◌, ◌↔◌, IsTrue, IsE
 ghost use Rattle.plain_streams.specs.Division.{IsWhole};
 
 use mm_cells::Parts;
-use mm_reason::reason;
+use mm_reason::{reason, refusal_of};
 use mm_session::{Answer, NotOneRequest, SessionFault};
 use plain_tables::{Limits, NoMemory};
 use plan_chooser::Policy;
@@ -76,8 +76,10 @@ impl Database {
         ensures { IsAsBefore self.old self.new }
     {
         self.reason.clear();
-        let number = self.answer.refusal();
-        match reason(alloc, self.inner.session().catalog(), line, block, number)? {
+        let Some(refusal) = refusal_of(self.answer.as_slice()) else {
+            return Ok(());
+        };
+        match reason(alloc, self.inner.session().catalog(), line, block, refusal)? {
             Some(words) => self.reason.push(words.as_bytes()),
             None => Ok(()),
         }

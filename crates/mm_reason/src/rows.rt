@@ -1,0 +1,163 @@
+//! Commands whose names and values are right, and which rows refuse.
+
+use crate::referrers::named_rows;
+use crate::shown::Shown;
+use crate::tables::{Seen, table_at};
+use crate::told::{Reason, tell};
+use crate::values::why_unheld;
+use mm_catalog::Catalog;
+use no_memory::NoMemory;
+use plain_tables::{Assignment, Command, Refusal, Resolved, Sequence, Value};
+use std::alloc::Global;
+
+// That a row with a key is there, if one is.
+fn held_key(alloc: Global, table: &Seen<'_>, key: &Value) -> Reason {
+    if table.relation.find_key(&key.sought()).is_none() {
+        return Ok(None);
+    }
+    let (name, key) = (table.name, Shown(key.sought().seen()));
+    tell(format!(in alloc; "{name} has a row with the key {key}"))
+}
+
+// That one of these rows has a key too, if one has.
+fn repeated_key(alloc: Global, before: &[Sequence<Value>], key: &Value) -> Reason {
+    let Some(place) = before
+        .iter()
+        .position(|row| row.as_slice().first() == Some(key))
+    else {
+        return Ok(None);
+    };
+    let (record, key) = (place.saturating_add(1), Shown(key.sought().seen()));
+    tell(format!(in alloc; "record {record} has the key {key} too"))
+}
+
+// That a row behind these has a key that is held, if it has.
+fn why_no_key(
+    alloc: Global,
+    table: &Seen<'_>,
+    before: &[Sequence<Value>],
+    values: &[Value],
+) -> Reason {
+    let Some(key) = values.first() else {
+        return Ok(None);
+    };
+    match held_key(alloc, table, key)? {
+        Some(words) => Ok(Some(words)),
+        None => repeated_key(alloc, before, key),
+    }
+}
+
+// The first value of a row that is a reference and names no row.
+fn unheld(alloc: Global, catalog: &Catalog, table: &Seen<'_>, values: &[Value]) -> Reason {
+    for (column, value) in table.columns.iter().zip(values) {
+        if let Some(words) = why_unheld(alloc, catalog, column, value)? {
+            return Ok(Some(words));
+        }
+    }
+    Ok(None)
+}
+
+// The first value that is set that is a reference and names no row.
+fn unheld_setting(
+    alloc: Global,
+    catalog: &Catalog,
+    table: &Seen<'_>,
+    assignments: &[Assignment],
+) -> Reason {
+    for assignment in assignments {
+        if let Some(column) = table.columns.get(assignment.column.0) {
+            if let Some(words) = why_unheld(alloc, catalog, column, &assignment.value)? {
+                return Ok(Some(words));
+            }
+        }
+    }
+    Ok(None)
+}
+
+// That a table takes no row behind so many others, if it takes none.
+fn full(alloc: Global, catalog: &Catalog, table: &Seen<'_>, before: usize) -> Reason {
+    let most = u64::from(catalog.limits().rows);
+    let rows = table.relation.len().saturating_add(before as u64);
+    if rows < most {
+        return Ok(None);
+    }
+    let name = table.name;
+    tell(format!(in alloc; "{name} has {most} rows, and there can be no more"))
+}
+
+// Why a row is not put into a table behind these.
+fn kept_out(
+    alloc: Global,
+    catalog: &Catalog,
+    table: &Seen<'_>,
+    before: &[Sequence<Value>],
+    values: &[Value],
+    refusal: Refusal,
+) -> Reason {
+    match refusal {
+        Refusal::KeyExists { .. } => why_no_key(alloc, table, before, values),
+        Refusal::NoReferencedRow { .. } => unheld(alloc, catalog, table, values),
+        Refusal::TableFull { .. } => full(alloc, catalog, table, before.len()),
+        _ => Ok(None),
+    }
+}
+
+// The row of the record that a refusal tells, and those before it.
+fn told_row(
+    rows: &[Sequence<Value>],
+    refusal: Refusal,
+) -> Option<(&[Sequence<Value>], &Sequence<Value>)> {
+    let place = refusal.record_no()?.checked_sub(1)?;
+    let (before, rest) = rows.split_at_checked(usize::try_from(place).ok()?)?;
+    Some((before, rest.first()?))
+}
+
+// Why a command that is resolved is refused so by the rows that are there, if it puts rows in or sets values.
+fn of_resolved(alloc: Global, catalog: &Catalog, resolved: Resolved, refusal: Refusal) -> Reason {
+    match (resolved, refusal) {
+        (Resolved::Insert { table, values }, _) => match table_at(catalog, table) {
+            Some(seen) => kept_out(alloc, catalog, &seen, &[], values.as_slice(), refusal),
+            None => Ok(None),
+        },
+        (Resolved::Load { table, rows }, _) => {
+            match (table_at(catalog, table), told_row(rows.as_slice(), refusal)) {
+                (Some(seen), Some((before, row))) => {
+                    kept_out(alloc, catalog, &seen, before, row.as_slice(), refusal)
+                }
+                _ => Ok(None),
+            }
+        }
+        (
+            Resolved::Update {
+                table,
+                assignments,
+                ..
+            },
+            Refusal::NoReferencedRow { .. },
+        ) => match table_at(catalog, table) {
+            Some(seen) => unheld_setting(alloc, catalog, &seen, assignments.as_slice()),
+            None => Ok(None),
+        },
+        _ => Ok(None),
+    }
+}
+
+/// Why a command with a block is refused so by the rows that are there.
+pub fn refused_by_rows(
+    alloc: Global,
+    catalog: &Catalog,
+    command: Command,
+    block: &[u8],
+    refusal: Refusal,
+) -> Reason {
+    match (command, refusal) {
+        (Command::Delete { table, conditions }, Refusal::RowIsReferenced) => {
+            named_rows(alloc, catalog, table, conditions)
+        }
+        (command, _) => match catalog.resolve(command, block) {
+            Ok(resolved) => of_resolved(alloc, catalog, resolved, refusal),
+            Err(Refusal::NoMemory) => Err(NoMemory),
+            Err(_) => Ok(None),
+        },
+    }
+}
