@@ -29,7 +29,7 @@ MOST_SPARE = 3 * 65_536
 LIST_STEP = 1_024
 # The bytes of a row's node in a declared hash, and what a row that is alone in its partition may hold beside cells and nodes.
 NODE = 12
-BESIDE = 800
+BESIDE = 1_000
 DROPS = b"drop table emp\ndrop table dept\n"
 
 
