@@ -1,9 +1,9 @@
-//! The refusal that an answer tells.
+//! The refusal that an answer reports.
 
 use mm_session::split_line;
 use plain_tables::Refusal;
 
-// The refusals, with no record. A new one stands here too.
+// All refusals, without a record. Add each new one here.
 const REFUSALS: [Refusal; 26] = [
     Refusal::LineTooLong,
     Refusal::NotUtf8,
@@ -33,7 +33,7 @@ const REFUSALS: [Refusal; 26] = [
     Refusal::NoMemory,
 ];
 
-// The number of a record at the end of a refusal's words, in brackets or not, where one stands there.
+// The number of a record at the end of a refusal's words, in brackets or not, if there is one.
 fn record_of(words: &str) -> Option<u64> {
     let last = words.split(' ').last()?;
     last.trim_matches(|c: char| c == '(' || c == ')')
@@ -41,7 +41,7 @@ fn record_of(words: &str) -> Option<u64> {
         .ok()
 }
 
-/// The refusal that the first line of an answer tells, with the number of its record, if it tells one.
+/// The refusal that the first line of an answer reports, with the number of its record, if it has one.
 pub fn refusal_of(answer: &[u8]) -> Option<Refusal> {
     let (line, _) = split_line(answer)?;
     let told = str::from_utf8(line).ok()?.strip_prefix("error ")?;

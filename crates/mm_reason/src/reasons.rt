@@ -39,7 +39,7 @@ fn of_names(
     .reason(culprit)
 }
 
-// Why a command is refused. It comes twice: to be talked of, and to be resolved again.
+// Why a command is refused. It is passed twice: one is described, and the other is resolved again.
 fn of_command(
     alloc: Global,
     catalog: &Catalog,

@@ -1,4 +1,4 @@
--- Laws of streams: that answers are unique but for want of memory, and that declared indexes play no part in them.
+-- Laws of streams: that answers are unique unless a request runs out of memory, and that declared indexes play no part in them.
 use Rattle.std.specs.Prelude.{◌≡◌, ◌≢◌, ℕ, List, Bool, map, IsFalse}
 use Rattle.std.specs.List.{AllByRecursion}
 use Rattle.plain_tables.specs.AnswerText.{answer_text}

@@ -2,7 +2,7 @@
 
 ghost use Rattle.mm_session.specs.StreamLaws.{AnswersAreUnique, StreamsReadNoIndexes};
 
-/// The answers to a stream are unique but for want of memory: where memory was found for each request, there is one way to answer.
+/// The answers to a stream are unique unless a request is answered out of memory.
 pub fn answers_are_unique()
     ensures { AnswersAreUnique }
 {}
