@@ -36,6 +36,7 @@ pub mod TableLemmas
 pub mod TableNames
 pub mod TakenLemmas
 pub mod Texts
+pub mod TransactionLemmas
 pub mod TypeLemmas
 pub mod Uniqueness
 pub mod Utf8Parts

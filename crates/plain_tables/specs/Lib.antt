@@ -21,5 +21,6 @@ pub mod SequenceLends
 pub mod Spelling
 pub mod Stored
 pub mod Tables
+pub mod Transactions
 pub mod Values
 pub mod WrittenLaws

@@ -4,7 +4,7 @@
 //! `specs/`, are what it means: which line spells which command, what a command does to a database of plain tables, and
 //! which bytes answer a stream. Every promise above is stated by these words, and by no others. The laws of the
 //! definitions are contracts of functions that do nothing (`laws`, `command_laws`, `query_laws`,
-//! `resolved_laws`, `spelling_laws`, `written_laws`).
+//! `resolved_laws`, `spelling_laws`, `transaction_laws`, `written_laws`).
 //!
 //! Nothing here cares how rows are kept, which index finds them, how a line is read, or how a stream is cut in pieces.
 //!
@@ -33,6 +33,7 @@ mod sought_value;
 pub mod spelling_laws;
 mod stored_value;
 mod text;
+pub mod transaction_laws;
 mod value;
 pub mod written_laws;
 

@@ -1,0 +1,5 @@
+use Rattle.plain_tables.proofs.TransactionLemmas.{kept}
+use Rattle.plain_tables.proofs.transaction_laws.commits_keep.Goals as goal
+
+pub returns : goal.returns
+returns c = kept

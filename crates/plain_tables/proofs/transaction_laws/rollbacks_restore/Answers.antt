@@ -1,0 +1,5 @@
+use Rattle.plain_tables.proofs.TransactionLemmas.{restored}
+use Rattle.plain_tables.proofs.transaction_laws.rollbacks_restore.Goals as goal
+
+pub returns : goal.returns
+returns c = restored
