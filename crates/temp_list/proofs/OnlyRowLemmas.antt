@@ -160,6 +160,12 @@ module _ (relations : List RelationState) (s : RelationState) (kept : IsKept s) 
 
 -- ---- the row of a key
 
+single : (tests : List Test) (n : ℕ) (test : Test) → length tests ≤ 1 → n < length tests → test ≡ get_or tests n test → tests ≡ test ∷ []
+single [] n test alone within item = absurd (omega (arith, within))
+single (t ∷ []) zero test alone within item = ap (λ (x : Test). x ∷ []) (sym item)
+single (t ∷ []) (suc n) test alone within item = absurd (omega (arith, within))
+single (t ∷ u ∷ ts) n test alone within item = absurd (omega (arith, alone))
+
 module _ (relations : List RelationState) (s : RelationState) (kept : IsKept s) (tests : List Test) (n : ℕ) (asks : AsksForKey tests n) (test : Test) (item : test ≡ get_or tests n test) where
   -- a row that passes all tests has the key
   has_key : (r : TupleRef) → row_passes relations s tests r ≡ true → stands op.Eq (value_in relations s 0 r) test.value ≡ true
@@ -177,3 +183,15 @@ module _ (relations : List RelationState) (s : RelationState) (kept : IsKept s) 
 
   pub keyed_none : ((r : TupleRef) → key_at s.rows r ≢ Some test.value) → passing relations s tests ≡ []
   keyed_none none = sym among_keyed ∙ ap (filter (row_passes relations s tests)) (standing_none relations s kept test.value none)
+
+  -- where no other test is made, a row that has the key passes
+  pub alone_passes : length tests ≤ 1 → (r : TupleRef) → key_at s.rows r ≡ Some test.value → row_passes relations s tests r ≡ true
+  alone_passes alone r at =
+      let asked = subst (λ (t : Test). (t.column.0 ≡ 0) × (t.op ≡ op.Eq)) (sym item) (asks.1 test) in
+      let equal : TupleRef → Bool = λ q. stands op.Eq (value_in relations s 0 q) test.value in
+      let stands_so : equal r ≡ true =
+      All-head (λ q. equal q ≡ true) r [] (subst (All (λ q. equal q ≡ true)) (standing_found relations s kept test.value r at) (filter_passes equal (tree_list s.by_key))) in
+      let passes : stands test.op (value_in relations s test.column.0 r) test.value ≡ true =
+      subst (λ k. stands test.op (value_in relations s k r) test.value ≡ true) (sym asked.0)
+      (subst (λ (o : Op). stands o (value_in relations s 0 r) test.value ≡ true) (sym asked.1) stands_so) in
+      ap (λ ts. row_passes relations s ts r) (single tests n test alone asks.0 item) ∙ rw passes refl

@@ -33,7 +33,8 @@ fn only_by_key<R: Relations>(
 {
     a_relation_is_kept(relation);
     let r = relation.find_key(&tests[n].value.sought())?;
-    if !passes_all(tables, relation, r, tests) {
+    // (the row has the key, so it passes that test)
+    if tests.len() > 1 && !passes_all(tables, relation, r, tests) {
         return None;
     }
     Some(r)
