@@ -87,8 +87,7 @@ fn pack<V: RowValues>(
     empty_for(cells, count)?;
     for _ in 0..count {
         let named = next_named(before, relation, cells.as_slice(), values.next())?;
-        let cell = values.take(alloc, named)?;
-        cells.push_reserved(cell);
+        values.put(alloc, named, cells)?;
     }
     Ok(())
 }

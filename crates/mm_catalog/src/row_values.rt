@@ -1,9 +1,9 @@
 //! The values of rows on their way into cells: those that are lent are copied, and the others moved.
-ghost use Rattle.std.specs.Prelude.{◌≡◌, ◌<◌, List, Some, IfOk, OnOk, drop, length, slice_get};
+ghost use Rattle.std.specs.Prelude.{◌≡◌, ◌++◌, ◌∷◌, ◌<◌, [], List, Some, OnOk, drop, length, slice_get, vec_capacity, vec_len};
 ghost use Rattle.plain_tables.specs.declared.value.Value.{Value as PlainValue};
 ghost use Rattle.mm_catalog.specs.Cells.{cell_for};
 
-use crate::references::cells::{lent_cell, moved_cell};
+use crate::references::cells::{moved_cell, push_lent};
 use mm_relation::StoredCell;
 use no_memory::NoMemory;
 use part_raw::TupleRef;
@@ -25,11 +25,18 @@ pub trait RowValues: Drop {
         requires { 0 < length (left self.now) }
         ensures { slice_get (left self.now) 0 ≡ Some result.now };
 
-    /// The cell of the next value, which names this row or else holds the value.
-    fn take(&mut self, alloc: Global, named: Option<TupleRef>) -> Result<StoredCell, NoMemory>
-        requires { 0 < length (left self.old) }
-        ensures cell { IfOk result (λ cell. (value : PlainValue) → slice_get (left self.old) 0 ≡ Some value → cell ≡ cell_for value named) }
-        ensures rest { OnOk result (left self.new ≡ drop 1 (left self.old)) };
+    /// Appends the cell of the next value, which names this row or else holds the value.
+    fn put(
+        &mut self,
+        alloc: Global,
+        named: Option<TupleRef>,
+        cells: &mut Vec<StoredCell>,
+    ) -> Result<(), NoMemory>
+        requires some { 0 < length (left self.old) }
+        requires room { vec_len cells.old < vec_capacity cells.old }
+        ensures put { OnOk result ((value : PlainValue) → slice_get (left self.old) 0 ≡ Some value → cells.new.items ≡ cells.old.items ++ cell_for value named ∷ []) }
+        ensures rest { OnOk result (left self.new ≡ drop 1 (left self.old)) }
+        ensures capacity { vec_capacity cells.new ≡ vec_capacity cells.old };
 }
 
 /// Values that are lent, of which each is copied. One of at most 14 bytes takes no memory.
@@ -52,13 +59,17 @@ impl<'a> RowValues for LentValues<'a> {
     }
 
     #[inline]
-    fn take(&mut self, alloc: Global, named: Option<TupleRef>) -> Result<StoredCell, NoMemory> {
+    fn put(
+        &mut self,
+        alloc: Global,
+        named: Option<TupleRef>,
+        cells: &mut Vec<StoredCell>,
+    ) -> Result<(), NoMemory> {
         let Some((value, rest)) = self.values.split_first() else {
             unreachable!()
         };
-        let cell = lent_cell(alloc, named, value)?;
         self.values = rest;
-        Ok(cell)
+        push_lent(cells, alloc, named, value)
     }
 }
 
@@ -96,9 +107,15 @@ impl RowValues for MovedValues {
     }
 
     #[inline]
-    fn take(&mut self, _alloc: Global, named: Option<TupleRef>) -> Result<StoredCell, NoMemory> {
+    fn put(
+        &mut self,
+        _alloc: Global,
+        named: Option<TupleRef>,
+        cells: &mut Vec<StoredCell>,
+    ) -> Result<(), NoMemory> {
         let value = mem::replace(&mut self.values[self.place], Value::Null);
         self.place += 1;
-        Ok(moved_cell(named, value))
+        cells.push_reserved(moved_cell(named, value));
+        Ok(())
     }
 }

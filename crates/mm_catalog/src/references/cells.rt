@@ -1,5 +1,5 @@
 //! The cells of values that come into rows.
-ghost use Rattle.std.specs.Prelude.{◌≡◌, ℕ, ◌<◌, Some, None, IfOk, IfErr, length};
+ghost use Rattle.std.specs.Prelude.{◌≡◌, ◌++◌, ◌∷◌, ℕ, ◌<◌, [], Some, None, IfOk, IfErr, OnOk, length, vec_capacity, vec_len};
 ghost use Rattle.mm_catalog.specs.Cells.{IsCellOf, NamesNone, cell_for};
 
 use mm_relation::{Relation, StoredCell};
@@ -58,7 +58,27 @@ pub fn lent_cell(
     }
 }
 
-// The same of a value that is moved there.
+// Appends that cell where there is room for it. That of an integer is made where it stays: it is not read back from a result.
+#[inline]
+pub fn push_lent(
+    cells: &mut Vec<StoredCell>,
+    alloc: Global,
+    named: Option<TupleRef>,
+    value: &Value,
+) -> Result<(), NoMemory>
+    requires { vec_len cells.old < vec_capacity cells.old }
+    ensures pushed { OnOk result (cells.new.items ≡ cells.old.items ++ cell_for value.now named ∷ []) }
+    ensures capacity { vec_capacity cells.new ≡ vec_capacity cells.old }
+{
+    if let (None, Value::Int(integer)) = (named, value) {
+        cells.push_reserved(StoredCell::held(Value::Int(*integer)));
+        return Ok(());
+    }
+    cells.push_reserved(lent_cell(alloc, named, value)?);
+    Ok(())
+}
+
+// The cell of a value that is moved there.
 pub fn moved_cell(named: Option<TupleRef>, value: Value) -> StoredCell
     ensures { result ≡ cell_for value named }
 {

@@ -1,6 +1,7 @@
 use Rattle.std.proofs.Common.{rules, ◌≡◌, Some, length, refl, sym, ap, ◌∙◌, subst, arith}
 use Rattle.std.specs.List.{slice_get}
 use Rattle.std.proofs.lemmas.List.{length_push}
+use Rattle.mm_catalog.specs.Cells.{cell_for}
 use Rattle.mm_catalog.proofs.Lists.{drop-next, drop-some, get-drop}
 use Rattle.mm_catalog.proofs.Packed.{AreFirst, first_none, first_more, starts, row_packed, kept_out_by, kept_out_for_memory}
 use Rattle.mm_catalog.proofs.insert.pack.Given.{Over}
@@ -34,21 +35,22 @@ loop-preserved g c =
     let all = g.V.RowValues.left c.args.values in
     let cells = c.loop.cells.items in
     let there = next g (goal.at.loop-preserved g c).After-next in
-    let pushed = c.push_reserved.ensures.items in
+    let cell = cell_for c.next.result.now c.in_ok-named.named in
+    let put = c.in_ok-put.ensures.put c.next.result.now c.next.ensures in
     record {
-      count = ap length pushed ∙ omega (arith, c.loop.invariant.count, length_push cells c.in_ok-cell.cell);
-      left = c.in_ok-cell.ensures.rest ∙ drop-next all c.loop.counter c.loop.invariant.left;
-      first = rw (pushed, c.in_ok-cell.ensures.cell c.next.result.now c.next.ensures)
+      count = ap length put ∙ omega (arith, c.loop.invariant.count, length_push cells cell);
+      left = c.in_ok-put.ensures.rest ∙ drop-next all c.loop.counter c.loop.invariant.left;
+      first = rw put
           (first_more c.args.before.now c.args.relation.now.targets all cells c.next.result.now _ c.loop.invariant.first there
           (rw c.as_slice.ensures.value at c.in_ok-named.ensures.named));
-      room = omega (arith, c.loop.invariant.room, c.push_reserved.ensures.capacity);
+      room = omega (arith, c.loop.invariant.room, c.in_ok-put.ensures.capacity);
     }
 
 pub returns-in_err-empty_for-clause-refused : goal.returns-in_err-empty_for-clause-refused
 returns-in_err-empty_for-clause-refused g c = kept_out_for_memory c.args.before.now c.args.relation.now (g.V.RowValues.left c.args.values) c.from_residual.result (search rules)
 
-pub returns-in_err-cell-clause-refused : goal.returns-in_err-cell-clause-refused
-returns-in_err-cell-clause-refused g c = kept_out_for_memory c.args.before.now c.args.relation.now (g.V.RowValues.left c.args.values) c.from_residual-in_err-cell.result (search rules)
+pub returns-in_err-put-clause-refused : goal.returns-in_err-put-clause-refused
+returns-in_err-put-clause-refused g c = kept_out_for_memory c.args.before.now c.args.relation.now (g.V.RowValues.left c.args.values) c.from_residual-in_err-put.result (search rules)
 
 pub returns-in_err-named-clause-refused : goal.returns-in_err-named-clause-refused
 returns-in_err-named-clause-refused g c =
