@@ -14,9 +14,10 @@ from support import growth, holding, sizes
 
 FEW = sizes.said("MMDB_ROWS", sizes.size(1_000, 100_000, 250))
 MANY = 4 * FEW
-# A pattern grows by this power of its rows at most, of times by a greater one, since large tables leave the caches behind; and it
-# takes at most so many times what it takes on differing values.
-MOST_POWER = sizes.size(1.3, 1.6)
+BEYOND = 4 * MANY
+# A pattern grows by this power of its rows at most, and takes at most so many times what it takes on differing values. A time also grows
+# where the smaller table fits a cache and the larger one doesn't: then it is taken again of tables that both are larger.
+MOST_POWER = 1.3
 MOST_RATIO = 1.5
 # A time is the least of some rounds, and a shorter one than this is taken for it.
 ROUNDS = 3
@@ -67,11 +68,25 @@ class Patterns(unittest.TestCase):
                 tell(f"{pattern}: {taken[pattern, rows]:.4f} s at {rows} rows")
         return taken
 
+    def power(self, pattern, few, many):
+        """By which power of its rows a pattern grows."""
+        return math.log(ratio(self.taken[pattern, many], self.taken[pattern, few]), many / few)
+
+    def power_beyond(self, pattern):
+        """The same where the tables are larger, and both past the caches."""
+        asked = [(pattern, rows) for rows in (MANY, BEYOND)]
+        self.taken.update(zip(asked, METER.seconds(pairs(asked), ROUNDS)))
+        power = self.power(pattern, MANY, BEYOND)
+        tell(f"{pattern}: by the power {self.power(pattern, FEW, MANY):.2f}, from {MANY} to {BEYOND} rows by {power:.2f}")
+        return power
+
     def test_no_pattern_grows_by_the_square(self):
         for pattern in self.patterns:
             with self.subTest(pattern=str(pattern)):
-                times = ratio(self.taken[pattern, MANY], self.taken[pattern, FEW])
-                self.assertLessEqual(math.log(times, MANY / FEW), MOST_POWER)
+                power = self.power(pattern, FEW, MANY)
+                if sizes.is_large and power > MOST_POWER:
+                    power = self.power_beyond(pattern)
+                self.assertLessEqual(power, MOST_POWER)
 
     def test_equal_values_take_as_long_as_differing_ones(self):
         for pattern in filter(growth.Pattern.is_hashed, self.patterns):
