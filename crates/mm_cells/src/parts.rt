@@ -33,7 +33,26 @@ impl Parts {
         ensures taken { result ≡ values_of self.old }
         ensures none { values_of self.new ≡ [] }
     {
-        let none = Parts::new(*self.cells.allocator());
-        Cells::from_parts(mem::replace(self, none))
+        let alloc = *self.cells.allocator();
+        let cells = mem::replace(&mut self.cells, Vec::new(alloc));
+        let texts = mem::replace(&mut self.texts, Vec::new(alloc));
+        Cells::from_parts(Parts { cells, texts })
+    }
+
+    /// Keeps these values in place of those that are there.
+    pub fn put(&mut self, values: Cells)
+        ensures { values_of self.new ≡ values }
+    {
+        let Parts { cells, texts } = values.into_parts();
+        self.cells = cells;
+        self.texts = texts;
+    }
+
+    /// Lets the values go, and keeps their room.
+    pub fn clear(&mut self)
+        ensures { values_of self.new ≡ [] }
+    {
+        self.cells.clear();
+        self.texts.clear();
     }
 }

@@ -48,13 +48,13 @@ use Rattle.mm_session.specs.Sessions.{State}
 use Rattle.mm_session.specs.Shown.{places_shown}
 use Rattle.mm_statements.specs.Columns.{column_of, column_placed, columns_of_query, columns_of_table, columns_of_template, columns_shown, source_tables}
 use Rattle.mm_statements.specs.Executing.{IsUntold, TellsColumns, columns_of}
-use Rattle.mm_statements.specs.Kept.{IsKnown, SameSeen, named, seen}
+use Rattle.mm_prepared.specs.Kept.{IsKnown, SameSeen, named, seen}
 use Rattle.mm_statements.specs.Resolving.{IsUnresolved}
 use Rattle.mm_statements.specs.Right.{AreRight}
 use Rattle.mm_statements.specs.declared.faults.ExecuteFault.{ExecuteFault}
 use Rattle.mm_statements.specs.declared.faults.ExecuteFault.TheVariants as fault
-use Rattle.mm_statements.specs.declared.kept.Prepared.{Prepared}
-use Rattle.mm_statements.specs.declared.kept.Statements.{Statements}
+use Rattle.mm_prepared.specs.declared.kept.Prepared.{Prepared}
+use Rattle.mm_prepared.specs.declared.kept.Statements.{Statements}
 use Rattle.mm_statements.proofs.ExecuteLemmas.{known-resolves}
 use Rattle.mm_statements.proofs.FinishedLemmas.{finished-is}
 use Rattle.mm_statements.proofs.GivenLemmas.{filled-given}

@@ -22,16 +22,17 @@ use Rattle.plain_statements.specs.StatementSpelling.{SpellsStatement}
 use Rattle.mm_session.specs.Changing.{HasChanged, HasDeclined, IsChange}
 use Rattle.mm_session.specs.OneRequest.{StaysInStream}
 use Rattle.mm_session.specs.Sessions.{State}
-use Rattle.mm_statements.specs.Databases.{IsUnchanged, KeptStatement}
+use Rattle.mm_prepared.specs.Kept.{KeptStatement}
+use Rattle.mm_statements.specs.Databases.{IsUnchanged}
 use Rattle.mm_statements.specs.Executing.{IsDeclined, IsEffectOf}
-use Rattle.mm_statements.specs.Kept.{IsKnown, NamesNow, SameSeen, named, seen}
+use Rattle.mm_prepared.specs.Kept.{IsKnown, NamesNow, SameSeen, named, seen}
 use Rattle.mm_statements.specs.Resolving.{IsFinished, IsRefusing, IsUnfinished, IsUnmeant, IsUnresolved}
 use Rattle.mm_statements.specs.Resolving as resolving
 use Rattle.mm_statements.specs.Right.{AreRight, IsRight}
 use Rattle.mm_statements.specs.declared.faults.ExecuteFault.{ExecuteFault}
 use Rattle.mm_statements.specs.declared.faults.ExecuteFault.TheVariants as fault
-use Rattle.mm_statements.specs.declared.kept.Prepared.{Prepared}
-use Rattle.mm_statements.specs.declared.kept.Statements.{Statements}
+use Rattle.mm_prepared.specs.declared.kept.Prepared.{Prepared}
+use Rattle.mm_prepared.specs.declared.kept.Statements.{Statements}
 use Rattle.mm_statements.proofs.ChangeLemmas.{change-schemas}
 use Rattle.mm_statements.proofs.GivenLemmas.{filled-given}
 use Rattle.mm_statements.proofs.RightLemmas.{stays-right}

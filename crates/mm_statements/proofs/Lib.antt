@@ -1,5 +1,4 @@
 pub mod ChangeLemmas
-pub mod DeclareLemmas
 pub mod ExecuteLemmas
 pub mod FinishedLemmas
 pub mod GivenLemmas

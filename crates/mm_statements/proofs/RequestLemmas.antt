@@ -25,9 +25,9 @@ use Rattle.mm_csv.specs.BlockReading.{block_records}
 use Rattle.plain_streams.specs.Requests.{Request, without_return}
 use Rattle.plain_streams.specs.Runs.{Answers, IsEffect, line_of}
 use Rattle.plain_streams.specs.Runs as runs
-use Rattle.mm_statements.specs.Declaring.{IsOfTables, declares}
+use Rattle.mm_prepared.specs.Declaring.{IsOfTables, declares}
 use Rattle.mm_statements.specs.Right.{AreRight}
-use Rattle.mm_statements.specs.declared.kept.Statements.{Statements}
+use Rattle.mm_prepared.specs.declared.kept.Statements.{Statements}
 use Rattle.mm_statements.proofs.ChangeLemmas.{same_schemas}
 use Rattle.mm_statements.proofs.RightLemmas.{stays-right}
 

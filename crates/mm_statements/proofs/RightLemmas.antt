@@ -11,11 +11,11 @@ use Rattle.plain_statements.specs.declared.statement.Statement.{Statement}
 use Rattle.plain_statements.specs.declared.resolution.Resolution.{Resolution}
 use Rattle.plain_statements.specs.Laws.{Resolves}
 use Rattle.plain_statements.proofs.Schemas.{resolution-stays}
-use Rattle.mm_statements.specs.Kept.{NamesNow, SameNamed, named, unresolved}
+use Rattle.mm_prepared.specs.Kept.{NamesNow, SameNamed, named, unresolved}
 use Rattle.mm_statements.specs.Resolving.{LineMeans}
 use Rattle.mm_statements.specs.Right.{AreRight, IsRight}
-use Rattle.mm_statements.specs.declared.kept.Prepared.{Prepared}
-use Rattle.mm_statements.specs.declared.kept.Statements.{Statements}
+use Rattle.mm_prepared.specs.declared.kept.Prepared.{Prepared}
+use Rattle.mm_prepared.specs.declared.kept.Statements.{Statements}
 use Rattle.mm_statements.proofs.PrepareLemmas.{marks-holes}
 
 -- ---- other statements

@@ -2,13 +2,14 @@
 use Rattle.std.proofs.Common.{◌≡◌, ℕ, ◌≤◌, length, sym, ap, subst, ◌∙◌, refl, Option, Some, None}
 use Rattle.std.specs.Prelude.{slice_set}
 use Rattle.std.specs.Option.{option_map}
-use Rattle.std.proofs.Math.ListN.{get_or-map}
 use Rattle.plain_tables.specs.declared.value.Value.{Value}
 use Rattle.mm_session.specs.Sessions.{State}
-use Rattle.mm_statements.specs.Databases.{DatabaseState, KeptStatement, NowNames, SameStatements, statement_at}
-use Rattle.mm_statements.specs.Kept.{NamesNow, SameNamed, SameSeen, all_seen, named, seen, unresolved}
-use Rattle.mm_statements.specs.declared.kept.Prepared.{Prepared}
-use Rattle.mm_statements.specs.declared.kept.Statements.{Statements}
+use Rattle.mm_prepared.specs.Kept.{KeptStatement}
+use Rattle.mm_statements.specs.Databases.{DatabaseState, NowNames, SameStatements, statement_at}
+use Rattle.mm_prepared.specs.Kept.{NamesNow, SameNamed, SameSeen, all_seen, named, seen, unresolved}
+use Rattle.mm_prepared.proofs.KeptLemmas.{all_seen-at}
+use Rattle.mm_prepared.specs.declared.kept.Prepared.{Prepared}
+use Rattle.mm_prepared.specs.declared.kept.Statements.{Statements}
 
 -- what a database of these parts is seen as
 abbrev pub state_of : State → Statements → DatabaseState
@@ -16,7 +17,7 @@ state_of session statements = record { session = session; statements = all_seen 
 
 pub statement-seen : (session : State) (statements : Statements) (number : ℕ)
     → statement_at (state_of session statements) number ≡ option_map seen (named statements number)
-statement-seen session statements number = get_or-map (option_map seen) statements.kept.slots number None
+statement-seen session statements number = all_seen-at statements number
 
 pub same-seen : (before after : State) (old new : Statements) → SameSeen old new → SameStatements (state_of before old) (state_of after new)
 same-seen before after old new same number =

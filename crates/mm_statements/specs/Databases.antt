@@ -1,12 +1,7 @@
 -- What a database with statements is seen as.
 use Rattle.std.specs.Prelude.{◌≡◌, ◌≢◌, ℕ, List, Option, None, slice_index_or}
-use Rattle.plain_tables.specs.declared.value.Value.{Value}
+use Rattle.mm_prepared.specs.Kept.{KeptStatement}
 use Rattle.mm_session.specs.Sessions.{State}
-
--- A statement that is kept is seen as the line that spells it, and the values that are bound to its holes.
-pub record KeptStatement : Type 0 where
-  pub line : List ℕ
-  pub values : List Value
 
 -- A database is seen as its session, and the statements by their numbers.
 pub record DatabaseState : Type 0 where

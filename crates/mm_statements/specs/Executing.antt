@@ -16,7 +16,8 @@ use Rattle.plain_statements.specs.Laws.{Refuses}
 use Rattle.plain_statements.specs.StatementSpelling.{SpellsStatement}
 use Rattle.mm_session.specs.Changing.{HasChanged, ShowsValues}
 use Rattle.mm_session.specs.Sessions.{State}
-use Rattle.mm_statements.specs.Databases.{KeptStatement, DatabaseState, statement_at}
+use Rattle.mm_prepared.specs.Kept.{KeptStatement}
+use Rattle.mm_statements.specs.Databases.{DatabaseState, statement_at}
 use Rattle.mm_statements.specs.declared.faults.ExecuteFault.{ExecuteFault}
 use Rattle.mm_statements.specs.declared.faults.ExecuteFault.TheVariants as fault
 use Rattle.mm_statements.specs.declared.database.Executed.{Executed}

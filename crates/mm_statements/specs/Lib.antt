@@ -1,11 +1,7 @@
-pub mod Cells
 pub mod Columns
 pub mod Databases
-pub mod Declaring
 pub mod Executing
 pub mod Faults
-pub mod Kept
-pub mod Lent
 pub mod LineLaws
 pub mod Preparing
 pub mod Querying

@@ -14,9 +14,9 @@ use Rattle.plain_statements.specs.StatementSpelling.{SpellsStatement}
 use Rattle.mm_session.specs.Changing.{IsChange}
 use Rattle.mm_statements.specs.declared.faults.ExecuteFault.{ExecuteFault}
 use Rattle.mm_statements.specs.declared.faults.ExecuteFault.TheVariants as fault
-use Rattle.mm_statements.specs.declared.kept.Prepared.{Prepared}
-use Rattle.mm_statements.specs.declared.kept.Statements.{Statements}
-use Rattle.mm_statements.specs.Kept.{named}
+use Rattle.mm_prepared.specs.declared.kept.Prepared.{Prepared}
+use Rattle.mm_prepared.specs.declared.kept.Statements.{Statements}
+use Rattle.mm_prepared.specs.Kept.{named}
 use Rattle.mm_statements.specs.Preparing.{SpellsNone}
 
 -- the line spells a statement with this resolution

@@ -4,9 +4,9 @@ use Rattle.plain_tables.specs.Databases.{Database}
 use Rattle.plain_statements.specs.declared.statement.Statement.{Statement}
 use Rattle.plain_statements.specs.Laws.{Resolves}
 use Rattle.plain_statements.specs.StatementSpelling.{SpellsStatement, holes_of}
-use Rattle.mm_statements.specs.declared.kept.Prepared.{Prepared}
-use Rattle.mm_statements.specs.declared.kept.Statements.{Statements}
-use Rattle.mm_statements.specs.Kept.{named}
+use Rattle.mm_prepared.specs.declared.kept.Prepared.{Prepared}
+use Rattle.mm_prepared.specs.declared.kept.Statements.{Statements}
+use Rattle.mm_prepared.specs.Kept.{named}
 
 -- The line spells a statement, each of whose holes has a value; and what is known of its meaning is what it means of these tables.
 pub record IsRight (tables : Database) (p : Prepared) : Type 0 where

@@ -1,17 +1,12 @@
 //! A database with statements: a session, and the statements that are kept of its tables.
 
-use crate::cell::Cell;
 use crate::columns::push_columns;
-use crate::commands::Commands;
-use crate::declaring::may_declare;
-use crate::declined::Declined;
 use crate::faults::{ExecuteFault, PrepareFault};
-use crate::kept::Statements;
-use crate::lent::Lent;
 use crate::querying::command_of_line;
 use crate::reading::{count_marks, meaning, readable};
 use crate::resolving::{command_of, resolution_of, resolve};
-use mm_cells::Cells;
+use mm_cells::{Cells, Parts};
+use mm_prepared::{Cell, Commands, Declined, Lent, Statements, may_declare};
 use mm_session::{Answer, NotOneRequest, Session, SessionFault};
 use no_memory::NoMemory;
 use plain_statements::Template;
@@ -46,7 +41,7 @@ pub struct Database {
 
 impl Model for Database {
     ghost use Rattle.mm_statements.specs.Databases.{DatabaseState};
-    ghost use Rattle.mm_statements.specs.Kept.{all_seen};
+    ghost use Rattle.mm_prepared.specs.Kept.{all_seen};
     ghost use Rattle.mm_statements.specs.Right.{AreRight};
 
     ghost Value = { DatabaseState };
@@ -62,14 +57,16 @@ impl Database {
     ghost use Rattle.plain_tables.specs.declared.value.Value.TheVariants as value;
     ghost use Rattle.plain_streams.specs.Division.{IsWhole};
     ghost use Rattle.plain_streams.specs.Requests.{without_return};
+    ghost use Rattle.mm_cells.specs.Parts.{values_of};
     ghost use Rattle.mm_session.specs.OneRequest.{AnswersOne, GoesBetween, StaysInStream};
     ghost use Rattle.mm_session.specs.Sessions.{BreaksOff, Feeds, Finishes, Gains, new_session};
-    ghost use Rattle.mm_statements.specs.Cells.{IsSmall, cell_value};
-    ghost use Rattle.mm_statements.specs.Databases.{KeptStatement, statement_at, IsUnchanged, NowNames, SameStatements};
+    ghost use Rattle.mm_prepared.specs.Cells.{IsSmall, cell_value};
+    ghost use Rattle.mm_prepared.specs.Kept.{KeptStatement};
+    ghost use Rattle.mm_statements.specs.Databases.{statement_at, IsUnchanged, NowNames, SameStatements};
     ghost use Rattle.mm_statements.specs.Executing.{HasGiven, IsDeclined, IsEffectOf, IsUntold, TellsColumns};
     ghost use Rattle.mm_statements.specs.Preparing.{IsPrepared, IsUnpreparedFor};
     ghost use Rattle.mm_statements.specs.Querying.{IsEffectOfLine, IsUnqueried};
-    ghost use Rattle.mm_statements.specs.declared.declined.Declined.TheVariants as declined;
+    ghost use Rattle.mm_prepared.specs.declared.declined.Declined.TheVariants as declined;
     ghost use Rattle.mm_statements.specs.declared.faults.ExecuteFault.TheVariants as fault;
     ghost use Rattle.plain_tables.specs.Effects.{Effect};
 
@@ -221,8 +218,8 @@ impl Database {
 
     /// Does what the statement of a number says with the values that are bound, beside the stream. It makes the cells the values of the
     /// rows that it shows, a row behind the other, and none where it shows none; where it fails they may be any.
-    pub fn execute(&mut self, number: usize, cells: &mut Cells) -> Result<Executed, ExecuteFault>
-        ensures done { IfOk result (λ given. (effect : Effect) × IsEffectOf self.old number effect × HasGiven self.new.session effect given cells.new) }
+    pub fn execute(&mut self, number: usize, shown: &mut Parts) -> Result<Executed, ExecuteFault>
+        ensures done { IfOk result (λ given. (effect : Effect) × IsEffectOf self.old number effect × HasGiven self.new.session effect given (values_of shown.new)) }
         ensures missing { statement_at self.old number ≡ None → result ≡ Err fault.NoSuchStatement }
         ensures declined { IfErr result (IsDeclined self.old number) }
         ensures unchanged { OnErr result (IsUnchanged self.old self.new) }
@@ -231,7 +228,7 @@ impl Database {
         ensures stream { StaysInStream self.old.session self.new.session }
         ensures statements { SameStatements self.old self.new }
     {
-        cells.clear();
+        shown.clear();
         resolve(&self.session, &mut self.statements, number)?;
         let kept = self.commands.at(number);
         let lent = command_of(&self.statements, number, kept)?;
@@ -243,8 +240,10 @@ impl Database {
             Lent::Command(command) => command,
         };
         if let Resolved::Select(query) = command {
-            let columns = self.session.select(query, cells)?;
-            return Ok(Executed::Rows { columns });
+            let mut cells = shown.take();
+            let selected = self.session.select(query, &mut cells);
+            shown.put(cells);
+            return Ok(Executed::Rows { columns: selected? });
         }
         let count = self.session.change(command)?;
         Ok(Executed::Changed(count))

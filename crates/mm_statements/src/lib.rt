@@ -7,8 +7,8 @@
 //!                   the resolved command that these values make of it ──▶ its effect, or a refusal
 //! ```
 //!
-//! It does not care how a line is read as a statement, how a statement is resolved, nor how a resolved command is done: mm_lang,
-//! mm_catalog and mm_session say that. It promises that an execution does and answers what the command with these values does.
+//! It does not care how a line is read as a statement, how a statement is resolved, how its values are kept and filled in, nor how a
+//! resolved command is done: mm_lang, mm_catalog, mm_prepared and mm_session say that. It promises that an execution does and answers what the command with these values does.
 //!
 //! - A number names one statement from the call that gives it to the one that frees it.
 //! - A statement has as many values as holes, each null until one is bound, and it stays until another is.
@@ -17,27 +17,14 @@
 //! - What is declined changes nothing.
 #![tactic(auto)]
 
-mod bound;
-mod cell;
 mod columns;
-mod commands;
 mod database;
-mod declaring;
-mod declined;
 mod faults;
-mod filling;
-mod finishing;
-mod kept;
 pub mod laws;
-mod lent;
 mod querying;
 mod reading;
 mod resolving;
 
-pub use bound::Bound;
-pub use cell::Cell;
 pub use database::{Database, Executed, Numbered};
-pub use declined::Declined;
 pub use faults::{ExecuteFault, PrepareFault};
-pub use finishing::finish;
-pub use kept::{Prepared, Statements};
+pub use mm_prepared::{Bound, Cell, Declined, Prepared, Statements, finish};

@@ -3,24 +3,23 @@ ghost use Rattle.std.specs.Prelude.{◌≡◌, Err, IfErr, IfOk, None, OnOk, Ok,
 ghost use Rattle.plain_tables.specs.Databases.{Database};
 ghost use Rattle.plain_tables.specs.ResolvedLaws.{IsMeant};
 ghost use Rattle.plain_tables.specs.declared.command.Limits.{Limits};
-ghost use Rattle.mm_statements.specs.Kept.{IsKnown, SameSeen, named};
-ghost use Rattle.mm_statements.specs.Lent.{lent_command};
+ghost use Rattle.mm_prepared.specs.Kept.{IsKnown, SameSeen, named};
+ghost use Rattle.mm_prepared.specs.Lent.{lent_command};
 ghost use Rattle.mm_statements.specs.Resolving.{IsFinished, IsOfRows, IsUnfinished, IsUnresolved};
 ghost use Rattle.mm_statements.specs.Right.{AreRight};
-ghost use Rattle.mm_statements.specs.declared.kept.Prepared.{Prepared as PlainPrepared};
+ghost use Rattle.mm_prepared.specs.declared.kept.Prepared.{Prepared as PlainPrepared};
 ghost use Rattle.mm_statements.specs.declared.faults.ExecuteFault.TheVariants as fault;
 
 use crate::faults::ExecuteFault;
-use crate::kept::Statements;
-use crate::lent::{Lent, lend};
 use crate::reading::meaning;
 use mm_lang::Line;
+use mm_prepared::{Lent, Statements, lend};
 use mm_session::Session;
 use plain_statements::Resolution;
 use plain_tables::{Refusal, Resolved};
 
-/// Works out what the statement of a number means of the tables, where that isn't known.
-pub fn resolve(
+// Works out what the statement of a number means of the tables.
+fn resolve_anew(
     session: &Session,
     statements: &mut Statements,
     number: usize,
@@ -35,14 +34,33 @@ pub fn resolve(
     let Some(prepared) = statements.get(number) else {
         return Err(ExecuteFault::NoSuchStatement);
     };
-    if prepared.resolution.is_some() {
-        return Ok(());
-    }
     let line = Line::new(prepared.line.as_str());
     let resolution = meaning(prepared.bound.allocator(), session.catalog(), &line)?;
     // The number names a statement, so this is never declined.
     let _ = statements.set_resolution(number, resolution);
     Ok(())
+}
+
+/// Works out what the statement of a number means of the tables, where that isn't known.
+#[inline]
+pub fn resolve(
+    session: &Session,
+    statements: &mut Statements,
+    number: usize,
+) -> Result<(), ExecuteFault>
+    requires { AreRight session.now.database statements.old }
+    ensures right { AreRight session.now.database statements.new }
+    ensures same { SameSeen statements.old statements.new }
+    ensures known { OnOk result (IsKnown statements.new number) }
+    ensures missing { named statements.old number ≡ None → result ≡ Err fault.NoSuchStatement }
+    ensures refused { IfErr result (IsUnresolved session.now.database statements.old number) }
+{
+    if let Some(prepared) = statements.get(number) {
+        if prepared.resolution.is_some() {
+            return Ok(());
+        }
+    }
+    resolve_anew(session, statements, number)
 }
 
 /// What the statement of a number means of the tables, whatever values are bound.

@@ -12,7 +12,8 @@ use Rattle.plain_tables.specs.declared.value.Value.{Value}
 use Rattle.plain_tables.specs.declared.value.Value.TheVariants as value
 use Rattle.plain_streams.specs.Requests.{without_return}
 use Rattle.mm_session.specs.OneRequest.{StaysInStream}
-use Rattle.mm_statements.specs.Databases.{KeptStatement, IsUnchanged, NowNames, SameStatements, statement_at}
+use Rattle.mm_prepared.specs.Kept.{KeptStatement}
+use Rattle.mm_statements.specs.Databases.{IsUnchanged, NowNames, SameStatements, statement_at}
 use Rattle.mm_statements.specs.Executing.{HasGiven, IsDeclined, IsEffectOf, TellsColumns}
 use Rattle.mm_statements.specs.Executing as executing
 use Rattle.mm_statements.specs.Preparing.{IsPrepared}
@@ -21,8 +22,8 @@ use Rattle.mm_statements.specs.Querying.{IsEffectOfLine}
 use Rattle.mm_statements.specs.Querying as querying
 use Rattle.mm_statements.specs.declared.database.Executed.{Executed}
 use Rattle.mm_statements.specs.declared.database.Executed.TheVariants as gives
-use Rattle.mm_statements.specs.declared.declined.Declined.{Declined}
-use Rattle.mm_statements.specs.declared.declined.Declined.TheVariants as declined
+use Rattle.mm_prepared.specs.declared.declined.Declined.{Declined}
+use Rattle.mm_prepared.specs.declared.declined.Declined.TheVariants as declined
 use Rattle.mm_statements.specs.declared.faults.ExecuteFault.TheVariants as fault
 use Rattle.mmdb_c.specs.Calls.{KeepsRows}
 use Rattle.mmdb_c.specs.declared.database.Database.{Database}

@@ -3,7 +3,7 @@
 ghost use Rattle.std.specs.Prelude.{◌≡◌, ◌≢◌, ◌↔◌, ◌≤◌, ◌⊎◌, [], IsNone, IsSome, IsSomeAnd, length};
 ghost use Rattle.std.specs.Str.{IsUtf8};
 ghost use Rattle.plain_tables.specs.declared.value.Value.TheVariants as value;
-ghost use Rattle.mm_statements.specs.Cells.{IsSmall, cell_value};
+ghost use Rattle.mm_prepared.specs.Cells.{IsSmall, cell_value};
 ghost use Rattle.mm_statements.specs.declared.database.Executed.TheVariants as gives;
 ghost use Rattle.mmdb_c.specs.Calls.{Becomes};
 ghost use Rattle.mmdb_c.specs.StatementCalls.{Prepares, IsUnprepared, KeepsAll, KeepsEach, KeepsOthers, KeepsShown, KeepsStatements, IsMissing, IsPast, Binds, Finalizes, Executes, IsUnexecuted, IsUntold, KeepsColumns, Tells, Queries, IsUnqueried};

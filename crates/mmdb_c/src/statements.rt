@@ -2,8 +2,8 @@
 
 ghost use Rattle.std.specs.Prelude.{◌≡◌, ◌≢◌, ◌+◌, ◌<◌, ◌≤◌, ◌⊎◌, ℕ, Err, None, Some, IfErr, IfOk, IsErrOf, OnErr, OnOk, length, slice_get};
 ghost use Rattle.mm_cells.specs.declared.parts.Parts.{Parts as PlainParts};
-ghost use Rattle.mm_statements.specs.Cells.{IsSmall, cell_value};
-ghost use Rattle.mm_statements.specs.declared.declined.Declined.TheVariants as declined;
+ghost use Rattle.mm_prepared.specs.Cells.{IsSmall, cell_value};
+ghost use Rattle.mm_prepared.specs.declared.declined.Declined.TheVariants as declined;
 ghost use Rattle.mmdb_c.specs.declared.statements.Unprepared.TheVariants as unprepared;
 ghost use Rattle.mmdb_c.specs.declared.statements.Unexecuted.TheVariants as unexecuted;
 
@@ -117,10 +117,8 @@ impl Database {
         ensures answer { self.new.answer ≡ self.old.answer }
         ensures untold { OnErr result (rows.new ≡ rows.old) }
     {
-        let mut cells = self.shown[number].take();
-        let executed = self.inner.execute(number, &mut cells);
-        self.shown[number] = cells.into_parts();
-        rows.tell(executed?, &self.shown[number]);
+        let executed = self.inner.execute(number, &mut self.shown[number])?;
+        rows.tell(executed, &self.shown[number]);
         Ok(())
     }
 

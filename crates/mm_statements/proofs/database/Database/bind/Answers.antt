@@ -1,7 +1,7 @@
 use Rattle.std.proofs.lemmas.Result.{MatchResult-weaker, on_ok_weaker, on_err_weaker}
 use Rattle.std.proofs.Common.{refl}
-use Rattle.mm_statements.specs.Cells.{cell_value}
-use Rattle.mm_statements.specs.declared.declined.Declined.TheVariants as declined
+use Rattle.mm_prepared.specs.Cells.{cell_value}
+use Rattle.mm_prepared.specs.declared.declined.Declined.TheVariants as declined
 use Rattle.mm_statements.proofs.ExecuteLemmas.{unchanged}
 use Rattle.mm_statements.proofs.RightLemmas.{bind-right}
 use Rattle.mm_statements.proofs.SeenLemmas.{bound-seen, named-seen, past-seen}

@@ -1,6 +1,6 @@
 use Rattle.std.proofs.Common.{ap, ◌∙◌}
 use Rattle.std.specs.Option.{option_map}
-use Rattle.mm_statements.specs.Kept.{seen}
+use Rattle.mm_prepared.specs.Kept.{seen}
 use Rattle.mm_statements.proofs.SeenLemmas.{statement-seen}
 use Rattle.mm_statements.proofs.database.Database.new.Goals as goal
 

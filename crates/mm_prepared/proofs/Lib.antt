@@ -1,0 +1,2 @@
+pub mod DeclareLemmas
+pub mod KeptLemmas

@@ -1,0 +1,4 @@
+pub mod Cells
+pub mod Declaring
+pub mod Kept
+pub mod Lent
