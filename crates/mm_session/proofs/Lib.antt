@@ -1,3 +1,4 @@
+pub mod AloneLemmas
 pub mod AnswerLemmas
 pub mod AskLemmas
 pub mod BatchLemmas
@@ -26,6 +27,7 @@ pub mod ScannedLemmas
 pub mod SelectLemmas
 pub mod ShortTexts
 pub mod ShowLemmas
+pub mod SinkLemmas
 pub mod StreamLemmas
 pub mod TakeLemmas
 pub mod TurnLemmas

@@ -1,15 +1,9 @@
 -- The rows that a walk of the key finds, and what is shown of them.
-use Rattle.std.proofs.Common.{◌≡◌, ◌∙◌, ℕ, ◌<◌, ◌≤◌, Bool, true, false, cond, List, [], ◌∷◌, ◌++◌, Option, Some, refl, sym, ap, subst, arith, append-nil, append_assoc, filter, get_or, length, map, length-append}
+use Rattle.std.proofs.Common.{◌≡◌, ◌∙◌, ℕ, ◌<◌, Bool, true, false, cond, List, [], ◌∷◌, ◌++◌, Some, refl, sym, ap, subst, arith, append-nil, filter, get_or, length, map}
 use Rattle.std.specs.Prelude.{slice_get}
-use Rattle.std.specs.List.{All, flat_map}
-use Rattle.std.specs.Io.KnownBytes.{Appends}
-use Rattle.std.proofs.KnownBytes.{Appends-nil, Appends-trans}
-use Rattle.std.proofs.lemmas.Grind.{flat_map-append}
-use Rattle.std.proofs.lemmas.List.{get_or-map, length-map, map-append}
-use Rattle.common_lemmas.proofs.Elements.{All-append_parts}
-use Rattle.plain_tables.specs.Csv.{row_record}
+use Rattle.std.specs.List.{All}
+use Rattle.std.proofs.lemmas.List.{get_or-map, length-map}
 use Rattle.std.proofs.lemmas.List.Elements.{filter-append}
-use Rattle.std.proofs.lemmas.List.Sums.{length-filter, count_by-le-length}
 use Rattle.std.proofs.lemmas.Simd.{map-map}
 use Rattle.part_raw.specs.declared.tuple_ref.TupleRef.{TupleRef}
 use Rattle.plain_tables.specs.Joining.{members_of}
@@ -33,8 +27,8 @@ use Rattle.temp_list.proofs.SelectLemmas.{passing_held}
 use Rattle.join_ops.specs.Joins.{single_rows}
 use Rattle.join_ops.proofs.JoinLemmas.{single_over}
 use Rattle.mm_session.specs.Members.{HasMembers, IsSourceOf, tables_at, joined_numbers, member_of}
-use Rattle.mm_session.specs.Shown.{places_shown, heading, list_values}
-use Rattle.mm_session.specs.Walked.{shown_row, AreColumns, WritesRows, rows_shown}
+use Rattle.mm_session.specs.Shown.{places_shown, heading, list_values, placed_values}
+use Rattle.mm_session.specs.Walked.{shown_row, AreColumns, rows_shown}
 use Rattle.project_hash.proofs.TableLemmas.{place_alone}
 use Rattle.mm_session.proofs.MemberLemmas.{map_same}
 use Rattle.mm_session.proofs.QueryLemmas.{key_source, source_columns, listing_over, singles_rise, single_lead}
@@ -48,53 +42,23 @@ next_passes p xs x so = filter-append p xs (x ∷ []) ∙ ap (λ b. filter p xs 
 pub next_fails : {A : Type 0} (p : A → Bool) (xs : List A) (x : A) → p x ≡ false → filter p (xs ++ x ∷ []) ≡ filter p xs
 next_fails p xs x so = filter-append p xs (x ∷ []) ∙ ap (λ b. filter p xs ++ cond b (x ∷ []) []) so ∙ append-nil (filter p xs)
 
-pub few_passing : {A : Type 0} (p : A → Bool) (front rest : List A) → length (filter p front) ≤ length (front ++ rest)
-few_passing p front rest = omega (arith, length-filter p front, count_by-le-length p front, length-append front rest)
-
--- ---- rows that wait to be written
-
--- Of the rows that were found the last ones wait, and the records of those before them are written.
-pub record IsWaiting (c : CatalogState) (s : RelationState) (places : List Place) (first last : Option (List ℕ)) (found batch : List TupleRef) : Type 0 where
-  pub done : List TupleRef
-  pub split : found ≡ done ++ batch
-  pub written : WritesRows c s places first last done
-
-module _ (c : CatalogState) (s : RelationState) (places : List Place) (first last : Option (List ℕ)) (found : List TupleRef) where
-  -- no row is found yet
-  pub waiting_none : found ≡ [] → last ≡ first → IsWaiting c s places first last found []
-  waiting_none none same = record { done = []; split = none; written = subst (λ (b : Option (List ℕ)). Appends first b []) (sym same) (Appends-nil first) }
-
-  -- one row more waits
-  pub waiting_more : (batch : List TupleRef) → IsWaiting c s places first last found batch → (r : TupleRef) (all longer : List TupleRef) → all ≡ found ++ r ∷ [] → longer ≡ batch ++ r ∷ []
-      → IsWaiting c s places first last all longer
-  waiting_more batch waits r all longer finds holds = record {
-    done = waits.done;
-    split = finds ∙ ap (λ (rs : List TupleRef). rs ++ r ∷ []) waits.split ∙ append_assoc waits.done batch (r ∷ []) ∙ ap (λ (rs : List TupleRef). waits.done ++ rs) (sym holds);
-    written = waits.written;
-  }
-
-  -- all that waited are written
-  pub waiting_done : (batch : List TupleRef) → IsWaiting c s places first last found batch → (new : Option (List ℕ)) → WritesRows c s places last new batch → WritesRows c s places first new found
-  waiting_done batch waits new writes =
-      subst (Appends first new)
-      (sym (ap (λ (rs : List TupleRef). flat_map row_record (map (shown_row c s places) rs)) waits.split
-      ∙ ap (flat_map row_record) (map-append (shown_row c s places) waits.done batch)
-      ∙ flat_map-append row_record (map (shown_row c s places) waits.done) (map (shown_row c s places) batch)))
-      (Appends-trans first last new _ _ waits.written writes)
-
-  -- all that waited are written, and none waits
-  pub waiting_empty : (batch : List TupleRef) → IsWaiting c s places first last found batch → (new : Option (List ℕ)) → WritesRows c s places last new batch → IsWaiting c s places first new found []
-  waiting_empty batch waits new writes = record { done = found; split = sym (append-nil found); written = waiting_done batch waits new writes }
-
-  -- each of those that wait is a row of those that passed
-  pub waiting_held : (P : TupleRef → Type 0) (batch : List TupleRef) → IsWaiting c s places first last found batch → All P found → All P batch
-  waiting_held P batch waits each = (All-append_parts P waits.done batch (subst (All P) waits.split each)).1
-
 -- what a list shows at a place, where it shows the same as another
 pub read_at : {A B C : Type 0} (f : A → C) (g : B → C) (xs : List A) (ys : List B) (k : ℕ) (x : A) (d : B) → map f xs ≡ map g ys → k < length ys → x ≡ get_or xs k x → f x ≡ g (get_or ys k d)
 read_at f g xs ys k x d same within there =
     let long : length xs ≡ length ys = sym (length-map xs f) ∙ ap length same ∙ length-map ys g in
     ap f there ∙ sym (get_or-map f xs k x (f x) (omega (arith, long, within))) ∙ ap (λ zs. get_or zs k (f x)) same ∙ get_or-map g ys k d (f x) within
+
+-- ---- a row of a table alone
+
+module _ (c : CatalogState) (n : ℕ) (s : RelationState) (there : slice_get c.relations n ≡ Some s) where
+  one_value : (place : Place) (r : TupleRef) → HasPlace c.relations (n ∷ []) place → value_of c.relations (n ∷ []) (r ∷ []) place ≡ value_in c.relations s place.column.0 r
+  one_value place r has =
+      let first = (place_alone c.relations n s there place has).0 in
+      place_read c.relations (n ∷ []) (r ∷ []) place s r (ap (λ k. relation_of c.relations (n ∷ []) k) first ∙ there) (ap (slice_get (r ∷ [])) first)
+
+  pub row_alone : (places : List Place) → All (HasPlace c.relations (n ∷ [])) places → (r : TupleRef) → shown_row c s places r ≡ placed_values c (n ∷ []) places (r ∷ [])
+  row_alone places over r =
+      map_same (λ place. value_in c.relations s place.column.0 r) (value_of c.relations (n ∷ []) (r ∷ [])) places (λ k d l. sym (one_value (get_or places k d) r (over k d l)))
 
 -- ---- what a query of one table shows
 
@@ -145,15 +109,7 @@ module _ (c : CatalogState) (ok : IsConsistent c) (query : Query) (one : IsMeant
     pub walked_rows : query.distinct ≡ false → map (shown_row c s places) refs ≡ rows_shown c query
     unfolding has
     walked_rows ordered =
-        let members = members_of (database_of c) query.source query.joins in
-        map_same (shown_row c s places) (λ r. list_values c (record listing { columns = places }) (r ∷ [])) refs
-        (λ k d l. map_same (λ place. value_in c.relations s place.column.0 (get_or refs k d)) (value_of c.relations (n ∷ []) (get_or refs k d ∷ [])) places
-        (λ j e m. sym (one_value (get_or places j e) (get_or refs k d) (places_over j e m))))
+        map_same (shown_row c s places) (λ r. list_values c (record listing { columns = places }) (r ∷ [])) refs (λ k d l. row_alone c n s there places places_over (get_or refs k d))
         ∙ sym (map-map (list_values c (record listing { columns = places })) (λ (r : TupleRef). r ∷ []) refs)
         ∙ ordered_shown c ok query one.0 listing has places shows
-        ∙ ap (λ way. shown_rows way query.shown members) (sym ordered)
-      where
-        one_value : (place : Place) (r : TupleRef) → HasPlace c.relations (n ∷ []) place → value_of c.relations (n ∷ []) (r ∷ []) place ≡ value_in c.relations s place.column.0 r
-        one_value place r has =
-            let first = (place_alone c.relations n s there place has).0 in
-            place_read c.relations (n ∷ []) (r ∷ []) place s r (ap (λ k. relation_of c.relations (n ∷ []) k) first ∙ there) (ap (slice_get (r ∷ [])) first)
+        ∙ ap (λ way. shown_rows way query.shown (members_of (database_of c) query.source query.joins)) (sym ordered)

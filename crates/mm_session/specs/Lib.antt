@@ -21,6 +21,7 @@ pub mod Refused
 pub mod Responding
 pub mod Sessions
 pub mod Shown
+pub mod Sinks
 pub mod StreamLaws
 pub mod Turns
 pub mod Walked

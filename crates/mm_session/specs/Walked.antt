@@ -1,9 +1,8 @@
 -- A select whose rows are shown as they are found: by a walk of a key, or, of one table, each list of values once.
-use Rattle.std.specs.Prelude.{◌≡◌, ℕ, ◌<◌, true, false, List, [], ◌++◌, Option, length, map}
-use Rattle.std.specs.List.{All, flat_map}
-use Rattle.std.specs.Io.KnownBytes.{Appends}
+use Rattle.std.specs.Prelude.{◌≡◌, ℕ, ◌<◌, true, false, List, [], ◌++◌, length, map}
+use Rattle.std.specs.List.{All}
 use Rattle.part_raw.specs.declared.tuple_ref.TupleRef.{TupleRef}
-use Rattle.plain_tables.specs.Csv.{block_text, row_record}
+use Rattle.plain_tables.specs.Csv.{block_text}
 use Rattle.plain_tables.specs.Tables.{Row}
 use Rattle.plain_tables.specs.Joining.{members_of}
 use Rattle.plain_tables.specs.Doing.{headings, joined_tables, shown_rows}
@@ -24,17 +23,9 @@ shown_row c s places r = map (λ place. value_in c.relations s place.column.0 r)
 abbrev pub AreColumns : RelationState → List Place → Type 0
 AreColumns s places = All (λ place. place.column.0 < length s.schema.columns) places
 
--- the records of these rows come behind what was written
-abbrev pub WritesRows : CatalogState → RelationState → List Place → Option (List ℕ) → Option (List ℕ) → List TupleRef → Type 0
-WritesRows c s places before after rows = Appends before after (flat_map row_record (map (shown_row c s places) rows))
-
 -- The query is one of a table alone, whose rows are shown in the order of their keys.
 abbrev pub IsOrdered : Query → Type 0
 IsOrdered query = (query.distinct ≡ false) × (query.joins ≡ [])
-
--- Such a query of these tables, which a walk answers.
-abbrev pub IsWalk : CatalogState → Query → Type 0
-IsWalk c query = IsMeant c.limits (database_of c) (resolved.Select query) × IsOrdered query
 
 -- The query is one of a table alone, which shows each list of values once.
 abbrev pub ShowsOnce : Query → Type 0

@@ -11,10 +11,11 @@ mod only_row;
 mod planned;
 mod query;
 mod respond;
+mod rows;
 mod scanned;
 pub mod search;
 mod select;
-mod walked;
+mod sink;
 
 use crate::answer::Answer;
 use mm_catalog::Catalog;

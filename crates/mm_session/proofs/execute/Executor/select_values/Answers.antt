@@ -1,14 +1,20 @@
-use Rattle.std.proofs.Common.{length}
-use Rattle.std.specs.List.{flat_map}
+use Rattle.std.proofs.Common.{arith, length}
+use Rattle.std.proofs.lemmas.Result.{IfOk-weaker}
 use Rattle.plain_tables.specs.Doing.{headings, joined_tables}
 use Rattle.mm_catalog.specs.Seen.{database_of}
 use Rattle.mm_session.specs.Walked.{rows_shown}
-use Rattle.mm_session.proofs.OnlyRowLemmas.{shown_alone}
+use Rattle.mm_session.proofs.PlacedLemmas.{heads_some}
+use Rattle.mm_session.proofs.SinkLemmas.{cells_shown}
 use Rattle.mm_session.proofs.execute.Executor.select_values.Goals as goal
 
 pub returns-clause-shown : goal.returns-clause-shown
 returns-clause-shown c =
     let catalog = c.args.self.now.catalog in
     let query = c.args.query.now in
-    shown_alone c.push_select.result c.clear.new.self c.push_select.new.cells (flat_map (λ row. row) (rows_shown catalog query))
+    cells_shown c.push_select.result c.clear.new.self c.push_select.new.sink (rows_shown catalog query)
     (length (headings (joined_tables (database_of catalog) query.source query.joins) query.shown)) c.clear.ensures c.push_select.ensures.shown c.push_select.ensures.columns
+
+pub returns-clause-some : goal.returns-clause-some
+returns-clause-some c =
+    let some = heads_some c.args.self.now.catalog c.a_catalog_is_consistent.ensures c.args.query.now c.requires in
+    IfOk-weaker c.push_select.result _ _ (λ k is. omega (arith, is, some)) c.push_select.ensures.columns

@@ -1,0 +1,41 @@
+-- What is put into a sink, one after another.
+use Rattle.std.proofs.Common.{◌≡◌, ◌∙◌, ℕ, ◌<◌, List, [], ◌∷◌, ◌++◌, sym, ap, subst, arith, append-nil, append_assoc, length}
+use Rattle.std.proofs.KnownBytes.{Appends-nil}
+use Rattle.std.specs.List.{flat_map}
+use Rattle.std.specs.Prelude.{Result, Ok, Err, IfOk, OnOk}
+use Rattle.plain_tables.specs.Tables.{Row}
+use Rattle.plain_tables.specs.declared.value.Value.{Value}
+use Rattle.mm_session.specs.Sinks.{PutsValues, EndsRow, PutsRows, Written, IsBehind}
+
+module _ {S : Type 0} (received : S → List Row → Row → S → Type 0) where
+  -- values, and more behind them
+  pub values_more : (old mid new : S) (front rest : Row) → PutsValues received old mid front → PutsValues received mid new rest → PutsValues received old new (front ++ rest)
+  values_more old mid new front rest before more =
+      λ start rows part is. subst (λ (values : Row). received start rows values new) (append_assoc part front rest) (more start rows (part ++ front) (before start rows part is))
+
+  -- the values of a row, and its end
+  pub row_put : (old mid new : S) (values : Row) → PutsValues received old mid values → EndsRow received mid new → 0 < length values → PutsRows received old new (values ∷ [])
+  row_put old mid new values puts ends some = λ start rows is. ends start rows values (puts start rows [] is) some
+
+  -- no row more
+  pub rows_none : (s : S) → PutsRows received s s []
+  rows_none s = λ start rows is. subst (λ (rs : List Row). received start rs [] s) (sym (append-nil rows)) is
+
+  -- rows, and more behind them
+  pub rows_more : (old mid new : S) (front rest : List Row) → PutsRows received old mid front → PutsRows received mid new rest → PutsRows received old new (front ++ rest)
+  rows_more old mid new front rest before more =
+      λ start rows is. subst (λ (rs : List Row). received start rs [] new) (append_assoc rows front rest) (more start (rows ++ front) (before start rows is))
+
+-- ---- what the two sinks have then
+
+-- rows that came into cells that were none
+pub cells_shown : {E : Type 0} (result : Result ℕ E) (old new : List Value) (rows : List Row) (n : ℕ) → old ≡ []
+    → OnOk result (PutsRows (λ (start : List Value) rows part now. now ≡ start ++ (flat_map (λ row. row) rows ++ part)) old new rows) → IfOk result (λ k. k ≡ n)
+    → IfOk result (λ k. (k ≡ n) × (new ≡ flat_map (λ row. row) rows))
+cells_shown (Ok k) old new rows n none puts counted =
+    (counted, puts old [] (sym (append-nil old)) ∙ ap (λ (values : List Value). values ++ (flat_map (λ row. row) rows ++ [])) none ∙ append-nil (flat_map (λ row. row) rows))
+cells_shown (Err e) old new rows n none puts counted = tt
+
+-- rows that were written behind others
+pub rows_written : (old new : Written) (rows : List Row) → old.part ≡ [] → PutsRows IsBehind old new rows → IsBehind old rows [] new
+rows_written old new rows none puts = puts old [] (record { written = Appends-nil old.bytes; waits = none; counted = omega arith })

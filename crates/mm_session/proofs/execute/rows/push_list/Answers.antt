@@ -1,0 +1,16 @@
+use Rattle.std.proofs.Common.{◌<◌, ◌∷◌, [], sym, subst, get_or, map, take, length, arith}
+use Rattle.std.proofs.lemmas.List.{map_more}
+use Rattle.mm_session.specs.Shown.{placed_values}
+use Rattle.mm_session.specs.Sinks.{PutsRows}
+use Rattle.mm_session.proofs.SinkLemmas.{rows_more}
+use Rattle.mm_session.proofs.execute.rows.push_list.Goals as goal
+
+pub loop-row-preserved : goal.loop-row-preserved
+loop-row-preserved g c =
+    let at = c.loop-row.row in
+    let list = c.args.list.now in
+    let shown = placed_values c.args.catalog.now list.sources c.args.places.now in
+    let within : at < length list.rows = omega arith in
+    let received = g.S.RowSink.received in
+    subst (PutsRows received c.args.sink.now c.push_row.new.sink) (sym (map_more shown list.rows at [] within))
+    (rows_more received c.args.sink.now c.loop-row.sink c.push_row.new.sink (map shown (take at list.rows)) (shown (get_or list.rows at []) ∷ []) c.loop-row.invariant c.in_ok-push_row.ensures)

@@ -1,0 +1,138 @@
+//! Rows that are put into a sink, value by value, from where they lie.
+
+ghost use Rattle.std.specs.Prelude.{◌≡◌, ◌∷◌, ◌<◌, ℕ, [], Some, IsSome, OnOk, length, map, slice_get, slice_index_or};
+ghost use Rattle.std.specs.FinMap as finite;
+ghost use Rattle.std.specs.List.{All};
+ghost use Rattle.mm_catalog.specs.Picked.{seen_values};
+ghost use Rattle.temp_list.specs.Lists.{IsOver, HasPlace};
+ghost use Rattle.mm_session.specs.OnlyRow.{columns_shown, values_shown};
+ghost use Rattle.mm_session.specs.Shown.{placed_values};
+ghost use Rattle.mm_session.specs.Sinks.{PutsValues, PutsRows};
+ghost use Rattle.mm_session.specs.Walked.{shown_row, AreColumns};
+
+use super::sink::RowSink;
+use mm_catalog::Catalog;
+use mm_catalog::laws::a_catalog_is_consistent;
+use mm_relation::laws::a_relation_is_kept;
+use mm_relation::{Relation, TupleRef};
+use no_memory::NoMemory;
+use plain_tables::{ColumnNumber, Place, Shown};
+use temp_list::TempList;
+
+/// Puts the values at these places of a row of one table behind those of the row that the sink has.
+pub fn push_placed<'a, S: RowSink<'a>>(
+    sink: &mut S,
+    catalog: &'a Catalog,
+    relation: &'a Relation,
+    r: TupleRef,
+    places: &[Place],
+) -> Result<(), NoMemory>
+    requires lent { (n : ℕ) × (slice_get catalog.now.relations n ≡ Some relation.now) }
+    requires held { IsSome (finite.get relation.now.rows r) }
+    requires columns { AreColumns relation.now places.now }
+    ensures { OnOk result (PutsValues S.received sink.old sink.new (shown_row catalog.now relation.now places.now r)) }
+{
+    a_catalog_is_consistent(catalog);
+    a_relation_is_kept(relation);
+    let row = relation.row(r);
+    for place in places {
+        sink.push_value(row.value(place.column, catalog))?;
+    }
+    Ok(())
+}
+
+/// Puts the values of a row of one table, of all its columns, behind those of the row that the sink has.
+pub fn push_whole<'a, S: RowSink<'a>>(
+    sink: &mut S,
+    catalog: &'a Catalog,
+    relation: &'a Relation,
+    r: TupleRef,
+) -> Result<(), NoMemory>
+    requires lent { (n : ℕ) × (slice_get catalog.now.relations n ≡ Some relation.now) }
+    requires held { IsSome (finite.get relation.now.rows r) }
+    ensures { OnOk result (PutsValues S.received sink.old sink.new (seen_values catalog.now relation.now r)) }
+{
+    a_catalog_is_consistent(catalog);
+    a_relation_is_kept(relation);
+    let row = relation.row(r);
+    for column in 0..relation.schema().columns.len() {
+        sink.push_value(row.value(ColumnNumber(column), catalog))?;
+    }
+    Ok(())
+}
+
+// Puts the values that are shown of a row of one table behind those of the row that the sink has.
+fn push_columns<'a, S: RowSink<'a>>(
+    sink: &mut S,
+    catalog: &'a Catalog,
+    relation: &'a Relation,
+    r: TupleRef,
+    shown: &Shown,
+) -> Result<(), NoMemory>
+    requires lent { (n : ℕ) × (slice_get catalog.now.relations n ≡ Some relation.now) }
+    requires held { IsSome (finite.get relation.now.rows r) }
+    requires columns { All (λ column. column.0 < length relation.now.schema.columns) (columns_shown (length relation.now.schema.columns) shown.now) }
+    ensures { OnOk result (PutsValues S.received sink.old sink.new (values_shown catalog.now relation.now shown.now r)) }
+{
+    match shown {
+        Shown::All => push_whole(sink, catalog, relation, r),
+        Shown::Columns(places) => push_placed(sink, catalog, relation, r, places.as_slice()),
+    }
+}
+
+/// Puts a row of one table into a sink: the values that are shown of it.
+pub fn push_shown<'a, S: RowSink<'a>>(
+    sink: &mut S,
+    catalog: &'a Catalog,
+    relation: &'a Relation,
+    r: TupleRef,
+    shown: &Shown,
+) -> Result<(), NoMemory>
+    requires lent { (n : ℕ) × (slice_get catalog.now.relations n ≡ Some relation.now) }
+    requires held { IsSome (finite.get relation.now.rows r) }
+    requires columns { All (λ column. column.0 < length relation.now.schema.columns) (columns_shown (length relation.now.schema.columns) shown.now) }
+    requires some { 0 < length (columns_shown (length relation.now.schema.columns) shown.now) }
+    ensures { OnOk result (PutsRows S.received sink.old sink.new (values_shown catalog.now relation.now shown.now r ∷ [])) }
+{
+    push_columns(sink, catalog, relation, r, shown)?;
+    sink.end_row()
+}
+
+// Puts a row of a list into a sink: the values at these places.
+fn push_row<'a, S: RowSink<'a>>(
+    sink: &mut S,
+    catalog: &'a Catalog,
+    list: &TempList,
+    row: usize,
+    places: &[Place],
+) -> Result<(), NoMemory>
+    requires over { IsOver catalog.now.relations list.now }
+    requires places { All (HasPlace catalog.now.relations list.now.sources) places.now }
+    requires some { 0 < length places.now }
+    requires row { row < length list.now.rows }
+    ensures { OnOk result (PutsRows S.received sink.old sink.new (placed_values catalog.now list.now.sources places.now (slice_index_or list.now.rows row []) ∷ [])) }
+{
+    a_catalog_is_consistent(catalog);
+    for place in places {
+        sink.push_value(list.place_value(catalog, row, *place))?;
+    }
+    sink.end_row()
+}
+
+/// Puts the rows of a list into a sink: of each the values at these places.
+pub fn push_list<'a, S: RowSink<'a>>(
+    sink: &mut S,
+    catalog: &'a Catalog,
+    list: &TempList,
+    places: &[Place],
+) -> Result<(), NoMemory>
+    requires over { IsOver catalog.now.relations list.now }
+    requires places { All (HasPlace catalog.now.relations list.now.sources) places.now }
+    requires some { 0 < length places.now }
+    ensures { OnOk result (PutsRows S.received sink.old sink.new (map (placed_values catalog.now list.now.sources places.now) list.now.rows)) }
+{
+    for row in 0..list.len() {
+        push_row(sink, catalog, list, row, places)?;
+    }
+    Ok(())
+}

@@ -1,0 +1,120 @@
+//! Where the rows go that a select shows: into an answer, as records, or into cells.
+
+ghost use Rattle.std.specs.Prelude.{◌≡◌, ◌++◌, ◌∷◌, [], None, Some, IfOk, OnOk};
+ghost use Rattle.std.specs.Io.KnownBytes.{Keeps};
+ghost use Rattle.plain_tables.specs.Stored.{link_number};
+ghost use Rattle.mm_session.specs.Sinks.{PutsValues, EndsRow};
+
+use crate::answer::Answer;
+use mm_cells::Cells;
+use mm_csv::RecordWriter;
+use no_memory::NoMemory;
+use plain_tables::StoredValue;
+use std::alloc::Global;
+use std::marker::Model;
+
+/// What takes the rows of a select, value by value, from where they lie.
+pub trait RowSink<'a> {
+    ghost use Rattle.std.specs.Prelude.{List};
+    ghost use Rattle.plain_tables.specs.Tables.{Row};
+
+    // Since a state, these rows were received, and these values of one that has not ended.
+    ghost received: { Self → List Row → Row → Self → Type 0 };
+
+    /// Puts a value behind those of its row.
+    fn push_value(&mut self, value: &'a StoredValue) -> Result<(), NoMemory>
+        requires { link_number value.now ≡ None }
+        ensures { OnOk result (PutsValues received self.old self.new (value.now ∷ [])) };
+
+    /// Ends a row, which has a value.
+    fn end_row(&mut self) -> Result<(), NoMemory>
+        ensures { OnOk result (EndsRow received self.old self.new) };
+}
+
+impl<'a> RowSink<'a> for Cells {
+    ghost use Rattle.std.specs.List.{flat_map};
+
+    ghost received = { λ start rows part now. now ≡ start ++ (flat_map (λ row. row) rows ++ part) };
+
+    #[inline]
+    fn push_value(&mut self, value: &'a StoredValue) -> Result<(), NoMemory> {
+        self.push(value)
+    }
+
+    #[inline]
+    fn end_row(&mut self) -> Result<(), NoMemory> {
+        Ok(())
+    }
+}
+
+/// Rows as records, behind those that a writer has. The values of a row wait until it ends. Contracts see the bytes, these values,
+/// and how many rows there are.
+#[derive(Drop)]
+pub struct Records<'a> {
+    writer: RecordWriter<Answer>,
+    values: Vec<&'a StoredValue>,
+    count: usize,
+}
+
+impl<'a> Model for Records<'a> {
+    ghost use Rattle.std.specs.Prelude.{map};
+    ghost use Rattle.mm_session.specs.Sinks.{Written};
+
+    ghost Value = { Written };
+
+    ghost view = { λ r. record { bytes = r.writer.bytes; part = map (λ v. v.now) r.values.items; count = r.count } };
+}
+
+impl<'a> Records<'a> {
+    /// No rows yet, behind what a writer has. They are so wide.
+    pub fn new(
+        alloc: Global,
+        writer: RecordWriter<Answer>,
+        width: usize,
+    ) -> Result<Records<'a>, NoMemory>
+        ensures { IfOk result (λ made. made ≡ record { bytes = writer.bytes; part = []; count = 0 }) }
+    {
+        let values = Vec::with_capacity(alloc, width)?;
+        Ok(Records {
+            writer,
+            values,
+            count: 0,
+        })
+    }
+
+    /// Gives back what was written to, and tells how many rows were.
+    pub fn finish(self) -> Result<(Answer, usize), NoMemory>
+        ensures { IfOk result (λ made. Keeps self.entry.bytes (Some made.0) × (made.1 ≡ self.entry.count)) }
+    {
+        let count = self.count;
+        let Records { writer, .. } = self;
+        let whole = writer.finish()?;
+        Ok((whole, count))
+    }
+}
+
+impl<'a> RowSink<'a> for Records<'a> {
+    ghost use Rattle.mm_session.specs.Sinks.{IsBehind};
+
+    ghost received = { IsBehind };
+
+    #[inline]
+    fn push_value(&mut self, value: &'a StoredValue) -> Result<(), NoMemory> {
+        self.values.push(value)?;
+        Ok(())
+    }
+
+    fn end_row(&mut self) -> Result<(), NoMemory> {
+        if self.values.is_empty() {
+            return Ok(());
+        }
+        // So many rows that none counts them have no room in memory either.
+        let Some(count) = self.count.checked_add(1) else {
+            return Err(NoMemory);
+        };
+        self.writer.push_values(&self.values)?;
+        self.values.clear();
+        self.count = count;
+        Ok(())
+    }
+}
