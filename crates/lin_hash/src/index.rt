@@ -129,10 +129,10 @@ impl ExactIndex for LinHash {
     ghost room = { λ h. h.room };
 
     /// Makes sure of memory for `n` inserts, until `release_spares`: for the nodes of all of them, and for as many heads of
-    /// buckets as the entries and `n` more ask for. There is never memory for 2^32 entries or more. After an error what was
-    /// gained is kept.
+    /// buckets as the entries and `n` more ask for. With these there are fewer than 2^32 entries, since links name so many
+    /// nodes. After an error what was gained is kept.
     fn reserve(&mut self, n: usize) -> Result<(), NoMemory>
-        requires { n ≤ 2 ^ 32 }
+        requires { length self.old.entries + n < 2 ^ 32 }
         ensures entries { self.new.entries ≡ self.old.entries }
         ensures reserved { OnOk result (n ≤ self.new.room) }
         ensures room { self.old.room ≤ self.new.room }
@@ -198,9 +198,9 @@ impl ExactIndex for LinHash {
     fn matching(&self, hash: u32, out: &mut Vec<TupleRef>) -> Result<(), NoMemory> {
         let before = out.len();
         for r in self.chain(hash) {
-            if out.push(r).is_err() {
+            if let Err(refused) = out.push(r) {
                 out.truncate(before);
-                return Err(NoMemory);
+                return Err(NoMemory::from(refused));
             }
         }
         Ok(())
@@ -230,8 +230,8 @@ impl ExactIndex for LinHash {
 
 // Makes sure of the nodes and the heads of the buckets of so many entries, and of the first four.
 fn reserve_memory(table: &mut Option<Table>, alloc: Global, entries: usize) -> Result<(), NoMemory>
+    requires { entries < 2 ^ 32 }
     ensures entries { table_entries table.new ≡ table_entries table.old }
-    ensures few { OnOk result (entries < 2 ^ 32) }
     ensures nodes { OnOk result (entries ≤ table_nodes table.new) }
     ensures reserved { OnOk result (entries ≤ 2 * table_heads table.new) }
     ensures first { OnOk result (4 ≤ table_heads table.new) }

@@ -127,11 +127,10 @@ impl Nodes {
         self.len -= 1;
     }
 
-    // Makes sure of memory for so many. There are no more than links can name. After an error what was gained is
-    // kept.
+    // Makes sure of memory for so many, which links can name. After an error what was gained is kept.
     pub fn reserve(&mut self, wanted: usize) -> Result<(), NoMemory>
+        requires { wanted < 2 ^ 32 }
         ensures items { self.new.items ≡ self.old.items }
-        ensures few { OnOk result (wanted < 2 ^ 32) }
         ensures ok { OnOk result (wanted ≤ self.new.memory) }
         ensures more { self.old.memory ≤ self.new.memory }
         ensures grown { self.new.memory ≤ max self.old.memory (wanted + 255) }
@@ -139,9 +138,6 @@ impl Nodes {
         ensures listed { StaysOrDoubles self.old.listed self.new.listed }
         ensures enough_list { wanted ≤ self.old.memory → self.new.listed ≡ self.old.listed }
     {
-        if wanted > MOST_NODES {
-            return Err(NoMemory);
-        }
         let blocks = wanted.div_ceil(NODES_A_BLOCK);
         reserve_by_doubling(&mut self.blocks, blocks)?;
         add_blocks(&mut self.blocks, blocks)

@@ -18,7 +18,7 @@ use crate::row_chain::RowChain;
 use crate::row_table::RowTable;
 use crate::shape::HashShape;
 use no_memory::NoMemory;
-use part_raw::TupleRef;
+use part_raw::{MAX_TUPLES, TupleRef};
 use std::alloc::Global;
 use std::marker::Model;
 
@@ -153,9 +153,9 @@ impl RowHash {
     {
         let before = out.len();
         for r in self.chain(hash) {
-            if out.push(r).is_err() {
+            if let Err(refused) = out.push(r) {
                 out.truncate(before);
-                return Err(NoMemory);
+                return Err(NoMemory::from(refused));
             }
         }
         Ok(())
@@ -180,9 +180,10 @@ impl RowHash {
         reserve_heads(&mut self.table, self.alloc, self.len + n)
     }
 
-    /// Makes sure of memory for the node of a row, with the whole block of 256 in which it stands. There is never memory for
-    /// the last 512 rows that 32 bits can name. At an error nothing has changed.
+    /// Makes sure of memory for the node of a row, with the whole block of 256 in which it stands. At an error nothing has
+    /// changed.
     pub fn cover(&mut self, r: TupleRef) -> Result<(), NoMemory>
+        requires { r.number < MAX_TUPLES }
         ensures covered { OnOk result (IsCovered self.new.covered r) }
         ensures kept { (q : TupleRef) → IsCovered self.old.covered q → IsCovered self.new.covered q }
         ensures had { IsCovered self.old.covered r → self.new ≡ self.old }
@@ -273,6 +274,7 @@ fn reserve_heads(
 
 // Makes sure of the memory for the node of a row.
 fn cover_row(table: &mut Option<RowTable>, alloc: Global, r: TupleRef) -> Result<(), NoMemory>
+    requires { r.number < MAX_TUPLES }
     ensures covered { OnOk result (IsCovered (rows_covered table.new) r) }
     ensures kept { (q : TupleRef) → IsCovered (rows_covered table.old) q → IsCovered (rows_covered table.new) q }
     ensures had { IsCovered (rows_covered table.old) r → table.new ≡ table.old }

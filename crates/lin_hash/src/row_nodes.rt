@@ -16,11 +16,9 @@ use crate::node::NodeLink;
 use crate::row_block::RowBlock;
 use crate::row_node::RowNode;
 use no_memory::NoMemory;
+use part_raw::MAX_TUPLES;
 use std::alloc::Global;
 use std::marker::Model;
-
-// How many blocks there are at most: links can name the places of all their nodes.
-const MOST_BLOCKS: usize = 0x00ff_ffff;
 
 /// Nodes by the places of their rows.
 #[derive(Drop)]
@@ -203,9 +201,9 @@ impl RowNodes {
         }
     }
 
-    // Makes sure of memory for the node at a place, with that of its whole block. There is none for the last places that 32
-    // bits can name. At an error nothing has changed.
+    // Makes sure of memory for the node at a place, with that of its whole block. At an error nothing has changed.
     pub fn cover(&mut self, place: usize) -> Result<(), NoMemory>
+        requires { place < MAX_TUPLES }
         ensures covered { OnOk result (IsCovered self.new.covered (row_at place)) }
         ensures kept { (r : TupleRef) → IsCovered self.old.covered r → IsCovered self.new.covered r }
         ensures keeps { KeepsRows self.old.items self.new.items }
@@ -217,9 +215,6 @@ impl RowNodes {
             return Ok(());
         }
         let at = place / NODES_A_BLOCK;
-        if at >= MOST_BLOCKS {
-            return Err(NoMemory);
-        }
         reserve_by_doubling(&mut self.blocks, at + 1)?;
         let block = RowBlock::new(*self.blocks.allocator())?;
         lengthen(&mut self.blocks, at + 1);

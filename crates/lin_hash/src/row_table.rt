@@ -19,7 +19,7 @@ use crate::row_chains::{link, link_from, longest, unlink};
 use crate::row_nodes::RowNodes;
 use crate::table::{MOST_BUCKETS_AN_ENTRY, MOST_ENTRIES_A_BUCKET};
 use no_memory::NoMemory;
-use part_raw::TupleRef;
+use part_raw::{MAX_TUPLES, TupleRef};
 use std::alloc::Global;
 use std::marker::Model;
 use std::mem;
@@ -109,6 +109,7 @@ impl RowTable {
 
     // Makes sure of memory for the node of a row. At an error nothing has changed.
     pub fn cover(&mut self, r: TupleRef) -> Result<(), NoMemory>
+        requires { r.number < MAX_TUPLES }
         ensures covered { OnOk result (IsCovered self.new.covered r) }
         ensures kept { (q : TupleRef) → IsCovered self.old.covered q → IsCovered self.new.covered q }
         ensures had { IsCovered self.old.covered r → self.new ≡ self.old }

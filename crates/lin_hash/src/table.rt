@@ -91,11 +91,11 @@ impl Table {
         self.nodes.memory()
     }
 
-    // Makes sure of a node for each of so many entries, and of a head for every two. There are no more nodes than
-    // links can name. After an error what was gained is kept.
+    // Makes sure of a node for each of so many entries, which links can name, and of a head for every two. After an error what
+    // was gained is kept.
     pub fn reserve(&mut self, entries: usize) -> Result<(), NoMemory>
+        requires { entries < 2 ^ 32 }
         ensures entries { self.new.entries ≡ self.old.entries }
-        ensures few { OnOk result (entries < 2 ^ 32) }
         ensures nodes { OnOk result (entries ≤ self.new.nodes) }
         ensures reserved { OnOk result (entries ≤ 2 * self.new.heads) }
         ensures first { OnOk result (4 ≤ self.new.heads) }

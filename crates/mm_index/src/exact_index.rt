@@ -18,7 +18,7 @@ pub trait ExactIndex {
 
     /// Makes sure of memory for `n` inserts, until `release_spares`.
     fn reserve(&mut self, n: usize) -> Result<(), NoMemory>
-        requires { n ≤ MAX_LEN }
+        requires { length (entries self.old) + n < MAX_LEN }
         ensures entries { IsSameBag (entries self.new) (entries self.old) }
         ensures reserved { OnOk result (n ≤ room self.new) }
         ensures room { room self.old ≤ room self.new };

@@ -71,9 +71,9 @@ impl ExactIndex for PlainBag {
     fn matching(&self, hash: u32, out: &mut Vec<TupleRef>) -> Result<(), NoMemory> {
         let before = out.len();
         for r in self.chain(hash) {
-            if out.push(r).is_err() {
+            if let Err(refused) = out.push(r) {
                 out.truncate(before);
-                return Err(NoMemory);
+                return Err(NoMemory::from(refused));
             }
         }
         Ok(())

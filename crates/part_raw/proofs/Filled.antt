@@ -118,7 +118,7 @@ module _ {T : Type 0} {counted : Bool} {width : ℕ} {blocks : List (List (Optio
       ∙ ap (λ (s : List (Shelf T)). s ++ shelf new (get_or (counts ++ option_to_list next) (length blocks) []) ∷ []) (shelves_of-grown counted blocks counts next before_push.beside made)
 
   pub pushed_stocked : (o : Occupancy) (part : ℕ) → ((slot : ℕ) → slot < 256 → is_set o.held.words slot ≡ false) → o.has_block ≡ true → o.next_open ≡ first → part ≡ length blocks
-      → length blocks < 2 ^ 24 → IsStocked counted width (blocks ++ new ∷ []) (counts ++ option_to_list next) (occupancies ++ o ∷ []) 256 (Some part)
+      → length blocks + 1 < 2 ^ 24 → IsStocked counted width (blocks ++ new ∷ []) (counts ++ option_to_list next) (occupancies ++ o ∷ []) 256 (Some part)
   pushed_stocked o part clear block next_is at room = record {
     beside = grown counted next before_push.beside made;
     own = grown_own counted next before_push.beside made are_zeros;

@@ -247,7 +247,7 @@ module _ {T : Type 0} where
 
   pub IsStore-push : (blocks : Blocks T) (occupancies : List Occupancy) (new : List (Option T)) (o : Occupancy) (first : Option ℕ) (part : ℕ)
       → IsStore blocks occupancies 0 first → IsVacant new → IsPartition o.held.words new → o.has_block ≡ true → o.next_open ≡ first → part ≡ length blocks
-      → length blocks < 2 ^ 24 → IsStore (blocks ++ new ∷ []) (occupancies ++ o ∷ []) 256 (Some part)
+      → length blocks + 1 < 2 ^ 24 → IsStore (blocks ++ new ∷ []) (occupancies ++ o ∷ []) 256 (Some part)
   IsStore-push blocks occupancies new o first part is vacant bits block next e room =
       let blocks' = blocks ++ new ∷ [] in let occupancies' = occupancies ++ o ∷ [] in
       let e' : part ≡ length occupancies = omega (arith, e, is.mapped.as_many) in

@@ -1,6 +1,8 @@
 -- A store with its counts beside it: what is read of a slot, and a store that stays one where a slot, its count or a partition changes.
-use Rattle.std.proofs.Common.{◌≡◌, ℕ, ◌+◌, ◌*◌, ◌^◌, ◌<◌, ◌≤◌, zero, suc, sum_by, nat_lt, Bool, true, if◌then◌else◌, List, [], ◌∷◌, map, length, get_or, set, Option, Some, None, is_some, IsSome, refl, sym, ap, ◌∙◌, arith, subst}
+use Rattle.std.proofs.Common.{◌≡◌, ℕ, ◌+◌, ◌*◌, ◌^◌, ◌<◌, ◌≤◌, zero, suc, sum_by, nat_lt, Bool, true, if◌then◌else◌, List, [], ◌∷◌, map, length, get_or, set, Option, Some, None, is_some, IsSome, refl, sym, ap, ◌∙◌, inl, inr, arith, subst}
 use Rattle.std.proofs.lemmas.List.{length-set}
+use Rattle.std.proofs.lemmas.List.Sums.{sum_by-cons}
+use Rattle.std.proofs.lemmas.Bool.{cases_lt, ltb-true}
 use Rattle.std.specs.FinMap.{get, insert, remove, len}
 use Rattle.common_lemmas.proofs.Options.{is_some-Some}
 use Rattle.part_raw.specs.declared.tuple_ref.TupleRef.{TupleRef}
@@ -21,6 +23,11 @@ use Rattle.part_raw.proofs.WithCounts.{counted-get, with_count-is, row_held}
 use Rattle.part_raw.proofs.Shelves.{as_long, place-rows, bits-shown, bits-rows, shown-freed, shown-exchanged, shown-counted}
 use Rattle.part_raw.proofs.Beside.{length-shelves_of, shelves_of-get, shelves_of-set, shelves_of-set_counts}
 use Rattle.part_raw.proofs.Tables.{rows_read, Changes, length-tables, table_within, found_row, small_tables, small_tables, slots-changed, laid_at, bits_of_table, take_full, take_open, rows-taken, table-exchanged, rows-exchanged}
+
+-- partitions each of which has all its slots
+all_lengths : {T : Type 0} (blocks : List (List (Option T))) → ((part : ℕ) → part < length blocks → length (slots_at blocks part) ≡ 256) → sum_by length blocks ≡ 256 * length blocks
+all_lengths [] full = omega arith
+all_lengths (slots ∷ rest) full = omega (arith, sum_by-cons length slots rest, full 0 (omega arith), all_lengths rest (λ part within. full (suc part) (omega (arith, within))))
 
 -- what is read with any default
 pub default_read : {A : Type 0} (l : List (List A)) (k : ℕ) → k < length l → get_or l k [] ≡ get_or l k (get_or l k [])
@@ -84,7 +91,23 @@ module _ {T : Type 0} {counted : Bool} {width : ℕ} {blocks : List (List (Optio
   pub most_slots : len (tuples_of (tables width shelves)) + free ≤ 256 * length blocks
   most_slots = omega (arith, slots_here, most_lengths (tables width shelves) (small_tables width shelves), length-tables width shelves, length-shelves_of blocks counts)
 
-  pub few_here : length blocks ≤ 2 ^ 24
+  -- where each partition has its block
+  all_full : ((part : ℕ) → part < length blocks → has_block_at occupancies part ≡ true) → len (tuples_of (tables width shelves)) + free ≡ 256 * length blocks
+  all_full there =
+      let long = length-tables width shelves in
+      let as_long = length-shelves_of blocks counts in
+      let full : (part : ℕ) → part < length (tables width shelves) → length (slots_at (tables width shelves) part) ≡ 256 = λ part within.
+      (is.table.store.mapped.bits part within).count (ltb-true 0 (length (slots_at (tables width shelves) part)) (sym (is.table.store.mapped.told part within) ∙ there part (omega (arith, within, long, as_long)))) in
+      omega (arith, slots_here, all_lengths (tables width shelves) full, long, as_long)
+
+  -- with no free slot and fewer tuples than a store has at most, a partition can follow on those that all have blocks
+  pub room_here : free ≡ 0 → len (tuples_of (tables width shelves)) < 4294967040 → (16777215 ≤ length blocks → (part : ℕ) → part < length blocks → has_block_at occupancies part ≡ true) → length blocks + 1 < 2 ^ 24
+  room_here none few there = elim (cases_lt (length blocks) 16777215) as (λ _. length blocks + 1 < 2 ^ 24) [
+    | inl below ↦ omega (arith, below)
+    | inr past ↦ absurd (omega (arith, past, none, few, all_full (there (omega (arith, past)))))
+  ]
+
+  pub few_here : length blocks < 2 ^ 24
   few_here = omega (arith, is.table.store.numbered, length-tables width shelves, length-shelves_of blocks counts)
 
   -- ---- what is found under a reference

@@ -196,7 +196,7 @@ module _ {T : Type 0} where
 
   pub table-pushed : (width : ℕ) (blocks : List (Shelf T)) (occupancies : List Occupancy) (new : Shelf T) (o : Occupancy) (first : Option ℕ) (part : ℕ)
       → IsTable width blocks occupancies 0 first → new.block ≡ replicate (256 * width) None → ((slot : ℕ) → slot < 256 → is_set o.held.words slot ≡ false) → o.has_block ≡ true → o.next_open ≡ first → part ≡ length blocks
-      → length blocks < 2 ^ 24 → IsTable width (blocks ++ new ∷ []) (occupancies ++ o ∷ []) 256 (Some part)
+      → length blocks + 1 < 2 ^ 24 → IsTable width (blocks ++ new ∷ []) (occupancies ++ o ∷ []) 256 (Some part)
   table-pushed width blocks occupancies new o first part is empty clear block next at room =
       let both = shown-empty width new.block new.counts is.wide empty in
       IsTable-push width blocks occupancies 0 first is new (occupancies ++ o ∷ []) 256 (Some part) both.0

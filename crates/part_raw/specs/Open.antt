@@ -73,7 +73,7 @@ module _ {T : Type 0} where
     pub open_count : ℕ
     pub all_open : open_count ≡ count_by has_vacancy blocks
     pub linked : IsOpenList (open_at blocks) (next_at occupancies) open_count first_open
-    pub numbered : length blocks ≤ 2 ^ 24
+    pub numbered : length blocks < 2 ^ 24
 
 module _ {T : Type 0} where
   -- what each slot of each shelf holds

@@ -4,10 +4,10 @@ ghost use Rattle.part_raw.specs.Rows.{IsRun, window};
 ghost use Rattle.std.specs.Borrow.{sem};
 
 use crate::raw::{Deed, Slots, allocate, deallocate, let_go, no_deed};
-use std::alloc::{AllocError, Global};
+use no_memory::{NoMemory, check_size};
+use std::alloc::Global;
 use std::marker::Model;
 use std::mem;
-use std_alloc::room::may_hold;
 
 // The places of a partition, seen as a list of what each holds. It takes the 8 bytes of the block's address. Neither it
 // nor a value in it can be let go: `release` gives the memory back once every place is empty, and nothing else does. No
@@ -33,12 +33,10 @@ impl<T> Block<T> {
     ghost use Rattle.part_raw.specs.BlockLends.{LendsPlaces};
 
     // A block with so many places, each empty. Nothing is written to a place.
-    pub(crate) fn new(alloc: Global, places: usize) -> Result<Block<T>, AllocError>
+    pub(crate) fn new(alloc: Global, places: usize) -> Result<Block<T>, NoMemory>
         ensures { IfOk result (λ block. block ≡ replicate places None) }
     {
-        if !may_hold::<T>(places) {
-            return Err(AllocError);
-        }
+        check_size::<T>(places)?;
         let (slots, deed) = allocate(&alloc, places)?;
         Ok(Block { slots, deed, alloc })
     }

@@ -55,11 +55,12 @@ pub use tuple_ref::TupleRef;
 /// How many slots a partition has.
 pub const SLOTS: u32 = 256;
 
-/// How many partitions references can name.
-pub const MAX_PARTITIONS: u32 = 1 << 24;
+/// How many partitions a store has at most: all but one of those that references can name. So links of 32 bits to what
+/// stands beside each tuple have two values left that name none.
+pub const MAX_PARTITIONS: u32 = (1 << 24) - 1;
 
-/// How many tuples references can name. A store with no free slot that holds as many can't grow.
-pub const MAX_TUPLES: u64 = 1 << 32;
+/// How many tuples a store has at most. One with no free slot that holds as many can't grow.
+pub const MAX_TUPLES: u64 = (1 << 32) - 256;
 
 /// The most cells of a tuple.
 pub const MAX_WIDTH: usize = 65_536;

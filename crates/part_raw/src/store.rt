@@ -123,16 +123,12 @@ impl<T: Drop> Drop for Partitions<T> {
 impl<T> Partitions<T> {
     ghost use Rattle.part_raw.specs.StoreLends.{LendsCells};
 
-    /// An empty store of tuples of so many cells, which keeps no counts. It takes no memory. Refused is a tuple of no cell,
-    /// and one of more cells than a store can address.
-    pub fn new(alloc: Global, width: usize) -> Result<Partitions<T>, NoMemory>
-        ensures made { IfOk result (λ made. made ≡ store width finite.empty 0 false) }
-        ensures told { IsOk result ↔ ((0 < width) × (width ≤ MAX_WIDTH)) }
+    /// An empty store of tuples of so many cells, which keeps no counts. It takes no memory.
+    pub fn new(alloc: Global, width: usize) -> Partitions<T>
+        requires { (0 < width) × (width ≤ MAX_WIDTH) }
+        ensures { result ≡ store width finite.empty 0 false }
     {
-        if width == 0 || width > MAX_WIDTH {
-            return Err(NoMemory);
-        }
-        Ok(Partitions {
+        Partitions {
             alloc,
             width,
             blocks: Vec::new(alloc),
@@ -144,7 +140,7 @@ impl<T> Partitions<T> {
             next_bare: 0,
             spare: 0,
             counted: false,
-        })
+        }
     }
 
     /// How many cells a tuple has.
@@ -192,9 +188,26 @@ impl<T> Partitions<T> {
         if self.free > 0 {
             return Ok(());
         }
-        let bare = bare_from(&self.occupancies, self.next_bare);
+        let bare = bare_place(&self.occupancies, self.next_bare);
         if bare >= self.blocks.len() {
-            return self.push_partition();
+            self.blocks.reserve(1)?;
+            self.occupancies.reserve(1)?;
+            let counts = next_counts(&mut self.counts, self.alloc, self.counted)?;
+            let block = Block::new(self.alloc, SLOTS as usize * self.width)?;
+            let part = self.blocks.len();
+            self.blocks.push_reserved(block);
+            push_next(&mut self.counts, counts);
+            self.occupancies.push_reserved(Occupancy {
+                held: Bitmap::new(),
+                next_open: self.first_open,
+                has_block: true,
+            });
+            self.first_open = Some(part as u32);
+            self.next_bare = part;
+            self.slots += SLOTS as u64;
+            self.free = SLOTS as u64;
+            self.spare = self.spare.saturating_add(1);
+            return Ok(());
         }
         let counts = Counts::new(self.alloc, self.counted)?;
         let block = Block::new(self.alloc, SLOTS as usize * self.width)?;
@@ -211,41 +224,12 @@ impl<T> Partitions<T> {
         Ok(())
     }
 
-    // Makes a partition of free slots behind the others.
-    fn push_partition(&mut self) -> Result<(), NoMemory>
-        requires none { self.old.free ≡ 0 }
-        requires few { finite.len self.old.tuples < MAX_TUPLES }
-        ensures ok { OnOk result (self.new ≡ record self.old { free = SLOTS }) }
-        ensures err { OnErr result (self.new ≡ self.old) }
-    {
-        if self.blocks.len() == MAX_PARTITIONS as usize {
-            return Err(NoMemory);
-        }
-        self.blocks.reserve(1)?;
-        self.occupancies.reserve(1)?;
-        let counts = next_counts(&mut self.counts, self.alloc, self.counted)?;
-        let block = Block::new(self.alloc, SLOTS as usize * self.width)?;
-        let part = self.blocks.len();
-        self.blocks.push_reserved(block);
-        push_next(&mut self.counts, counts);
-        self.occupancies.push_reserved(Occupancy {
-            held: Bitmap::new(),
-            next_open: self.first_open,
-            has_block: true,
-        });
-        self.first_open = Some(part as u32);
-        self.next_bare = part;
-        self.slots += SLOTS as u64;
-        self.free = SLOTS as u64;
-        self.spare = self.spare.saturating_add(1);
-        Ok(())
-    }
-
     /// Moves the cells into a free slot. It takes no memory, and the vector keeps its own.
     pub fn put(&mut self, cells: &mut Vec<T>) -> TupleRef
         requires room { 0 < self.old.free }
         requires width { length cells.old.items ≡ self.old.width }
         ensures fresh { tuple_at self.old result ≡ None }
+        ensures numbered { result.number < MAX_TUPLES }
         ensures tuples { self.new.tuples ≡ finite.insert self.old.tuples result (tuple cells.old.items 0) }
         ensures free { self.new.free + 1 ≡ self.old.free }
         ensures width { self.new.width ≡ self.old.width }
@@ -471,13 +455,26 @@ impl<T> Partitions<T> {
 
 // The first partition from this one on that has no block. There is none where the answer is past the partitions.
 fn bare_from(occupancies: &Vec<Occupancy>, from: usize) -> usize
-    ensures { result < length occupancies.now.items → has_block_at occupancies.now.items result ≡ false }
+    ensures bare { result < length occupancies.now.items → has_block_at occupancies.now.items result ≡ false }
+    ensures blocks { (part : ℕ) → from ≤ part → part < result → part < length occupancies.now.items → has_block_at occupancies.now.items part ≡ true }
 {
     let mut part = from;
     while part < occupancies.len() && occupancies[part].has_block {
         part += 1;
     }
     part
+}
+
+// The first partition from this one on that has no block, or, where no partition can follow on the others, the first of all
+// that has none. There is none where the answer is past the partitions.
+fn bare_place(occupancies: &Vec<Occupancy>, from: usize) -> usize
+    ensures bare { result < length occupancies.now.items → has_block_at occupancies.now.items result ≡ false }
+    ensures blocks { MAX_PARTITIONS ≤ length occupancies.now.items → (part : ℕ) → part < result → part < length occupancies.now.items → has_block_at occupancies.now.items part ≡ true }
+{
+    if occupancies.len() < MAX_PARTITIONS as usize {
+        return bare_from(occupancies, from);
+    }
+    bare_from(occupancies, 0)
 }
 
 // Whether there is a partition, and the last has no block.

@@ -135,9 +135,9 @@ impl<const MIN: usize, const MAX: usize> TTree<MIN, MAX> {
             if !probe.place(r).is_eq() {
                 break;
             }
-            if out.push(r).is_err() {
+            if let Err(refused) = out.push(r) {
                 out.truncate(before);
-                return Err(NoMemory);
+                return Err(NoMemory::from(refused));
             }
         }
         Ok(())

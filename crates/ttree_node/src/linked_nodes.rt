@@ -72,9 +72,9 @@ impl<const MAX: usize> LinkedNodes<MAX> {
     {
         let before = self.spares();
         while self.spares() < n {
-            if self.add_spare().is_err() {
+            if let Err(refused) = self.add_spare() {
                 self.shed_to(before);
-                return Err(NoMemory);
+                return Err(refused);
             }
         }
         Ok(())

@@ -5,13 +5,13 @@ ghost use denote.RawPtr.{Ptr};
 use crate::node::{Head, HeadFields, Node, Side};
 use crate::nodes::{NodePlace, Nodes};
 use arrayvec::ArrayVec;
-use no_memory::NoMemory;
+use no_memory::{NoMemory, check_size};
 use part_raw::TupleRef;
 use raw_box::RawBox;
 use std::alloc::Global;
 
-// No heap has a block for a node of more items.
-pub(crate) const MOST_ITEMS: usize = 1 << 56;
+// No block of memory holds a node of more items.
+pub(crate) const MOST_ITEMS: usize = 1 << 60;
 
 // The fields of `LinkedNodes`, of which a step may leave some links wrong for a while.
 pub struct Parts<const MAX: usize> {
@@ -160,9 +160,8 @@ impl<const MAX: usize> Parts<MAX> {
         ensures ok { OnOk result (self.new.spares ≡ self.old.spares + 1) }
         ensures err { OnErr result (self.new.spares ≡ self.old.spares) }
     {
-        if MAX > MOST_ITEMS {
-            return Err(NoMemory);
-        }
+        // A node takes 4 bytes for each item, and less than as many more.
+        check_size::<u64>(MAX)?;
         let head = Head::of(HeadFields {
             height: 0,
             side: Side::Root,

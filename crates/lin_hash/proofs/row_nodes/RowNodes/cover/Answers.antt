@@ -27,7 +27,7 @@ invariant_of-self-2 c =
     let same : count_by is_spare (set c.lengthen.new.blocks.items (c.args.place / 256) c.in_ok-block.block) ≡ count_by is_spare (set (bs ++ more.0) (c.args.place / 256) c.in_ok-block.block) = ap (λ ds. count_by is_spare (set ds (c.args.place / 256) c.in_ok-block.block)) whole in
     let counted = c.self.invariant.counted in
     let few_before = c.self.invariant.few in
-    record { counted = omega (arith, spare, same, counted); few = omega (arith, few, few_before, c.if-at-ge-MOST_BLOCKS.false, c.reserve_by_doubling.ensures.len) }
+    record { counted = omega (arith, spare, same, counted); few = omega (arith, few, few_before, c.requires, c.reserve_by_doubling.ensures.len) }
 
 pub returns-clause-covered : goal.returns-clause-covered
 returns-clause-covered c =
@@ -73,4 +73,4 @@ returns-clause-few c = λ _.
     let few_before = c.self.invariant.few in
     let long = length-row_nodes_in (set c.lengthen.new.blocks.items (c.args.place / 256) c.in_ok-block.block) in
     let same = length-set c.lengthen.new.blocks.items (c.args.place / 256) c.in_ok-block.block in
-    omega (arith, few, few_before, long, same, c.if-at-ge-MOST_BLOCKS.false, c.reserve_by_doubling.ensures.len, c.lengthen.new.blocks.ok.0)
+    omega (arith, few, few_before, long, same, c.requires, c.reserve_by_doubling.ensures.len, c.lengthen.new.blocks.ok.0)

@@ -1,4 +1,4 @@
-use Rattle.std.proofs.Common.{◌≡◌, set, ◌<◌, ℕ, None, arith, sym, subst, ◌∙◌}
+use Rattle.std.proofs.Common.{ap, ◌≡◌, set, ◌<◌, ℕ, None, arith, sym, subst, ◌∙◌}
 use Rattle.std.proofs.lemmas.Bool.{true≢false}
 use Rattle.std.specs.FinMap.{get, insert}
 use Rattle.part_raw.specs.Store.{tuple}
@@ -92,3 +92,9 @@ returns-else-is_full-clause-fresh g c = fresh g (goal.at.returns-else-is_full-cl
 
 pub returns-else-is_full-clause-tuples : goal.returns-else-is_full-clause-tuples
 returns-else-is_full-clause-tuples g c = tuples g (goal.at.returns-else-is_full-clause-tuples g c).After-to-r
+
+pub returns-then-is_full-clause-numbered : goal.returns-then-is_full-clause-numbered
+returns-then-is_full-clause-numbered g c = let is = rw c.in-Some.is at c.self.invariant.0 in omega (arith, ap (λ r. r.number) c.to-r.ensures, c.fill-slot.ensures.slot, first_within is, few_here is)
+
+pub returns-else-is_full-clause-numbered : goal.returns-else-is_full-clause-numbered
+returns-else-is_full-clause-numbered g c = let is = rw c.in-Some.is at c.self.invariant.0 in omega (arith, ap (λ r. r.number) c.to-r.ensures, c.fill-slot.ensures.slot, first_within is, few_here is)

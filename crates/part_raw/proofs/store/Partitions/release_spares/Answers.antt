@@ -19,7 +19,7 @@ pub release_empty-requires-clause-kept : goal.release_empty-requires-clause-kept
 release_empty-requires-clause-kept g c = record { laid = c.self.invariant.0.table.laid; mapped = c.self.invariant.0.table.store.mapped }
 
 pub release_empty-requires-clause-few : goal.release_empty-requires-clause-few
-release_empty-requires-clause-few g c = few_here c.self.invariant.0
+release_empty-requires-clause-few g c = omega (arith, few_here c.self.invariant.0)
 
 pub overflow_sub-self : goal.overflow_sub-self
 overflow_sub-self g c = omega (arith, c.release_empty.ensures.slots, c.self.invariant.1)

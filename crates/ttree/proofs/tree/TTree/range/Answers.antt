@@ -1,4 +1,4 @@
-use Rattle.std.proofs.Common.{◌≡◌, ◌≢◌, ◌∙◌, ◌++◌, List, [], ◌∷◌, length, true, not, sym, ap, append_assoc, arith, Ordering}
+use Rattle.std.proofs.Common.{◌≡◌, ◌≢◌, ◌∙◌, ◌++◌, List, [], ◌∷◌, length, true, sym, ap, append_assoc, arith, Ordering}
 use Rattle.std.specs.declared.cmp.Ordering.TheVariants.{Equal}
 use Rattle.std.specs.Result.{is_ok}
 use Rattle.std.proofs.lemmas.List.{length_push}
@@ -46,7 +46,7 @@ loop-r-preserved g c =
     let kept = c.loop-r.invariant in
     let y = c.loop-r.yielded in
     let r = c.in-Some.r in
-    let pushed : is_ok c.push.result ≡ true = c.is_err.ensures.negation ∙ ap (λ b. not b) c.if-is_err.false in
+    let pushed : is_ok c.push.result ≡ true = ap is_ok c.in_default.is in
     let equal : g.P.Probe.place c.args.probe.now r ≡ Equal =
     is_eq-Equal _ (rw (← kept.only.answers, ← c.place.ensures.value, ← c.is_eq.ensures) c.if-not-is_eq.false) in record {
       before = kept.before;
