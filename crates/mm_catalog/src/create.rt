@@ -1,5 +1,5 @@
 //! A relation whose links lead into the tables that its columns refer to, and those tables, which count them.
-ghost use Rattle.std.specs.Prelude.{◌≡◌, ◌<◌, ℕ, Some, IfOk, OnErr, OnOk, length, map};
+ghost use Rattle.std.specs.Prelude.{◌≡◌, ◌<◌, ◌≤◌, ℕ, Some, IfOk, OnErr, OnOk, length, map};
 ghost use Rattle.std.specs.List.{list_any};
 ghost use Rattle.std.specs.String.{string_bytes};
 ghost use Rattle.plain_tables.specs.References as plain;
@@ -56,6 +56,7 @@ fn aim(relation: &mut Relation, column: ColumnNumber, names: &IndexSet<String>)
 
 // A relation of these columns, whose links lead into the tables of these names.
 pub fn aimed(alloc: Global, schema: Schema, names: &IndexSet<String>) -> Result<Relation, NoMemory>
+    requires { (0 < length schema.columns) × (length schema.columns ≤ 16) }
     ensures made { IfOk result (λ r. r ≡ aimed_relation (map string_bytes names.now.keys) schema) }
     ensures kept { IfOk result IsKept }
 {

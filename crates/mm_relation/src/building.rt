@@ -36,7 +36,9 @@ fn hash_over<R: LinkedKeys>(
 {
     let mut hash = RowHash::new(alloc);
     hash.reserve(by_key.len())?;
+    let slots = rows.slots();
     for r in by_key.walk() {
+        prove!(u64::from(r.number) < slots);
         hash.cover(r)?;
         hash.insert(hash_in(rows, others, column, r), r);
     }

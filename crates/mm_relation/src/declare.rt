@@ -1,5 +1,5 @@
 //! The making of a relation, and what is declared of one.
-ghost use Rattle.std.specs.Prelude.{◌≡◌, ◌<◌, Some, IfOk, OnOk, OnErr, length, position, slice_get};
+ghost use Rattle.std.specs.Prelude.{◌≡◌, ◌<◌, ◌≤◌, Some, IfOk, OnOk, OnErr, length, position, slice_get};
 ghost use Rattle.std.specs.Option.{option_map};
 ghost use Rattle.mm_relation.specs.Declaring.{is_index, without_first};
 
@@ -36,14 +36,15 @@ impl Relation {
     ghost use Rattle.mm_relation.specs.Reading.{Keys};
     ghost use Rattle.mm_relation.specs.State.{IsCurrent, linked_keys};
 
-    /// A relation of these columns, with no rows and no declared index. Links lead nowhere so far.
+    /// A relation of these columns, 1 to 16, with no rows and no declared index. Links lead nowhere so far.
     pub fn new(alloc: Global, schema: Schema) -> Result<Relation, NoMemory>
+        requires { (0 < length schema.columns) × (length schema.columns ≤ 16) }
         ensures made { IfOk result (λ r. r ≡ new_relation schema) }
         ensures current { IfOk result (λ r. (keys : Keys) → IsCurrent keys r) }
     {
         let mut targets = Vec::new(alloc);
         targets.resize(schema.columns.len(), None)?;
-        let rows = Rows::new(alloc, schema.columns.len())?;
+        let rows = Rows::new(alloc, schema.columns.len());
         Ok(Relation {
             schema,
             targets,

@@ -1,5 +1,5 @@
 //! One declared index of a relation.
-ghost use Rattle.std.specs.Prelude.{◌≡◌, ℕ, ◌≤◌, IsSome, OnOk, max};
+ghost use Rattle.std.specs.Prelude.{◌≡◌, ℕ, ◌<◌, ◌≤◌, IsSome, OnOk, max};
 ghost use Rattle.mm_relation.specs.Order.{KeysDiffer};
 ghost use Rattle.mm_relation.specs.Reading.{value_at, hash_at};
 ghost use Rattle.mm_relation.specs.Indexes.{declaration_of, room_in, wanted, CoversIn, spares_in, HasFewSpares, seen, Awaits, Gains, Has, Loses};
@@ -13,7 +13,7 @@ use crate::tree::Tree;
 use lin_hash::RowHash;
 use mm_index::OrderProbe;
 use no_memory::NoMemory;
-use part_raw::TupleRef;
+use part_raw::{MAX_TUPLES, TupleRef};
 use plain_tables::{ColumnNumber, IndexKind, hash_of, low_bits};
 
 /// What stands on a column: the rows in the order of their values there, or under the hash of these.
@@ -68,6 +68,7 @@ impl IndexOn {
 
     // Makes sure of memory for the node of a row's reference. A tree's nodes belong to no row.
     pub fn cover(&mut self, r: TupleRef) -> Result<(), NoMemory>
+        requires { r.number < MAX_TUPLES }
         ensures same { seen self.new ≡ seen self.old }
         ensures room { (n : ℕ) → wanted n self.old.index ≤ room_in self.old.index → wanted n self.new.index ≤ room_in self.new.index }
         ensures covered { OnOk result (CoversIn r self.new.index) }

@@ -16,7 +16,7 @@ use crate::stored_cell::StoredCell;
 use crate::tree::Tree;
 use lin_hash::RowHash;
 use no_memory::NoMemory;
-use part_raw::TupleRef;
+use part_raw::{MAX_TUPLES, TupleRef};
 use plain_tables::{ColumnNumber, Sequence};
 
 // How many references more an index has to be sure of, where so many are taken out and put in again one by one: a hash
@@ -44,6 +44,7 @@ fn reserve_each(indexes: &mut [IndexOn], n: usize) -> Result<(), NoMemory>
 }
 
 fn cover_each(indexes: &mut [IndexOn], r: TupleRef) -> Result<(), NoMemory>
+    requires { r.number < MAX_TUPLES }
     ensures same { (k : ℕ) (d : IndexOn) → k < length indexes.old → seen (slice_index_or indexes.new k d) ≡ seen (slice_index_or indexes.old k d) }
     ensures room { (n k : ℕ) (d : IndexOn) → k < length indexes.old → wanted n (slice_index_or indexes.old k d).index ≤ room_in (slice_index_or indexes.old k d).index → wanted n (slice_index_or indexes.new k d).index ≤ room_in (slice_index_or indexes.new k d).index }
     ensures covered { OnOk result (All (λ on. CoversIn r on.index) indexes.new) }
@@ -166,6 +167,7 @@ pub fn reserve(indexes: &mut Sequence<IndexOn>, n: usize) -> Result<(), NoMemory
 
 // Makes sure of memory in each for the node of this row. What they have room for stays.
 pub fn cover(indexes: &mut Sequence<IndexOn>, r: TupleRef) -> Result<(), NoMemory>
+    requires { r.number < MAX_TUPLES }
     ensures same { map seen indexes.new ≡ map seen indexes.old }
     ensures room { (n : ℕ) → HaveRoom n indexes.old → HaveRoom n indexes.new }
     ensures covered { OnOk result (Cover r indexes.new) }

@@ -8,7 +8,7 @@ ghost use Rattle.mm_relation.specs.Rows.{HaveNoReferrers, Row, StartsWithKey, ro
 
 use crate::stored_cell::{SeenCell, StoredCell};
 use no_memory::NoMemory;
-use part_raw::{MAX_TUPLES, Partitions, TupleRef};
+use part_raw::{MAX_TUPLES, MAX_WIDTH, Partitions, TupleRef};
 use plain_tables::{ColumnNumber, StoredValue};
 use std::alloc::Global;
 use std::marker::Model;
@@ -35,11 +35,13 @@ impl Model for Rows {
 
 impl Rows {
     // No row, in a store for rows of so many columns. It takes no memory.
-    pub fn new(alloc: Global, width: usize) -> Result<Rows, NoMemory>
-        ensures { IfOk result (λ rows. rows ≡ row_store width finite.empty 0 false) }
+    pub fn new(alloc: Global, width: usize) -> Rows
+        requires { (0 < width) × (width ≤ MAX_WIDTH) }
+        ensures { result ≡ row_store width finite.empty 0 false }
     {
-        let store = Partitions::new(alloc, width)?;
-        Ok(Rows { store })
+        Rows {
+            store: Partitions::new(alloc, width),
+        }
     }
 
     // How many rows more there is room for.
@@ -92,6 +94,7 @@ impl Rows {
         requires width { length row.old.items ≡ self.old.width }
         requires keyed { StartsWithKey row.old.items }
         ensures fresh { finite.get self.old.tuples result ≡ None }
+        ensures numbered { result.number < MAX_TUPLES }
         ensures tuples { self.new.tuples ≡ finite.insert self.old.tuples result (row_of row.old.items 0) }
         ensures width { self.new.width ≡ self.old.width }
         ensures counted { self.new.counted ≡ self.old.counted }

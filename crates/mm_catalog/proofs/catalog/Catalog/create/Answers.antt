@@ -1,7 +1,12 @@
-use Rattle.std.proofs.Common.{◌≡◌, false, cond, List, [], ◌∷◌, ◌++◌, is_some, map, length, drop, sym, ap, ◌∙◌, subst, arith, refl}
+use Rattle.std.proofs.Common.{IsSome, ◌<◌, ◌≡◌, false, cond, List, [], ◌∷◌, ◌++◌, is_some, map, length, drop, sym, ap, ◌∙◌, subst, arith, refl}
 use Rattle.std.specs.String.{string_bytes}
 use Rattle.std.proofs.lemmas.List.{map-append}
+use Rattle.std.specs.List.{slice_get}
+use Rattle.std.specs.Option.{option_and_then}
 use Rattle.plain_tables.specs.Databases.{table_named}
+use Rattle.plain_tables.specs.Tables.{Table}
+use Rattle.plain_tables.specs.Effects.{new_table}
+use Rattle.plain_tables.specs.References.{key_type, own_type}
 use Rattle.plain_tables.specs.ResolvedLaws.{IsDeclarable}
 use Rattle.plain_tables.specs.declared.resolved.Resolved.TheVariants as resolved
 use Rattle.mm_relation.specs.State.{RelationState, IsKept}
@@ -17,6 +22,16 @@ use Rattle.mm_catalog.proofs.Gaining.{consistent_created, done_created}
 use Rattle.mm_catalog.proofs.Lists.{whole}
 use Rattle.mm_catalog.proofs.catalog.Catalog.create.Goals as goal
 use Rattle.mm_catalog.proofs.catalog.Catalog.create.Goals.{After-push_reserved}
+
+-- a table with a key has a column
+some_columns : (t : Table) → IsSome (key_type t) → 0 < length t.columns
+some_columns t keyed = (elim t.columns as (λ cs. IsSome (option_and_then (λ c. own_type c.kind) (slice_get cs 0)) → 0 < length cs) [
+  | [] ↦ λ h. cc
+  | c ∷ cs ↦ λ h. omega arith
+]) keyed
+
+pub aimed-requires : goal.aimed-requires
+aimed-requires c = (some_columns (new_table c.args.name c.args.schema) c.requires.sound.keyed, c.requires.sound.few_columns)
 
 pub count_targets-requires : goal.count_targets-requires
 count_targets-requires c = record {

@@ -5,7 +5,7 @@ use Rattle.mm_relation.proofs.Stored.{whole_none}
 use Rattle.mm_relation.proofs.rows.Rows.new.Goals as goal
 
 pub invariant_of-result : goal.invariant_of-result
-invariant_of-result c = rw c.in_ok-store.ensures.made (whole_none c.args.width)
+invariant_of-result c = rw c.new.ensures (whole_none c.args.width)
 
 pub returns : goal.returns
-returns c = rw c.in_ok-store.ensures.made (ap (λ tuples. row_store c.args.width tuples 0 false) (mapped-empty row_in))
+returns c = rw c.new.ensures (ap (λ tuples. row_store c.args.width tuples 0 false) (mapped-empty row_in))
