@@ -243,7 +243,8 @@ impl Database {
             let mut cells = shown.take();
             let selected = self.session.select(query, &mut cells);
             shown.put(cells);
-            return Ok(Executed::Rows { columns: selected? });
+            let columns = selected?;
+            return Ok(Executed::Rows { columns });
         }
         let count = self.session.change(command)?;
         Ok(Executed::Changed(count))
