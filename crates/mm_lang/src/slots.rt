@@ -1,6 +1,6 @@
 //! Slots, what has one, and the numbers of holes.
 
-ghost use Rattle.std.specs.Prelude.{◌≡◌, ◌+◌, ℕ, List, [], ◌∷◌, map, length, cond, IfOk};
+ghost use Rattle.std.specs.Prelude.{◌≡◌, ◌+◌, ◌^◌, ◌<◌, ◌≤◌, ℕ, List, [], ◌∷◌, map, length, cond};
 ghost use Rattle.std.specs.List.{flat_map};
 ghost use Rattle.plain_statements.specs.declared.statement.Slot.{Slot};
 ghost use Rattle.plain_statements.specs.StatementSpelling.{numbers_of};
@@ -11,7 +11,6 @@ use crate::lexemes::split_lexeme;
 use crate::places::Place;
 use crate::stops::Stopped;
 use plain_statements::{Slot, SlotCond, SlotSetting};
-use plain_tables::NoMemory;
 use std::alloc::Global;
 
 /// An item in which a slot stands.
@@ -86,18 +85,19 @@ impl SlotItem for SlotCond {
     }
 }
 
-/// Numbers the holes from this number on, as they stand, and gives the next one. There is no memory for holes past the
-/// numbers.
-pub fn number_holes<T: SlotItem>(items: &mut [T], first: usize) -> Result<usize, NoMemory>
-    ensures symbols { IfOk result (λ next. map T.symbols items.new ≡ map T.symbols items.old) }
-    ensures numbers { IfOk result (λ next. AreFrom first (flat_map numbers_of (map T.slot items.new))) }
-    ensures next { IfOk result (λ next. next ≡ first + length (flat_map numbers_of (map T.slot items.new))) }
+/// Numbers the holes from this number on, as they stand, and gives the next one.
+pub fn number_holes<T: SlotItem>(items: &mut [T], first: usize) -> usize
+    requires { first + length items.old < 2 ^ 64 }
+    ensures symbols { map T.symbols items.new ≡ map T.symbols items.old }
+    ensures numbers { AreFrom first (flat_map numbers_of (map T.slot items.new)) }
+    ensures next { result ≡ first + length (flat_map numbers_of (map T.slot items.new)) }
+    ensures most { result ≤ first + length items.old }
 {
     let mut next = first;
     for item in items.iter_mut() {
         if item.number(next) {
-            next = next.checked_add(1).ok_or(NoMemory)?;
+            next += 1;
         }
     }
-    Ok(next)
+    next
 }

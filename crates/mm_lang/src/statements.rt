@@ -74,7 +74,7 @@ fn insert(alloc: Global, line: &[u8]) -> Result<Statement, Stopped>
         Place::Values,
         Place::Value,
     )?;
-    number_holes(slots.as_mut_slice(), 0)?;
+    number_holes(slots.as_mut_slice(), 0);
     Ok(Statement::Insert {
         table,
         slots: Sequence::from_vec(slots),
@@ -88,8 +88,8 @@ fn update(alloc: Global, line: &[u8]) -> Result<Statement, Stopped>
 {
     let (table, mut settings, mut conditions): (Text, Vec<SlotSetting>, Vec<SlotCond>) =
         update_parts(alloc, line)?;
-    let next = number_holes(settings.as_mut_slice(), 0)?;
-    number_holes(conditions.as_mut_slice(), next)?;
+    let next = number_holes(settings.as_mut_slice(), 0);
+    number_holes(conditions.as_mut_slice(), next);
     Ok(Statement::Update {
         table,
         settings: Sequence::from_vec(settings),
@@ -103,7 +103,7 @@ fn delete(alloc: Global, line: &[u8]) -> Result<Statement, Stopped>
     ensures syntax { IsErrOf result ParseRefusal.Syntax → IsOfText line.now → (s : Statement) → IsStatement (codes "delete") line.now s → ⊥ }
 {
     let (table, mut conditions): (Text, Vec<SlotCond>) = delete_parts(alloc, line)?;
-    number_holes(conditions.as_mut_slice(), 0)?;
+    number_holes(conditions.as_mut_slice(), 0);
     Ok(Statement::Delete {
         table,
         conditions: Sequence::from_vec(conditions),
@@ -122,7 +122,7 @@ fn select(alloc: Global, line: &[u8]) -> Result<Statement, Stopped>
         joins,
         mut conditions,
     } = select_parts::<SlotCond>(alloc, line)?;
-    number_holes(conditions.as_mut_slice(), 0)?;
+    number_holes(conditions.as_mut_slice(), 0);
     Ok(Statement::Select {
         distinct,
         items,

@@ -1,4 +1,4 @@
-use Rattle.std.proofs.Common.{◌≡◌, ◌+◌, map, take, length}
+use Rattle.std.proofs.Common.{◌≡◌, ◌+◌, ◌≤◌, map, take, length}
 use Rattle.std.specs.List.{flat_map}
 use Rattle.plain_statements.specs.StatementSpelling.{numbers_of}
 use Rattle.mm_lang.specs.Statements.{AreFrom}
@@ -9,5 +9,6 @@ abbrev pub invariant-loop-item : goal.invariant-loop-item
 invariant-loop-item g l = record {
   symbols : map g.T.Item.symbols l.items ≡ map g.T.Item.symbols l.fn.items;
   numbers : AreFrom l.first (flat_map numbers_of (map g.T.SlotItem.slot (take l.item-index l.items)));
+  most : l.next ≤ l.first + l.item-index;
   next : l.next ≡ l.first + length (flat_map numbers_of (map g.T.SlotItem.slot (take l.item-index l.items)));
 }

@@ -11,5 +11,5 @@ returns-in_err-table-clause-syntax c = λ syntax of.
 pub returns-clause-statement : goal.returns-clause-statement
 returns-clause-statement c =
     rw (written-back c.in_ok-table.conditions.len c.number_holes.new.items _ _ c.from_vec.ensures (omega (arith, c.as_mut_slice.ensures.len)))
-    (delete-done c.args.line.now c.in_ok-table.table _ _ (c.in_ok-number_holes.ensures.symbols ∙ ap (map (condition_by slot_symbol)) c.as_mut_slice.ensures.value)
-    c.in_ok-number_holes.ensures.numbers c.in_ok-table.ensures.parts)
+    (delete-done c.args.line.now c.in_ok-table.table _ _ (c.number_holes.ensures.symbols ∙ ap (map (condition_by slot_symbol)) c.as_mut_slice.ensures.value)
+    c.number_holes.ensures.numbers c.in_ok-table.ensures.parts)

@@ -14,5 +14,5 @@ returns-clause-statement c =
     let joined : c.from_vec.result ≡ parts.joins.items = search rules in
     let old : c.as_mut_slice.result.now ≡ parts.conditions.items = search rules in
     rw (joined, written-back c.in_ok-distinct.field-0.conditions.len c.number_holes.new.items _ _ c.from_vec-2.ensures (omega (arith, c.as_mut_slice.ensures.len)))
-    (select-done c.args.line.now _ _ _ _ _ _ (c.in_ok-number_holes.ensures.symbols ∙ ap (map (condition_by slot_symbol)) old)
-    c.in_ok-number_holes.ensures.numbers c.in_ok-distinct.ensures.parts)
+    (select-done c.args.line.now _ _ _ _ _ _ (c.number_holes.ensures.symbols ∙ ap (map (condition_by slot_symbol)) old)
+    c.number_holes.ensures.numbers c.in_ok-distinct.ensures.parts)

@@ -11,9 +11,9 @@ returns-in_err-table-clause-syntax c = λ syntax of.
 pub returns-clause-statement : goal.returns-clause-statement
 returns-clause-statement c =
     rw (
-      written-back c.in_ok-table.settings.len c.number_holes.new.items _ _ c.from_vec.ensures (omega (arith, c.as_mut_slice.ensures.len)),
-      written-back c.in_ok-table.conditions.len c.number_holes-2.new.items _ _ c.from_vec-2.ensures (omega (arith, c.as_mut_slice-2.ensures.len)),
+      written-back c.in_ok-table.settings.len c.number_holes-next.new.items _ _ c.from_vec.ensures (omega (arith, c.as_mut_slice.ensures.len)),
+      written-back c.in_ok-table.conditions.len c.number_holes.new.items _ _ c.from_vec-2.ensures (omega (arith, c.as_mut_slice-2.ensures.len)),
     )
-    (update-done c.args.line.now c.in_ok-table.table _ _ _ _ c.in_ok-next.next
-    (c.in_ok-next.ensures.symbols ∙ ap (map (setting_by slot_symbol)) c.as_mut_slice.ensures.value) c.in_ok-next.ensures.numbers c.in_ok-next.ensures.next
-    (c.in_ok-number_holes.ensures.symbols ∙ ap (map (condition_by slot_symbol)) c.as_mut_slice-2.ensures.value) c.in_ok-number_holes.ensures.numbers c.in_ok-table.ensures.parts)
+    (update-done c.args.line.now c.in_ok-table.table _ _ _ _ c.number_holes-next.result
+    (c.number_holes-next.ensures.symbols ∙ ap (map (setting_by slot_symbol)) c.as_mut_slice.ensures.value) c.number_holes-next.ensures.numbers c.number_holes-next.ensures.next
+    (c.number_holes.ensures.symbols ∙ ap (map (condition_by slot_symbol)) c.as_mut_slice-2.ensures.value) c.number_holes.ensures.numbers c.in_ok-table.ensures.parts)
