@@ -16,6 +16,7 @@ use Rattle.plain_streams.specs.Runs.{Answers, AnswersAll}
 use Rattle.plain_streams.specs.Runs as runs
 use Rattle.plain_streams.proofs.DivisionLemmas.{Divides-append, Divides-nil, Divides-unfinished, Divides-whole, every_stream_divides}
 use Rattle.mm_session.specs.Each.{AnswersEach}
+use Rattle.mm_catalog.specs.State.{CatalogState}
 use Rattle.mm_session.specs.Kept.{Keeps}
 use Rattle.mm_session.specs.NextRequest.{AnswersLast, AnswersNext, KeepsMore}
 use Rattle.mm_session.specs.Refused.{TellsRefusal, refusal_number}
@@ -81,8 +82,8 @@ module _ (stops : ℕ → Bool) where
 
   -- ---- a session in a stream
 
-  pub stands_new : Stands stops (new_session STANDARD []) [] []
-  stands_new = record {
+  pub stands_new : (catalog : CatalogState) → Stands stops (new_session STANDARD [] catalog) [] []
+  stands_new catalog = record {
     going_on = refl;
     limits = refl;
     requests = [];

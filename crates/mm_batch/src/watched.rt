@@ -112,7 +112,7 @@ fn flush<O: Outlet>(outlet: &mut O) -> Result<(), RunFault>
 
 impl Watched {
     fn new(alloc: Global, policy: Policy) -> Result<Watched, RunFault>
-        ensures ok { IfOk result (λ watched. watched.session ≡ new_session STANDARD []) }
+        ensures ok { IfOk result (λ watched. watched.session ≡ new_session STANDARD [] watched.session.catalog) }
         ensures kind { IfErr result (λ e. e ≡ RunFault.NoMemory) }
     {
         let Ok(session) = Session::new(alloc, policy) else {

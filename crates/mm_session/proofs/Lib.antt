@@ -3,6 +3,7 @@ pub mod AnswerLemmas
 pub mod AskLemmas
 pub mod BatchLemmas
 pub mod BesideLemmas
+pub mod ColumnLawLemmas
 pub mod DumpLemmas
 pub mod EachLemmas
 pub mod IndexLemmas

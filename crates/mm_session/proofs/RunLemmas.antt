@@ -17,6 +17,7 @@ use Rattle.plain_streams.specs.Runs as runs
 use Rattle.plain_streams.proofs.Asking.{asks_or_not, asks_one, takes_one}
 use Rattle.plain_streams.proofs.DivisionLemmas.{Divides-append, Divides-unfinished, Divides-whole, Divides-nil, divides_in_one_way, every_stream_divides, request_of-line, request_of-bytes}
 use Rattle.plain_streams.proofs.RunSteps.{AnswersAll-append}
+use Rattle.mm_catalog.specs.State.{CatalogState}
 use Rattle.mm_session.specs.Kept.{Keeps, nothing, is_nothing}
 use Rattle.mm_session.specs.Sessions.{State, StandsIn, Feeds, Finishes, IsRequests, IsBrokenOff, BreaksOff, new_session}
 use Rattle.mm_session.specs.WholeRuns.{IsFrontOfRun}
@@ -341,8 +342,8 @@ pub breaks_off_at_end : (old new : State) (gained : List ℕ) → Finishes old n
 breaks_off_at_end old new gained finishes from stream answers st =
     rw append-nil (all-answered old.limits from stream true (answers ++ gained) new.database (finishes from stream answers st))
 
-pub stands_new : (limits : Limits) → StandsIn (new_session limits []) [] [] []
-stands_new limits = record { keeps = ([], [], Divides-nil, keeps-nothing limits); run = ([], [], Divides-nil, (refl, refl)) }
+pub stands_new : (limits : Limits) (catalog : CatalogState) → StandsIn (new_session limits [] catalog) [] [] []
+stands_new limits catalog = record { keeps = ([], [], Divides-nil, keeps-nothing limits); run = ([], [], Divides-nil, (refl, refl)) }
 
 -- ---- a run that broke off
 

@@ -2,6 +2,7 @@ pub mod Answered
 pub mod Batched
 pub mod Buffers
 pub mod Changing
+pub mod ColumnLaws
 pub mod Columns
 pub mod Dumps
 pub mod Each

@@ -1,20 +1,42 @@
 -- What a session is seen as, and what its calls do to the run that it is in.
-use Rattle.std.specs.Prelude.{◌≡◌, ℕ, ◌≤◌, List, ◌++◌, length, Bool, true, false, Option}
+use Rattle.std.specs.Prelude.{◌≡◌, ℕ, ◌≤◌, List, ◌++◌, length, Bool, true, false, Option, refl}
+use Rattle.std.specs.Coded.{Coded, code_by, coded×, coded_bool, coded_list, coded_ℕ}
 use Rattle.std.specs.Io.KnownBytes.{Appends}
 use Rattle.mm_session.specs.Kept.{Keeps, nothing}
 use Rattle.mm_session.specs.declared.stream.kept.Kept.{Kept}
+use Rattle.mm_catalog.specs.State.{CatalogState}
 use Rattle.plain_tables.specs.Databases.{Database}
+use Rattle.plain_tables.specs.Tables.{Table}
 use Rattle.plain_tables.specs.declared.command.Limits.{Limits}
+use Rattle.plain_tables.specs.declared.schema.Column.{Column}
+use Rattle.plain_tables.specs.declared.schema.IndexKind.{IndexKind}
+use Rattle.plain_tables.specs.declared.value.Value.{Value}
 use Rattle.plain_streams.specs.Requests.{Request}
 use Rattle.plain_streams.specs.Division.{Divides, last_request}
 use Rattle.plain_streams.specs.Runs.{AnswersAll, RunOf}
 
--- A session is seen as its limits, its tables, whether it has ended, and what it keeps of the request that has not.
+-- A session is seen as its limits, its tables, the catalog that has them, whether it has ended, and what it keeps of the request that
+-- has not.
 pub record State : Type 0 where
   pub limits : Limits
   pub database : Database
+  pub catalog : CatalogState
   pub ended : Bool
   pub kept : Kept
+
+abbrev pub table_code : Coded Column → Coded IndexKind → Coded Value → Coded Table
+table_code column kind value =
+    code_by (List ℕ × (List Column × (List (ℕ × IndexKind) × List (List Value))))
+    (coded× (coded_list coded_ℕ) (coded× (coded_list column) (coded× (coded_list (coded× coded_ℕ kind)) (coded_list (coded_list value)))))
+    (λ t. (t.name, (t.columns, (t.indexes, t.rows))))
+    (λ p. record { name = p.0; columns = p.1.0; indexes = p.1.1.0; rows = p.1.1.1 }) (λ _. refl)
+
+abbrev pub state_code : Coded Limits → Coded Table → Coded CatalogState → Coded Kept → Coded State
+state_code limits table catalog kept =
+    code_by (Limits × (Database × (CatalogState × (Bool × Kept))))
+    (coded× limits (coded× (coded_list table) (coded× catalog (coded× coded_bool kept))))
+    (λ s. (s.limits, (s.database, (s.catalog, (s.ended, s.kept)))))
+    (λ p. record { limits = p.0; database = p.1.0; catalog = p.1.1.0; ended = p.1.1.1.0; kept = p.1.1.1.1 }) (λ _. refl)
 
 -- This is kept of the stream: what is kept of the rest that it leaves behind its requests.
 abbrev pub KeepsOf : Limits → Kept → List ℕ → Type 0
@@ -72,6 +94,6 @@ BreaksOff old new piece finished gained =
     (from : Database) (stream answers : List ℕ) → StandsIn old from stream answers
     → IsBrokenOff old.limits from (stream ++ piece) finished (answers ++ gained) new.database
 
--- a session over these tables that has been fed nothing
-abbrev pub new_session : Limits → Database → State
-new_session limits tables = record { limits = limits; database = tables; ended = false; kept = nothing }
+-- a session over these tables, which a catalog has, that has been fed nothing
+abbrev pub new_session : Limits → Database → CatalogState → State
+new_session limits tables catalog = record { limits = limits; database = tables; catalog = catalog; ended = false; kept = nothing }

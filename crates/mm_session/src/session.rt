@@ -24,12 +24,20 @@ pub struct Session {
 }
 
 impl Model for Session {
+    ghost use Rattle.plain_tables.specs.contracts.command.Limits.{the_row as limits_row};
+    ghost use Rattle.plain_tables.specs.contracts.schema.Column.{the_row as column_row};
+    ghost use Rattle.plain_tables.specs.contracts.schema.IndexKind.{the_row as kind_row};
+    ghost use Rattle.plain_tables.specs.contracts.value.Value.{the_row as value_row};
     ghost use Rattle.mm_catalog.specs.Seen.{database_of};
-    ghost use Rattle.mm_session.specs.Sessions.{State};
+    ghost use Rattle.mm_catalog.specs.contracts.catalog.Catalog.{the_row as catalog_row};
+    ghost use Rattle.mm_session.specs.Sessions.{State, state_code, table_code};
+    ghost use Rattle.mm_session.specs.contracts.stream.kept.Kept.{the_row as kept_row};
 
     ghost Value = { State };
 
-    ghost view = { λ s. record { limits = s.responder.executor.catalog.limits; database = database_of s.responder.executor.catalog; ended = s.ended; kept = s.responder.kept } };
+    ghost coded = { state_code limits_row.coded (table_code column_row.coded kind_row.coded value_row.coded) catalog_row.coded kept_row.coded };
+
+    ghost view = { λ s. record { limits = s.responder.executor.catalog.limits; database = database_of s.responder.executor.catalog; catalog = s.responder.executor.catalog; ended = s.ended; kept = s.responder.kept } };
 }
 
 impl Session {
@@ -38,7 +46,6 @@ impl Session {
     ghost use Rattle.mm_session.specs.NextRequest.{AnswersLast, AnswersNext, KeepsMore};
     ghost use Rattle.mm_session.specs.Responding.{waits};
     ghost use Rattle.mm_session.specs.OneRequest.{AnswersOne, StaysInStream, GoesBetween};
-    ghost use Rattle.mm_catalog.specs.State.{CatalogState};
     ghost use Rattle.mm_session.specs.IndexAnswers.{AnswersIndexes};
     ghost use Rattle.plain_tables.specs.Doing.{done};
     ghost use Rattle.plain_tables.specs.ResolvedLaws.{IsMeant};
@@ -49,7 +56,7 @@ impl Session {
 
     /// A session with no tables, under the standard limits.
     pub fn new(alloc: Global, policy: Policy) -> Result<Session, NoMemory>
-        ensures { IfOk result (λ s. s ≡ new_session Limits.STANDARD []) }
+        ensures { IfOk result (λ s. s ≡ new_session Limits.STANDARD [] s.catalog) }
     {
         Session::with_limits(alloc, policy, Limits::STANDARD)
     }
@@ -57,14 +64,14 @@ impl Session {
     /// A session with no tables, under limits of one's own.
     pub fn with_limits(alloc: Global, policy: Policy, limits: Limits) -> Result<Session, NoMemory>
         requires { limits.rows ≤ 16777216 }
-        ensures { IfOk result (λ s. s ≡ new_session limits []) }
+        ensures { IfOk result (λ s. s ≡ new_session limits [] s.catalog) }
     {
         Session::over(alloc, policy, Catalog::new(alloc, limits))
     }
 
     /// A session with the tables of a catalog, under its limits.
     pub fn over(alloc: Global, policy: Policy, catalog: Catalog) -> Result<Session, NoMemory>
-        ensures { IfOk result (λ s. s ≡ new_session catalog.limits (database_of catalog)) }
+        ensures { IfOk result (λ s. s ≡ new_session catalog.limits (database_of catalog) catalog) }
     {
         Ok(Session {
             responder: Responder::new(alloc, policy, catalog)?,
@@ -74,6 +81,7 @@ impl Session {
 
     /// The tables, lent.
     pub fn catalog(&self) -> &Catalog
+        ensures own { result.now ≡ self.now.catalog }
         ensures tables { database_of result.now ≡ self.now.database }
         ensures limits { result.now.limits ≡ self.now.limits }
     {
@@ -148,6 +156,7 @@ impl Session {
         requires change { IsChange command.now }
         ensures done { IfOk result (HasChanged self.new (done self.old.limits self.old.database command.now)) }
         ensures refused { IfErr result (HasDeclined self.old self.new (done self.old.limits self.old.database command.now)) }
+        ensures unchanged { OnErr result (self.new ≡ self.old) }
         ensures stream { StaysInStream self.old self.new }
     {
         self.responder.executor.change(command)
@@ -159,6 +168,7 @@ impl Session {
         requires { IsMeant self.old.limits self.old.database (resolved.Insert table values.now) }
         ensures done { OnOk result (HasChanged self.new (done self.old.limits self.old.database (resolved.Insert table values.now)) 1) }
         ensures refused { IfErr result (HasDeclined self.old self.new (done self.old.limits self.old.database (resolved.Insert table values.now))) }
+        ensures unchanged { OnErr result (self.new ≡ self.old) }
         ensures stream { StaysInStream self.old self.new }
     {
         self.responder.executor.insert(table, values)
@@ -185,7 +195,7 @@ impl Session {
 
     /// Makes the answer how the indexes of the table of a name stand: that of its key, and the declared ones.
     pub fn tell_indexes(&self, name: &[u8], answer: &mut Answer)
-        ensures { (catalog : CatalogState) × (database_of catalog ≡ self.now.database) × AnswersIndexes catalog name.now answer.new }
+        ensures { AnswersIndexes self.now.catalog name.now answer.new }
     {
         self.responder.executor.tell_indexes(name, answer)
     }

@@ -144,9 +144,6 @@ change-declined old new statements number c why f declined other =
 
 -- ---- what stays
 
-pub same-session : (old new : State) → new.database ≡ old.database → StaysInStream old new → new ≡ old
-same-session old new tables stays = λ i. record { limits = stays.limits i; database = tables i; ended = stays.ended i; kept = stays.kept i }
-
 pub unchanged : (before after : State) (old new : Statements) → after ≡ before → SameSeen old new
     → IsUnchanged (state_of before old) (state_of after new)
 unchanged before after old new same seen = record { session = same; statements = same-seen before after old new seen }

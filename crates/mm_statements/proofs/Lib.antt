@@ -1,7 +1,9 @@
 pub mod ChangeLemmas
+mod ColumnLemmas
 pub mod ExecuteLemmas
 pub mod FinishedLemmas
 pub mod GivenLemmas
+pub mod HeadingLemmas
 pub mod LineLemmas
 pub mod MarkLemmas
 pub mod PrepareLemmas
@@ -9,4 +11,3 @@ pub mod QueryLemmas
 pub mod RequestLemmas
 pub mod RightLemmas
 pub mod SeenLemmas
-mod ColumnLemmas

@@ -1,5 +1,7 @@
 -- What a database with statements is seen as.
-use Rattle.std.specs.Prelude.{◌≡◌, ◌≢◌, ℕ, List, Option, None, slice_index_or}
+use Rattle.std.specs.Prelude.{◌≡◌, ◌≢◌, ℕ, List, Option, None, refl, slice_index_or}
+use Rattle.std.specs.Coded.{Coded, code_by, coded×, coded_list, coded_option, coded_ℕ}
+use Rattle.plain_tables.specs.declared.value.Value.{Value}
 use Rattle.mm_prepared.specs.Kept.{KeptStatement}
 use Rattle.mm_session.specs.Sessions.{State}
 
@@ -7,6 +9,16 @@ use Rattle.mm_session.specs.Sessions.{State}
 pub record DatabaseState : Type 0 where
   pub session : State
   pub statements : List (Option KeptStatement)
+
+abbrev pub kept_code : Coded Value → Coded KeptStatement
+kept_code value =
+    code_by (List ℕ × List Value) (coded× (coded_list coded_ℕ) (coded_list value)) (λ k. (k.line, k.values))
+    (λ p. record { line = p.0; values = p.1 }) (λ _. refl)
+
+abbrev pub database_code : Coded State → Coded Value → Coded DatabaseState
+database_code session value =
+    code_by (State × List (Option KeptStatement)) (coded× session (coded_list (coded_option (kept_code value)))) (λ d. (d.session, d.statements))
+    (λ p. record { session = p.0; statements = p.1 }) (λ _. refl)
 
 -- the statement that a number names
 abbrev pub statement_at : DatabaseState → ℕ → Option KeptStatement

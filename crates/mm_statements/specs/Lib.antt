@@ -1,3 +1,4 @@
+pub mod ColumnLaws
 pub mod Columns
 pub mod Databases
 pub mod Executing

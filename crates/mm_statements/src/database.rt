@@ -40,11 +40,15 @@ pub struct Database {
 }
 
 impl Model for Database {
-    ghost use Rattle.mm_statements.specs.Databases.{DatabaseState};
+    ghost use Rattle.plain_tables.specs.contracts.value.Value.{the_row as value_row};
+    ghost use Rattle.mm_session.specs.contracts.session.Session.{the_row as session_row};
     ghost use Rattle.mm_prepared.specs.Kept.{all_seen};
+    ghost use Rattle.mm_statements.specs.Databases.{DatabaseState, database_code};
     ghost use Rattle.mm_statements.specs.Right.{AreRight};
 
     ghost Value = { DatabaseState };
+
+    ghost coded = { database_code session_row.coded value_row.coded };
 
     ghost view = { λ d. record { session = d.session; statements = all_seen d.statements } };
 
@@ -73,7 +77,7 @@ impl Database {
     /// A database with no tables, under these limits, and no statements.
     pub fn new(alloc: Global, policy: Policy, limits: Limits) -> Result<Database, NoMemory>
         requires { limits.rows ≤ 16777216 }
-        ensures session { IfOk result (λ d. d.session ≡ new_session limits []) }
+        ensures session { IfOk result (λ d. d.session ≡ new_session limits [] d.session.catalog) }
         ensures none { IfOk result (λ d. (number : ℕ) → statement_at d number ≡ None) }
     {
         Ok(Database {

@@ -1,8 +1,6 @@
 -- What the calls of C do with a handle, in the words of the session's calls.
 use Rattle.std.specs.Prelude.{◌≡◌, ◌<◌, ◌≤◌, ℕ, List, [], false, IsTrue, Option, Some, None}
 use Rattle.plain_streams.specs.Requests.{Request}
-use Rattle.mm_catalog.specs.Seen.{database_of}
-use Rattle.mm_catalog.specs.State.{CatalogState}
 use Rattle.mm_session.specs.IndexAnswers.{AnswersIndexes}
 use Rattle.mm_session.specs.OneRequest.{AnswersOne, StaysInStream, GoesBetween}
 use Rattle.mm_session.specs.Sessions.{Feeds, BreaksOff, new_session}
@@ -18,7 +16,7 @@ pub record AreLimits (rows block : ℕ) : Type 0 where
 
 -- a database with no tables and no statements, under these limits, to which no call has answered
 pub record IsNew (limits : Limits) (d : Database) : Type 0 where
-  pub session : d.inner.session ≡ new_session limits []
+  pub session : d.inner.session ≡ new_session limits [] d.inner.session.catalog
   pub none : (number : ℕ) → statement_at d.inner number ≡ None
   pub answer : d.answer ≡ []
   pub reason : d.reason ≡ []
@@ -50,9 +48,7 @@ pub record AnswersRequest (asked : Request) (old new : Database) : Type 0 where
 -- How the indexes of the table of that name stand is kept as the answer, and nothing else changed.
 pub record TellsIndexes (name : List ℕ) (old new : Database) : Type 0 where
   pub inner : new.inner ≡ old.inner
-  pub catalog : CatalogState
-  pub tables : database_of catalog ≡ old.inner.session.database
-  pub answer : AnswersIndexes catalog name new.answer
+  pub answer : AnswersIndexes old.inner.session.catalog name new.answer
   pub rows : KeepsRows old new
 
 -- The session took the piece, and the answers that it gained are kept.

@@ -1,6 +1,6 @@
 //! Inserts, updates and deletes that make no answer: how many rows each is about is told as a number.
 
-ghost use Rattle.std.specs.Prelude.{IfOk, IfErr, OnOk};
+ghost use Rattle.std.specs.Prelude.{◌≡◌, IfOk, IfErr, OnOk, OnErr};
 ghost use Rattle.plain_tables.specs.Doing.{done};
 ghost use Rattle.plain_tables.specs.ResolvedLaws.{IsMeant};
 ghost use Rattle.plain_tables.specs.declared.resolved.Resolved.TheVariants as resolved;
@@ -18,6 +18,7 @@ impl Executor {
         requires { IsMeant self.old.catalog.limits (database_of self.old.catalog) (resolved.Insert table values.now) }
         ensures done { OnOk result (HasEffect self.old.catalog self.new.catalog (done self.old.catalog.limits (database_of self.old.catalog) (resolved.Insert table values.now)) 1) }
         ensures refused { IfErr result (IsDeclinedFor self.old.catalog self.new.catalog (done self.old.catalog.limits (database_of self.old.catalog) (resolved.Insert table values.now))) }
+        ensures unchanged { OnErr result (self.new.catalog ≡ self.old.catalog) }
     {
         self.catalog.insert(table, values)
     }
@@ -55,6 +56,7 @@ impl Executor {
         requires change { IsChange command.now }
         ensures done { IfOk result (HasEffect self.old.catalog self.new.catalog (done self.old.catalog.limits (database_of self.old.catalog) command.now)) }
         ensures refused { IfErr result (IsDeclinedFor self.old.catalog self.new.catalog (done self.old.catalog.limits (database_of self.old.catalog) command.now)) }
+        ensures unchanged { OnErr result (self.new.catalog ≡ self.old.catalog) }
     {
         match command {
             Resolved::Insert { table, values } => {

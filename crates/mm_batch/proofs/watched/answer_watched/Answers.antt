@@ -16,7 +16,7 @@ loop-init g c = (
   [],
   Consumes-nothing (g.R.PromptRead.to_come c.args.r.now),
   Appends-nothing (g.O.Outlet.contents c.args.outlet.now),
-  subst (λ s. Stands (g.T.Watch.stops c.args.watch.now) s [] []) (sym c.in_ok-watched.ensures.ok) (stands_new (g.T.Watch.stops c.args.watch.now)),
+  subst (λ s. Stands (g.T.Watch.stops c.args.watch.now) s [] []) (sym c.in_ok-watched.ensures.ok) (stands_new (g.T.Watch.stops c.args.watch.now) c.in_ok-watched.watched.session.catalog),
   refl,
   c.requires,
   come_none (g.R.PromptRead.turns c.args.r.now),

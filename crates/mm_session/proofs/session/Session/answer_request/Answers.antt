@@ -12,8 +12,8 @@ returns-clause-run c =
     let before = c.self.inside.responder in
     let after = c.answer_request.new.self in
     let ended = c.self.inside.ended in
-    let old : State = record { limits = before.executor.catalog.limits; database = database_of before.executor.catalog; ended = ended; kept = before.kept } in
-    let new : State = record { limits = after.executor.catalog.limits; database = database_of after.executor.catalog; ended = ended; kept = after.kept } in
+    let old : State = record { limits = before.executor.catalog.limits; database = database_of before.executor.catalog; catalog = before.executor.catalog; ended = ended; kept = before.kept } in
+    let new : State = record { limits = after.executor.catalog.limits; database = database_of after.executor.catalog; catalog = after.executor.catalog; ended = ended; kept = after.kept } in
     let request : Request = record { line = c.args.line.now; block = c.args.block.now } in
     subst (λ (s : State). OnOk c.answer_request.result (GoesBetween s new request c.answer_request.new.answer)) c.self.view_is
     (goes_between-if_ok c.answer_request.result old new request c.answer_request.new.answer

@@ -16,6 +16,6 @@ pub returns-clause-refused : goal.returns-clause-refused
 returns-clause-refused c =
     let before = c.self.inside.responder in
     let after = c.change.new.self.catalog in
-    let new : State = record { limits = after.limits; database = database_of after; ended = c.self.inside.ended; kept = before.kept } in
+    let new : State = record { limits = after.limits; database = database_of after; catalog = after; ended = c.self.inside.ended; kept = before.kept } in
     subst (λ (s : State). IfErr c.change.result (HasDeclined s new (done s.limits s.database c.args.command.now))) c.self.view_is
     (IfErr-weaker c.change.result _ _ (declined_unchanged before.executor.catalog after c.args.command.now) c.change.ensures.refused)

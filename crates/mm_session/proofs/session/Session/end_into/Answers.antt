@@ -9,7 +9,7 @@ use Rattle.mm_session.proofs.session.Session.end_into.Goals as goal
 
 -- what a session that has ended is seen as
 abbrev ended : Responder → State
-ended r = record { limits = r.executor.catalog.limits; database = database_of r.executor.catalog; ended = true; kept = r.kept }
+ended r = record { limits = r.executor.catalog.limits; database = database_of r.executor.catalog; catalog = r.executor.catalog; ended = true; kept = r.kept }
 
 pub returns-then-is_nothing-clause-ok : goal.returns-then-is_nothing-clause-ok
 returns-then-is_nothing-clause-ok g c = (

@@ -9,7 +9,7 @@ use Rattle.mm_session.proofs.session.Session.feed_into.Goals as goal
 
 -- what a session is seen as
 abbrev seen : Responder → Bool → State
-seen r ended = record { limits = r.executor.catalog.limits; database = database_of r.executor.catalog; ended = ended; kept = r.kept }
+seen r ended = record { limits = r.executor.catalog.limits; database = database_of r.executor.catalog; catalog = r.executor.catalog; ended = ended; kept = r.kept }
 
 -- a piece of which something was done, and then a request and what follows it
 split : (piece done rest front others : List ℕ) → piece ≡ done ++ rest → rest ≡ front ++ others → piece ≡ done ++ (front ++ others)

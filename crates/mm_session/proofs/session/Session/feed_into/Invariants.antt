@@ -9,7 +9,7 @@ use Rattle.mm_session.proofs.session.Session.feed_into.Given as goal
 abbrev pub invariant-loop-others : goal.invariant-loop-others
 invariant-loop-others g l =
     let r = l.self-inside.responder in
-    let now : State = record { limits = r.executor.catalog.limits; database = database_of r.executor.catalog; ended = l.self-inside.ended; kept = r.kept } in
+    let now : State = record { limits = r.executor.catalog.limits; database = database_of r.executor.catalog; catalog = r.executor.catalog; ended = l.self-inside.ended; kept = r.kept } in
     (done : List ℕ) × (gained : List ℕ) × Appends (g.O.Outlet.contents l.fn.outlet) (g.O.Outlet.contents l.outlet) gained
     × Feeds l.fn.self now done gained × (l.piece ≡ done ++ l.rest) × (g.O.Outlet.name l.outlet ≡ g.O.Outlet.name l.fn.outlet)
 

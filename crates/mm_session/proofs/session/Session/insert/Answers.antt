@@ -18,7 +18,7 @@ pub returns-clause-refused : goal.returns-clause-refused
 returns-clause-refused c =
     let before = c.self.inside.responder in
     let after = c.insert.new.self.catalog in
-    let new : State = record { limits = after.limits; database = database_of after; ended = c.self.inside.ended; kept = before.kept } in
+    let new : State = record { limits = after.limits; database = database_of after; catalog = after; ended = c.self.inside.ended; kept = before.kept } in
     let command = resolved.Insert c.args.table c.args.values.now in
     subst (λ (s : State). IfErr c.insert.result (HasDeclined s new (done s.limits s.database command))) c.self.view_is
     (IfErr-weaker c.insert.result _ _ (declined_unchanged before.executor.catalog after command) c.insert.ensures.refused)

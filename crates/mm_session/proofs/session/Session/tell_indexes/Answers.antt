@@ -1,6 +1,7 @@
-use Rattle.std.proofs.Common.{ap}
+use Rattle.std.proofs.Common.{subst}
+use Rattle.mm_session.specs.IndexAnswers.{AnswersIndexes}
 use Rattle.mm_session.specs.Sessions.{State}
 use Rattle.mm_session.proofs.session.Session.tell_indexes.Goals as goal
 
 pub returns : goal.returns
-returns c = (c.self.inside.responder.executor.catalog, ap (λ (s : State). s.database) c.self.view_is, c.tell_indexes.ensures)
+returns c = subst (λ (s : State). AnswersIndexes s.catalog c.args.name.now c.tell_indexes.new.answer) c.self.view_is c.tell_indexes.ensures

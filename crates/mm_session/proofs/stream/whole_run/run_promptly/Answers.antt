@@ -16,7 +16,7 @@ loop-init g c = (
   Appends-nothing (g.O.Outlet.contents c.args.outlet.now),
   ap (λ (s : State). s.ended) c.in-Ok.ensures,
   ap (λ (s : State). s.limits) c.in-Ok.ensures,
-  subst (λ s. StandsIn s [] [] []) (sym c.in-Ok.ensures) (stands_new STANDARD),
+  subst (λ s. StandsIn s [] [] []) (sym c.in-Ok.ensures) (stands_new STANDARD c.in-Ok.session.catalog),
   refl,
   c.requires,
   come_none (g.R.PromptRead.turns c.args.r.now),

@@ -5,7 +5,7 @@ use Rattle.plain_tables.specs.ResolvedLaws.{IsMeant}
 use Rattle.plain_tables.specs.declared.resolved.Resolved.TheVariants as resolved
 use Rattle.mm_statements.specs.Resolving.{IsFinished, IsOfRows}
 use Rattle.mm_statements.specs.declared.faults.ExecuteFault.TheVariants as fault
-use Rattle.mm_statements.proofs.ExecuteLemmas.{change-declined, changed-right, effect-of, on-err, same-finished, same-session, same-unfinished, unchanged, unfinished-declined, unresolved-unfinished}
+use Rattle.mm_statements.proofs.ExecuteLemmas.{change-declined, changed-right, effect-of, on-err, same-finished, same-unfinished, unchanged, unfinished-declined, unresolved-unfinished}
 use Rattle.mm_statements.proofs.FinishedLemmas.{rows-change}
 use Rattle.mm_statements.proofs.SeenLemmas.{same-seen, statement-none}
 use Rattle.mm_statements.proofs.database.Database.execute.Goals as goal
@@ -81,7 +81,7 @@ returns-in_err-insert-in-Insert-clause-unchanged c =
     rw (← c.self.view_is)
     (on-err c.from_residual-in_err-insert-in-Insert.result
     (unchanged s c.insert.new.self c.self.inside.statements c.resolve.new.statements
-    (same-session s c.insert.new.self c.in_err-insert-in-Insert.ensures.refused.0 c.insert.ensures.stream) c.resolve.ensures.same))
+    c.in_err-insert-in-Insert.ensures.unchanged c.resolve.ensures.same))
 
 pub returns-in_err-insert-in-Insert-clause-statements : goal.returns-in_err-insert-in-Insert-clause-statements
 returns-in_err-insert-in-Insert-clause-statements c =
@@ -169,7 +169,7 @@ returns-in_err-count-clause-unchanged c =
     rw (← c.self.view_is)
     (on-err c.from_residual-in_err-count.result
     (unchanged s c.change.new.self c.self.inside.statements c.resolve.new.statements
-    (same-session s c.change.new.self c.in_err-count.ensures.refused.0 c.change.ensures.stream) c.resolve.ensures.same))
+    c.in_err-count.ensures.unchanged c.resolve.ensures.same))
 
 pub returns-in_err-count-clause-statements : goal.returns-in_err-count-clause-statements
 returns-in_err-count-clause-statements c =

@@ -4,7 +4,7 @@ use Rattle.plain_tables.specs.Doing.{done}
 use Rattle.plain_tables.specs.declared.resolved.Resolved.TheVariants as resolved
 use Rattle.mm_statements.specs.Querying.{IsMeaningOfLine}
 use Rattle.mm_statements.specs.Querying as querying
-use Rattle.mm_statements.proofs.ExecuteLemmas.{changed-right, on-err, same-session, unchanged}
+use Rattle.mm_statements.proofs.ExecuteLemmas.{changed-right, on-err, unchanged}
 use Rattle.mm_statements.proofs.FinishedLemmas.{rows-change}
 use Rattle.mm_statements.proofs.QueryLemmas.{change-unqueried, effect-of-line}
 use Rattle.mm_statements.proofs.database.Database.query.Goals as goal
@@ -40,7 +40,7 @@ returns-in_err-count-clause-unchanged c =
     rw (← c.self.view_is)
     (on-err c.from_residual-in_err-count.result
     (unchanged s c.change.new.self statements statements
-    (same-session s c.change.new.self c.in_err-count.ensures.refused.0 c.change.ensures.stream) (λ number. refl)))
+    c.in_err-count.ensures.unchanged (λ number. refl)))
 
 pub returns-clause-done : goal.returns-clause-done
 returns-clause-done c =

@@ -1,14 +1,11 @@
-use Rattle.std.proofs.Common.{◌∙◌, ap, refl}
+use Rattle.std.proofs.Common.{refl, subst}
+use Rattle.mm_session.specs.IndexAnswers.{AnswersIndexes}
 use Rattle.mm_session.specs.Sessions.{State}
 use Rattle.mmdb_c.proofs.database.Database.tell_indexes.Goals as goal
 
 pub returns : goal.returns
-returns c =
-    let told = c.tell_indexes.ensures in
-    record {
-      inner = refl;
-      catalog = told.0;
-      tables = told.1 ∙ ap (λ (s : State). s.database) c.session.ensures;
-      answer = told.2;
-      rows = record { shown = refl; queried = refl; columns = refl };
-    }
+returns c = record {
+  inner = refl;
+  answer = subst (λ (s : State). AnswersIndexes s.catalog c.args.name.now c.tell_indexes.new.answer) c.session.ensures c.tell_indexes.ensures;
+  rows = record { shown = refl; queried = refl; columns = refl };
+}
