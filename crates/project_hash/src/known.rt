@@ -74,7 +74,7 @@ impl Known {
         requires can_read { CanRead table.now }
         requires held { IsSome (finite.get table.now.relation.rows r) }
         requires known { AreKnown table.now self.old.rows.items self.old.by_hash.entries }
-        requires few { vec_len self.old.rows < 2 ^ 32 }
+        requires few { vec_len self.old.rows + 1 < 2 ^ 32 }
         ensures known { OnOk result (AreKnown table.now self.new.rows.items self.new.by_hash.entries) }
         ensures rows { OnOk result (row_states table.now self.new.rows.items ≡ insert_key alike (row_states table.now self.old.rows.items) (row_state table.now r)) }
         ensures count { OnOk result (vec_len self.new.rows ≤ vec_len self.old.rows + 1) }

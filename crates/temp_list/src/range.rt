@@ -79,9 +79,9 @@ pub fn append_range<P: Probe>(
     loop {
         let start = out.len();
         let most = found.clamp(1, MOST_TAKEN);
-        if take_some(&mut walk, most, out).is_err() {
+        if let Err(refused) = take_some(&mut walk, most, out) {
             out.truncate(before);
-            return Err(NoMemory);
+            return Err(refused);
         }
         let more = count_in_range(probe, &out[start..]);
         out.truncate(start + more);

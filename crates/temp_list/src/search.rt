@@ -305,9 +305,9 @@ pub fn rows_by_hash<R: Relations>(
         if !stands(Op::Eq, read(tables, relation, r, column), value) {
             continue;
         }
-        if out.push(r).is_err() {
+        if let Err(refused) = out.push(r) {
             out.truncate(before);
-            return Err(NoMemory);
+            return Err(NoMemory::from(refused));
         }
     }
     Ok(())

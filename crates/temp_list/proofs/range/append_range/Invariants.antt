@@ -8,8 +8,8 @@ use Rattle.ttree.specs.Held.{rest_of}
 use Rattle.temp_list.proofs.range.append_range.Given as goal
 
 -- those of the walk so far, which are in the range
-abbrev pub invariant-loop-walk : goal.invariant-loop-walk
-invariant-loop-walk g l = record {
+abbrev pub invariant-loop-refused : goal.invariant-loop-refused
+invariant-loop-refused g l = record {
   added : l.out.items ≡ l.fn.out.items ++ take l.found (from_range (g.P.Probe.place l.fn.probe) (list_of l.relation l.fn.column.0));
   rest : rest_of l.walk ≡ drop l.found (from_range (g.P.Probe.place l.fn.probe) (list_of l.relation l.fn.column.0));
   within : l.found ≤ length (from_range (g.P.Probe.place l.fn.probe) (list_of l.relation l.fn.column.0));
@@ -18,5 +18,5 @@ invariant-loop-walk g l = record {
   only : IsOnlyAsked g.P.Probe.is_sound g.P.Probe.can_place g.P.Probe.place g.P.Probe.asked l.fn.probe l.probe;
 }
 
-abbrev pub decreases-loop-walk : goal.decreases-loop-walk
-decreases-loop-walk g l = length (rest_of l.walk)
+abbrev pub decreases-loop-refused : goal.decreases-loop-refused
+decreases-loop-refused g l = length (rest_of l.walk)

@@ -11,6 +11,11 @@ use Rattle.project_hash.specs.Table.{row_state}
 use Rattle.project_hash.proofs.KnownLemmas.{key_more, key_there, known_more}
 use Rattle.project_hash.proofs.known.Known.keep.Goals as goal
 
+pub reserve-requires : goal.reserve-requires
+reserve-requires g c =
+    let long = length-same_bag _ _ c.requires.known.found in
+    omega (arith, long, length-map c.args.self.now.rows.items (hashed c.args.table.now), c.args.self.now.rows.ok.0, c.requires.few)
+
 pub insert-requires-clause-short : goal.insert-requires-clause-short
 insert-requires-clause-short g c =
     let long = length-same_bag _ _ c.requires.known.found in
