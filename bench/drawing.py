@@ -123,12 +123,11 @@ def legend_of_lines(colour_of, y):
         yield f'<text x="{x + 15}" y="{row}" font-size="11">{escape(line)}</text>'
 
 
-def panel(number, title, curves, colour_of, names, are_log):
-    """One panel of a chart: its axes, and its lines."""
-    points = [point for each in curves.values() for point in each]
+def panel(number, title, curves, colour_of, names, are_log, places):
+    """One panel of a chart: its axes, and its lines. The places on the x axis are those of all panels."""
     left = BETWEEN + number * (PANEL + BETWEEN)
-    x_axis = Axis([x for x, _ in points], are_log[0], left, left + PANEL, (1,))
-    y_axis = Axis([y for _, y in points], are_log[1], HEAD + HEIGHT, HEAD)
+    x_axis = Axis(places, are_log[0], left, left + PANEL, (1,))
+    y_axis = Axis([y for each in curves.values() for _, y in each], are_log[1], HEAD + HEIGHT, HEAD)
     yield from grid(x_axis, y_axis)
     yield f'<text x="{left + PANEL / 2}" y="{HEAD - 12}" font-size="12" text-anchor="middle">{escape(title)}</text>'
     yield f'<text x="{left + PANEL / 2}" y="{HEAD + HEIGHT + 30}" font-size="11" text-anchor="middle">{escape(names[0])}</text>'
@@ -138,10 +137,13 @@ def panel(number, title, curves, colour_of, names, are_log):
 
 
 def chart(panels, names, are_log):
-    """Lines in panels side by side: for each panel's title the points of each line by its name. The names and the kinds of the
-    two axes are those of all panels; an axis goes as far as the points of its panel."""
+    """Lines in panels side by side: for each panel's title the points of each line by its name. All panels have the names and the
+    kinds of the two axes, and the x axis itself; each has a y axis of its own."""
     colour_of = colours(dict.fromkeys(line for curves in panels.values() for line in curves))
-    parts = [part for number, (title, curves) in enumerate(panels.items()) for part in panel(number, title, curves, colour_of, names, are_log)]
+    places = [x for curves in panels.values() for each in curves.values() for x, _ in each]
+    parts = []
+    for number, (title, curves) in enumerate(panels.items()):
+        parts += panel(number, title, curves, colour_of, names, are_log, places)
     below = HEAD + HEIGHT + 54
     parts += legend_of_lines(colour_of, below)
     width = max(660, BETWEEN + len(panels) * (PANEL + BETWEEN))

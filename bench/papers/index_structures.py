@@ -9,9 +9,9 @@ from measuring import Experiment, best, of_rows
 from programs import Ours, Theirs, Work, fill, one_kind, repeated
 
 SIZES = [30_000, 300_000, 3_000_000]
-# So many statements on one row make a batch, and so many that change rows.
+# How many statements on one row make a batch, and how many that change rows.
 STATEMENTS, CHANGES = 20_000, 5_000
-# About so many rows are looked at, or answered, in a batch of statements on many rows.
+# About how many rows a batch of statements on many rows looks at or answers.
 READ = 1_000_000
 MIXES = [80, 60, 40]
 # The rows of a range, in a thousandth of a percent of the table.
@@ -87,7 +87,7 @@ class Items:
         return [odd(self.size, count, seed) for seed in (3, 4)][: self.places]
 
     def changed(self, *steps):
-        """Does these steps, each some lines and their work, in one transaction, and gives the outcome of the second."""
+        """Does these steps, each some lines and their work, in one transaction, and returns the outcome of the second."""
         return self.program.in_one(lambda: [self.program.execute(*step) for step in steps])[1]
 
 

@@ -11,13 +11,13 @@ from programs import Ours, Theirs, fill, one_kind, repeated
 
 SIZES = [30_000, 300_000, 3_000_000]
 HUNDREDFOLD = 1_000_000
-# The sizes of the papers, at which the last three tests are done with other indexes too.
+# The sizes of the papers, at which the last three tests also use other indexes.
 SIZES_OF_ALL = [20_000, 30_000]
 # Nested loops are left out where they would compare more pairs.
 MOST_PAIRS = 1_000_000_000
 # A join is left out where it would have more rows.
 MOST_JOINED = 3_000_000
-# Standard deviations of how often values come, as shares of all values: few come most, or all come about alike.
+# Standard deviations of the repeated values, as shares of all values: a few are repeated most, or all about equally.
 SKEWED, UNIFORM = 0.1, 0.8
 RIVALS = ["hash", "tree", "nested loops"]
 
@@ -38,7 +38,7 @@ def shuffled(count, seed):
 
 
 def drawn(rows, percent, deviation, seed):
-    """So many values of which this percentage repeats one of the others: all of 0, 1 and so on once, and the rest drawn by a
+    """A number of values of which this percentage repeats one of the others: 0, 1 and so on once each, and the rest drawn from a
     normal distribution that is cut off."""
     draw = random.Random(seed)
     different = max(1, rows - rows * percent // 100)
@@ -78,8 +78,8 @@ class Joins:
             program.close()
 
     def measured(self, outer, inner, **more):
-        """The milliseconds of a join by line, which are measured once: under each policy, in SQLite, by what else is handed in, and
-        where `has_all`, with other indexes."""
+        """The milliseconds of a join by line, measured once: under each policy, in SQLite, by what else is handed in, and where
+        `has_all`, with other indexes."""
         if (outer.name, inner.name) not in self.known:
             self.known[outer.name, inner.name] = self.newly_measured(outer, inner, **more)
         return self.known[outer.name, inner.name]
@@ -95,7 +95,7 @@ class Joins:
         return best({**takes, **more}, 1000)
 
     def linked(self, outer, inner):
-        """What times a join by links: of a table whose rows refer to those that the outer ones are joined with."""
+        """A join by links, ready to be timed: of a new table whose rows refer to the rows that the outer ones are joined with."""
         program, name = self.programs["auto"], f"{outer.name}_to_{inner.name}"
         key_of = {value: key for key, value in enumerate(inner.values)}
         is_met = [value in key_of for value in outer.values]
@@ -109,7 +109,7 @@ class Joins:
         return functools.partial(asked, program, text)
 
 
-# What a policy is called where it says less than its plan.
+# Policies that are called by their plan.
 LINES = {"scan": "nested loops"}
 
 
@@ -183,11 +183,12 @@ def by_cardinality(loaded, put):
 
 
 def by_part(is_inner, loaded, put):
-    """Joins of the whole table with parts of the other one, which are the inner or the outer ones."""
+    """Joins of the whole table with parts of the other one, which are the inner or the outer ones. Where a part is the whole of the
+    other table, both are the join of test 1."""
     for size in SIZES:
         programs = of_different_values(loaded, size)
         for percent in shares(size):
-            outer, inner = (whole(size), part(size, percent)) if is_inner else (part(size, percent), whole(size))
+            outer, inner = (whole(size), part(size, percent)) if is_inner or percent == 100 else (part(size, percent), whole(size))
             links = {"links": programs.linked(outer, inner)} if programs.has_all and percent < 100 else {}
             put(of_rows(size), percent, programs.measured(outer, inner, **links))
 
@@ -214,7 +215,7 @@ def by_selectivity(loaded, put):
 
 
 def met(values, percent):
-    """A table with these values, of which all but a percentage are changed to such as no other table has."""
+    """A table with these values, of which all but a percentage are changed to values that no other table has."""
     different = max(values) + 1
     rank, kept = shuffled(different, 3), different * percent // 100
     return Table(f"s{percent}", array.array("q", (value if rank[value] < kept else value + different for value in values)))

@@ -1,17 +1,17 @@
-"""What an experiment is, how its lines are timed by turns, and what its figures tell of `auto`."""
+"""What an experiment is, how its lines are timed in alternation, and where `auto` is slower than another policy."""
 
 from collections import defaultdict
 from typing import Callable, NamedTuple
 
 ROUNDS = 5
-# What took so many seconds in all is not done again.
+# A line that has taken this many seconds in all is not repeated.
 ENOUGH = 0.25
-# `auto` is told where it takes over so many times of the best policy.
+# Where `auto` takes more than this many times of the best policy, that is reported.
 MOST_OF_THE_BEST = 1.2
 
 
 class Experiment(NamedTuple):
-    """An experiment: what stands on its axes, and a function that measures it and hands on each figure."""
+    """An experiment: what its axes show, and a function that measures it and hands on each figure."""
 
     name: str
     title: str
@@ -22,7 +22,7 @@ class Experiment(NamedTuple):
     rivals: dict = {}
     is_log_x: bool = True
     is_log_y: bool = True
-    # Lines that are so far from the others that the picture leaves them out.
+    # Lines that the picture leaves out, as they are far from the others.
     not_drawn: tuple = ()
 
 
@@ -78,7 +78,7 @@ def number(value):
 
 
 def best(takes, factor=1.0):
-    """The least seconds of each of these by name, times a factor. They are done by turns, and all must answer the same rows."""
+    """The least seconds of each of these by name, times a factor. They alternate, and all must answer the same rows."""
     seconds, spent, answers = {}, defaultdict(float), set()
     for _ in range(ROUNDS):
         for name, take in takes.items():

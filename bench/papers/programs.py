@@ -40,7 +40,7 @@ class Work(NamedTuple):
 
 
 class Outcome(NamedTuple):
-    """What a batch took, how many rows it answered, and the sum of their cells."""
+    """The seconds of a batch, the number of rows that it answered, and the sum of their cells."""
 
     seconds: float
     rows: int
@@ -61,7 +61,7 @@ def repeated(times):
 
 
 def want_sqlite():
-    """Sees that the header and the library of SQLite are there."""
+    """Installs the header and the library of SQLite where they are missing."""
     seeks = ["cc", "-E", "-include", "sqlite3.h", "-x", "c", "/dev/null"]
     if subprocess.run(seeks, capture_output=True, check=False).returncode:
         subprocess.run(["apt-get", "install", "-qq", "-y", "libsqlite3-dev"], check=True, stdout=subprocess.DEVNULL)
