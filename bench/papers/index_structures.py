@@ -5,10 +5,9 @@ import functools
 import random
 from typing import NamedTuple
 
-from measuring import Experiment, best, of_rows
+from measuring import SIZES, Experiment, best, of_rows
 from programs import Ours, Theirs, Work, fill, one_kind, repeated
 
-SIZES = [30_000, 300_000, 3_000_000]
 # How many statements on one row make a batch, and how many that change rows.
 STATEMENTS, CHANGES = 20_000, 5_000
 # About how many rows a batch of statements on many rows looks at or answers.

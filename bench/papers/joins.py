@@ -6,11 +6,9 @@ import random
 import time
 from typing import NamedTuple
 
-from measuring import Experiment, best, of_rows
+from measuring import HUNDREDFOLD, SIZES, Experiment, best, of_rows
 from programs import Ours, Theirs, fill, one_kind, repeated
 
-SIZES = [30_000, 300_000, 3_000_000]
-HUNDREDFOLD = 1_000_000
 # The sizes of the papers, at which the last three tests also use other indexes.
 SIZES_OF_ALL = [20_000, 30_000]
 # Nested loops are left out where they would compare more pairs.

@@ -3,6 +3,10 @@
 from collections import defaultdict
 from typing import Callable, NamedTuple
 
+# The number of items in the papers, and ten and a hundred times that.
+SIZES = [30_000, 300_000, 3_000_000]
+# Some lines and places are left out in tables of at least this many rows.
+HUNDREDFOLD = 1_000_000
 ROUNDS = 5
 # A line that has taken this many seconds in all is not repeated.
 ENOUGH = 0.25

@@ -3,11 +3,10 @@
 import functools
 import time
 
-from joins import HUNDREDFOLD, UNIFORM, drawn, shuffled
-from measuring import Experiment, best, of_rows
+from joins import UNIFORM, drawn, shuffled
+from measuring import HUNDREDFOLD, SIZES, Experiment, best, of_rows
 from programs import Ours, Theirs, fill, repeated
 
-SIZES = [30_000, 300_000, 3_000_000]
 TEXT = "select distinct x from t"
 
 
