@@ -1,7 +1,8 @@
 //! Dump: the rows of one table as a block of CSV.
 
-ghost use Rattle.std.specs.Prelude.{◌≡◌, ◌≢◌, ◌++◌, ◌<◌, ◌≤◌, ℕ, List, Ok, Err, Some, IsSome, IfOk, IfErr, OnOk, length, map, slice_get, ◌⊎◌};
+ghost use Rattle.std.specs.Prelude.{◌≡◌, ◌++◌, ◌<◌, ◌≤◌, ℕ, [], List, Some, IsSome, IfOk, IfErr, OnOk, length, map, slice_get, ◌⊎◌};
 ghost use Rattle.std.specs.FinMap as finite;
+ghost use Rattle.std.specs.Io.KnownBytes.{Appends};
 ghost use Rattle.std.specs.List.{flat_map};
 ghost use Rattle.plain_tables.specs.AnswerText.{answer_text, text_line};
 ghost use Rattle.plain_tables.specs.Csv.{row_record};
@@ -12,12 +13,14 @@ ghost use Rattle.plain_tables.specs.Tables.{Table};
 ghost use Rattle.plain_tables.specs.declared.command.Command.TheVariants as command;
 ghost use Rattle.plain_tables.specs.declared.refusal.Refusal.TheVariants as refusal;
 ghost use Rattle.plain_tables.specs.declared.resolved.Resolved.TheVariants as resolved;
-ghost use Rattle.mm_relation.specs.State.{tree_list, IsCurrent, linked_keys};
+ghost use Rattle.mm_relation.specs.State.{tree_list};
 ghost use Rattle.mm_catalog.specs.Picked.{seen_values};
 ghost use Rattle.mm_catalog.specs.Seen.{database_of};
 ghost use Rattle.mm_session.specs.Dumps.{IsWithin, IsPast, GoesOnWithin, GoesPast, IsGivenUp};
 
 use super::Executor;
+use super::rows::push_whole;
+use super::sink::{Records, RowSink};
 use crate::answer::Answer;
 use mm_catalog::Catalog;
 use mm_catalog::laws::a_catalog_is_consistent;
@@ -26,7 +29,7 @@ use mm_lang::print_load;
 use mm_relation::laws::a_relation_is_kept;
 use mm_relation::{Relation, Relations, TupleRef};
 use no_memory::NoMemory;
-use plain_tables::{Column, ColumnNumber, Refusal, StoredValue, TableNumber, Text};
+use plain_tables::{Column, Refusal, TableNumber, Text};
 use std::alloc::Global;
 use std::mem;
 
@@ -41,56 +44,54 @@ fn names_of(alloc: Global, columns: &[Column]) -> Result<Vec<Text>, NoMemory>
     Ok(names)
 }
 
-// Puts the values of a row behind the others.
-fn push_lent_row<'a>(
-    values: &mut Vec<&'a StoredValue>,
-    catalog: &'a Catalog,
-    relation: &'a Relation,
-    r: TupleRef,
-) -> Result<(), NoMemory>
-    requires held { IsSome (finite.get relation.now.rows r) }
-    requires current { IsCurrent (linked_keys relation.now.targets catalog.now.relations) relation.now }
-    ensures { OnOk result (map (λ v. v.now) values.new.items ≡ map (λ v. v.now) values.old.items ++ seen_values catalog.now relation.now r) }
-{
-    a_relation_is_kept(relation);
-    let row = relation.row(r);
-    for column in 0..relation.schema().columns.len() {
-        values.push(row.value(ColumnNumber(column), catalog))?;
-    }
-    Ok(())
-}
-
 // Refuses a front of a block that is past the limit.
-fn check_length(records: &RecordWriter<Answer>, limit: usize) -> Result<(), Refusal>
-    ensures within { OnOk result (IsWithin limit records.now.bytes) }
-    ensures past { IfErr result (λ e. (e ≡ refusal.DumpTooLong) × IsPast limit records.now.bytes) }
+fn check_length(front: &Answer, limit: usize) -> Result<(), Refusal>
+    ensures within { OnOk result (IsWithin limit (Some front.now)) }
+    ensures past { IfErr result (λ e. (e ≡ refusal.DumpTooLong) × IsPast limit (Some front.now)) }
 {
-    if records.get_ref().len() > limit {
+    if front.len() > limit {
         return Err(Refusal::DumpTooLong);
     }
     Ok(())
 }
 
+// Puts the record of a row behind those that are written.
+fn push_record<'a>(
+    records: &mut Records<'a>,
+    catalog: &'a Catalog,
+    relation: &'a Relation,
+    r: TupleRef,
+) -> Result<(), NoMemory>
+    requires ended { records.old.part ≡ [] }
+    requires some { 0 < length relation.now.schema.columns }
+    requires held { IsSome (finite.get relation.now.rows r) }
+    requires lent { (n : ℕ) × (slice_get catalog.now.relations n ≡ Some relation.now) }
+    ensures written { OnOk result (Appends records.old.bytes records.new.bytes (row_record (seen_values catalog.now relation.now r))) }
+    ensures ended { OnOk result (records.new.part ≡ []) }
+{
+    push_whole(records, catalog, relation, r)?;
+    records.end_row()
+}
+
 // Puts the record of a row behind a front of a block that is within the limit, and refuses the block where it is past it then.
-fn push_row<'a>(
-    records: &mut RecordWriter<Answer>,
+fn push_within<'a>(
+    records: &mut Records<'a>,
     limit: usize,
-    values: &mut Vec<&'a StoredValue>,
     catalog: &'a Catalog,
     relation: &'a Relation,
     r: TupleRef,
 ) -> Result<(), Refusal>
     requires within { IsWithin limit records.old.bytes }
+    requires ended { records.old.part ≡ [] }
     requires some { 0 < length relation.now.schema.columns }
     requires held { IsSome (finite.get relation.now.rows r) }
-    requires current { IsCurrent (linked_keys relation.now.targets catalog.now.relations) relation.now }
+    requires lent { (n : ℕ) × (slice_get catalog.now.relations n ≡ Some relation.now) }
     ensures pushed { OnOk result (GoesOnWithin limit records.old.bytes records.new.bytes (row_record (seen_values catalog.now relation.now r))) }
+    ensures ended { OnOk result (records.new.part ≡ []) }
     ensures refused { IfErr result (λ e. (e ≡ refusal.NoMemory) ⊎ ((e ≡ refusal.DumpTooLong) × GoesPast limit records.old.bytes records.new.bytes (row_record (seen_values catalog.now relation.now r)))) }
 {
-    values.clear();
-    push_lent_row(values, catalog, relation, r)?;
-    records.push_values(values)?;
-    check_length(records, limit)
+    push_record(records, catalog, relation, r)?;
+    check_length(records.written(), limit)
 }
 
 // Puts the line that loads the block into the table in front of the block, which begins at an index of the answer.
@@ -113,24 +114,22 @@ fn insert_load_line(
 impl Executor {
     // Each row as a record, in the order of their keys, behind a front of a block that is within the limit. The record that takes
     // the block past it is the last that is made.
-    fn push_rows(
-        &self,
-        records: &mut RecordWriter<Answer>,
+    fn push_rows<'a>(
+        &'a self,
+        records: &mut Records<'a>,
         limit: usize,
-        relation: &Relation,
+        relation: &'a Relation,
     ) -> Result<(), Refusal>
         requires within { IsWithin limit records.old.bytes }
+        requires ended { records.old.part ≡ [] }
         requires some { 0 < length relation.now.schema.columns }
-        requires current { IsCurrent (linked_keys relation.now.targets self.now.catalog.relations) relation.now }
+        requires lent { (n : ℕ) × (slice_get self.now.catalog.relations n ≡ Some relation.now) }
         ensures pushed { OnOk result (GoesOnWithin limit records.old.bytes records.new.bytes (flat_map row_record (map (seen_values self.now.catalog relation.now) (tree_list relation.now.by_key)))) }
         ensures refused { IfErr result (λ e. (e ≡ refusal.NoMemory) ⊎ ((e ≡ refusal.DumpTooLong) × IsGivenUp limit records.old.bytes records.new.bytes (map (seen_values self.now.catalog relation.now) (tree_list relation.now.by_key)))) }
     {
         a_relation_is_kept(relation);
-        let Ok(mut values) = Vec::with_capacity(self.alloc, relation.schema().columns.len()) else {
-            return Err(Refusal::NoMemory);
-        };
         for r in relation.walk() {
-            push_row(records, limit, &mut values, &self.catalog, relation, r)?;
+            push_within(records, limit, &self.catalog, relation, r)?;
         }
         Ok(())
     }
@@ -146,11 +145,13 @@ impl Executor {
         let relation = self.catalog.at(table);
         let limit = page.len() + self.catalog.limits().block as usize;
         let names = names_of(self.alloc, relation.schema().columns.as_slice())?;
-        let mut records = RecordWriter::new(self.alloc, page);
-        records.push_names(&names)?;
-        check_length(&records, limit)?;
+        let mut writer = RecordWriter::new(self.alloc, page);
+        writer.push_names(&names)?;
+        check_length(writer.get_ref(), limit)?;
+        let mut records = Records::new(self.alloc, writer, names.len())?;
         self.push_rows(&mut records, limit, relation)?;
-        Ok(records.finish()?)
+        let (whole, _) = records.finish()?;
+        Ok(whole)
     }
 
     /// Adds the line that loads a table's rows to the answer, and the block that it loads. Where the block passes its limit, the

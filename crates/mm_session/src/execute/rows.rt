@@ -20,6 +20,7 @@ use plain_tables::{ColumnNumber, Place, Shown};
 use temp_list::TempList;
 
 /// Puts the values at these places of a row of one table behind those of the row that the sink has.
+#[inline]
 pub fn push_placed<'a, S: RowSink<'a>>(
     sink: &mut S,
     catalog: &'a Catalog,
@@ -42,6 +43,7 @@ pub fn push_placed<'a, S: RowSink<'a>>(
 }
 
 /// Puts the values of a row of one table, of all its columns, behind those of the row that the sink has.
+#[inline]
 pub fn push_whole<'a, S: RowSink<'a>>(
     sink: &mut S,
     catalog: &'a Catalog,
@@ -62,6 +64,7 @@ pub fn push_whole<'a, S: RowSink<'a>>(
 }
 
 // Puts the values that are shown of a row of one table behind those of the row that the sink has.
+#[inline]
 fn push_columns<'a, S: RowSink<'a>>(
     sink: &mut S,
     catalog: &'a Catalog,
@@ -81,6 +84,7 @@ fn push_columns<'a, S: RowSink<'a>>(
 }
 
 /// Puts a row of one table into a sink: the values that are shown of it.
+#[inline]
 pub fn push_shown<'a, S: RowSink<'a>>(
     sink: &mut S,
     catalog: &'a Catalog,

@@ -82,6 +82,13 @@ impl<'a> Records<'a> {
         })
     }
 
+    /// What is written to, with the bytes so far.
+    pub fn written(&self) -> &Answer
+        ensures { Some result.now ≡ self.now.bytes }
+    {
+        self.writer.get_ref()
+    }
+
     /// Gives back what was written to, and tells how many rows were.
     pub fn finish(self) -> Result<(Answer, usize), NoMemory>
         ensures { IfOk result (λ made. Keeps self.entry.bytes (Some made.0) × (made.1 ≡ self.entry.count)) }
@@ -104,6 +111,7 @@ impl<'a> RowSink<'a> for Records<'a> {
         Ok(())
     }
 
+    #[inline]
     fn end_row(&mut self) -> Result<(), NoMemory> {
         if self.values.is_empty() {
             return Ok(());

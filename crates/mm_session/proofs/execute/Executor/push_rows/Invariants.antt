@@ -1,4 +1,4 @@
-use Rattle.std.proofs.Common.{◌≡◌, ◌++◌, map}
+use Rattle.std.proofs.Common.{◌≡◌, ◌++◌, [], map}
 use Rattle.std.specs.List.{flat_map}
 use Rattle.ttree.specs.Held.{rest_of}
 use Rattle.plain_tables.specs.Csv.{row_record}
@@ -11,4 +11,5 @@ abbrev pub invariant-loop-r : goal.invariant-loop-r
 invariant-loop-r l = record {
   split : (tree_list l.relation.by_key) ≡ l.yielded ++ rest_of l.r-iterator;
   written : GoesOnWithin l.limit l.fn.records.bytes l.records.bytes (flat_map row_record (map (seen_values l.self.catalog l.relation) l.yielded));
+  ended : l.records.part ≡ [];
 }
