@@ -6,7 +6,6 @@ use crate::order::{Author, Book};
 use crate::shelf::{Refused, Shelf};
 use lin_hash::LinHash;
 use mm_index::{ExactIndex, OrderedIndex, PlainBag, SortedVec};
-use no_memory::NoMemory;
 use part_raw::{MAX_TUPLES, Partitions, TupleRef};
 use std::alloc::Global;
 use std::test::Fail;
@@ -23,9 +22,9 @@ fn put_author(
     alloc: Global,
     authors: &mut Partitions<Author>,
     key: u32,
-) -> Result<TupleRef, NoMemory> {
+) -> Result<TupleRef, Refused> {
     if authors.len() >= MAX_TUPLES || authors.width() != 1 {
-        return Err(NoMemory);
+        return Err(Refused::Full);
     }
     let mut cells = Vec::new(alloc);
     cells.push(Author { key })?;
@@ -115,10 +114,10 @@ fn hold<I: OrderedIndex + Drop, E: ExactIndex + Drop>(
 ) -> Result<(), Fail>
     requires { I.items tree ≡ [] }
 {
-    let mut authors = Partitions::new(rt.alloc(), 1)?;
+    let mut authors = Partitions::new(rt.alloc(), 1);
     let first = put_author(rt.alloc(), &mut authors, FIRST)?;
     let second = put_author(rt.alloc(), &mut authors, SECOND)?;
-    let mut shelf = Shelf::new(rt.alloc(), &authors, tree, hash)?;
+    let mut shelf = Shelf::new(rt.alloc(), &authors, tree, hash);
     println!(rt; "held: nothing")?;
     fill_and_empty(rt, &mut shelf, first, second)?;
     drop(shelf);

@@ -10,12 +10,14 @@ use crate::order::{Author, Book, RankOrder, RankProbe, rank};
 use mm_index::{ExactIndex, MAX_LEN, OrderProbe, OrderedIndex};
 use no_memory::NoMemory;
 use part_raw::{MAX_TUPLES, Partitions, TupleRef};
-use std::alloc::Global;
+use std::alloc::{AllocFailed, Global};
 
 /// Why a shelf stays as it is.
 #[derive(Debug, Drop)]
 pub enum Refused {
     NoMemory,
+    /// The store, or an index, has no room for another.
+    Full,
     NoAuthor,
     NoBook,
     RankTaken(TupleRef),
@@ -23,6 +25,12 @@ pub enum Refused {
 
 impl From<NoMemory> for Refused {
     fn from(_: NoMemory) -> Refused {
+        Refused::NoMemory
+    }
+}
+
+impl<T: Drop> From<AllocFailed<T>> for Refused {
+    fn from(_: AllocFailed<T>) -> Refused {
         Refused::NoMemory
     }
 }
@@ -41,37 +49,28 @@ pub struct Shelf<'a, I, E> {
 
 impl<'a, I: OrderedIndex, E: ExactIndex> Shelf<'a, I, E> {
     /// A shelf with no books, over two indexes that hold nothing.
-    pub fn new(
-        alloc: Global,
-        authors: &'a Partitions<Author>,
-        tree: I,
-        hash: E,
-    ) -> Result<Shelf<'a, I, E>, NoMemory>
-    where
-        I: Drop,
-        E: Drop,
+    pub fn new(alloc: Global, authors: &'a Partitions<Author>, tree: I, hash: E) -> Shelf<'a, I, E>
         requires { I.items tree ≡ [] }
-        ensures { IfOk result (λ shelf. IsKept shelf.authors.now.tuples shelf.books.tuples (I.items shelf.tree) (E.entries shelf.hash)) }
+        ensures { IsKept result.authors.now.tuples result.books.tuples (I.items result.tree) (E.entries result.hash) }
     {
-        let books = Partitions::new(alloc, 1)?;
-        Ok(Shelf {
+        Shelf {
             alloc,
             authors,
-            books,
+            books: Partitions::new(alloc, 1),
             tree,
             hash,
-        })
+        }
     }
 
     // Puts a book into the store, and into no index.
-    fn put(&mut self, book: Book) -> Result<TupleRef, NoMemory>
+    fn put(&mut self, book: Book) -> Result<TupleRef, Refused>
         requires { 0 < self.old.books.free }
         ensures put { IfOk result (λ r. (map.get self.old.books.tuples r ≡ None) × (self.new.books.tuples ≡ map.insert self.old.books.tuples r (tuple (book ∷ []) 0))) }
         ensures err { OnErr result (self.new ≡ self.old) }
         ensures rest { self.new ≡ record self.old { books = self.new.books } }
     {
         if self.books.width() != 1 {
-            return Err(NoMemory);
+            return Err(Refused::Full);
         }
         let mut cells = Vec::new(self.alloc);
         cells.push(book)?;
@@ -93,7 +92,7 @@ impl<'a, I: OrderedIndex, E: ExactIndex> Shelf<'a, I, E> {
     }
 
     /// Makes sure of room for a book in the store, and for so many in the indexes.
-    pub fn reserve(&mut self, n: usize) -> Result<(), NoMemory>
+    pub fn reserve(&mut self, n: usize) -> Result<(), Refused>
         requires most { n ≤ MAX_LEN }
         requires kept { IsKept self.old.authors.now.tuples self.old.books.tuples (I.items self.old.tree) (E.entries self.old.hash) }
         ensures kept { IsKept self.new.authors.now.tuples self.new.books.tuples (I.items self.new.tree) (E.entries self.new.hash) }
@@ -103,14 +102,14 @@ impl<'a, I: OrderedIndex, E: ExactIndex> Shelf<'a, I, E> {
         ensures hash_room { OnOk result (n ≤ E.room self.new.hash) }
         ensures hash_short { OnOk result (length (E.entries self.new.hash) < MAX_LEN) }
     {
-        if self.books.len() >= MAX_TUPLES {
-            return Err(NoMemory);
+        if self.books.len() >= MAX_TUPLES || self.hash.len() >= MAX_LEN - n {
+            return Err(Refused::Full);
         }
         self.books.reserve()?;
         self.tree.reserve(n)?;
         self.hash.reserve(n)?;
         if self.tree.len() >= MAX_LEN || self.hash.len() >= MAX_LEN {
-            return Err(NoMemory);
+            return Err(Refused::Full);
         }
         Ok(())
     }

@@ -15,6 +15,9 @@ fn numbered(number: u32) -> TupleRef {
 }
 
 fn add<E: ExactIndex>(index: &mut E, hash: u32, r: TupleRef) -> Result<(), NoMemory> {
+    if index.len() >= MAX_LEN - 1 {
+        return Ok(());
+    }
     index.reserve(1)?;
     if index.len() < MAX_LEN {
         index.insert(hash, r);

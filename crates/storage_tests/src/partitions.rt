@@ -20,13 +20,6 @@ impl Drop for Counted<'_> {
     }
 }
 
-fn store_of<'a>(rt: &impl Abort, alloc: Global, width: usize) -> Partitions<Counted<'a>> {
-    match Partitions::new(alloc, width) {
-        Ok(store) => store,
-        Err(_) => panic!(rt; "no store of {width} cells"),
-    }
-}
-
 fn counts_are(rt: &impl Abort, store: &Partitions<Counted<'_>>, len: u64, free: u64) {
     assert!(rt; store.len() == len && store.free() == free);
 }
@@ -92,7 +85,7 @@ fn remove_thirds(rt: &impl Abort, store: &mut Partitions<Counted<'_>>, refs: &[T
 #[test]
 fn a_partition_has_256_slots(rt: HostRuntime) {
     let drops = Cell::new(0);
-    let mut store = store_of(&rt, rt.alloc(), 1);
+    let mut store = Partitions::new(rt.alloc(), 1);
     counts_are(&rt, &store, 0, 0);
     reserve(&rt, &mut store);
     counts_are(&rt, &store, 0, 256);
@@ -105,7 +98,7 @@ fn a_partition_has_256_slots(rt: HostRuntime) {
 #[test]
 fn what_is_taken_is_what_was_put(rt: HostRuntime) {
     let drops = Cell::new(0);
-    let mut store = store_of(&rt, rt.alloc(), 3);
+    let mut store = Partitions::new(rt.alloc(), 3);
     let refs = fill(&rt, rt.alloc(), &mut store, &drops, 256);
     let mut cells = Vec::new(rt.alloc());
     assert!(&rt; cells.reserve(3).is_ok());
@@ -122,7 +115,7 @@ fn what_is_taken_is_what_was_put(rt: HostRuntime) {
 #[test]
 fn a_cell_is_replaced_in_its_place(rt: HostRuntime) {
     let drops = Cell::new(0);
-    let mut store = store_of(&rt, rt.alloc(), 3);
+    let mut store = Partitions::new(rt.alloc(), 3);
     let refs = fill(&rt, rt.alloc(), &mut store, &drops, 2);
     let r = *refs.as_slice().get(1).expect(&rt, "a reference");
     assert!(&rt; store.holds(r) && store.width() == 3);
@@ -138,7 +131,7 @@ fn a_cell_is_replaced_in_its_place(rt: HostRuntime) {
 #[test]
 fn cells_are_written_where_they_are_lent(rt: HostRuntime) {
     let drops = Cell::new(0);
-    let mut store = store_of(&rt, rt.alloc(), 3);
+    let mut store = Partitions::new(rt.alloc(), 3);
     let refs = fill(&rt, rt.alloc(), &mut store, &drops, 2);
     let before = *refs.as_slice().first().expect(&rt, "a reference");
     let r = *refs.as_slice().get(1).expect(&rt, "a reference");
@@ -154,7 +147,7 @@ fn cells_are_written_where_they_are_lent(rt: HostRuntime) {
 #[test]
 fn a_count_stands_beside_the_cells(rt: HostRuntime) {
     let drops = Cell::new(0);
-    let mut store = store_of(&rt, rt.alloc(), 3);
+    let mut store = Partitions::new(rt.alloc(), 3);
     let refs = fill(&rt, rt.alloc(), &mut store, &drops, 2);
     let r = *refs.as_slice().get(1).expect(&rt, "a reference");
     assert!(&rt; store.holds(r) && !store.is_counted());
@@ -194,7 +187,7 @@ fn put_numbers(
 
 /// Counts are kept of 300 tuples, or of none where that is refused.
 fn keep_counts_of_300(rt: &impl Abort, alloc: Global) -> Result<(), NoMemory> {
-    let mut store = Partitions::new(alloc, 1)?;
+    let mut store = Partitions::new(alloc, 1);
     put_numbers(rt, alloc, &mut store, 300)?;
     let kept = store.keep_counts().is_ok();
     assert!(rt; store.is_counted() == kept);
@@ -210,7 +203,7 @@ fn counting_under_refusal(rt: HostRuntime) {
 /// It names the moments at which `tests/test_given_back.py` compares what is held.
 #[test]
 fn counts_are_forgotten(rt: HostRuntime) -> Result<(), Fail> {
-    let mut store = Partitions::<u64>::new(rt.alloc(), 1)?;
+    let mut store = Partitions::<u64>::new(rt.alloc(), 1);
     println!(rt; "held: nothing")?;
     assert!(&rt; store.len() < MAX_TUPLES);
     store.reserve()?;
@@ -254,7 +247,7 @@ fn counts_go_with_their_partition(rt: HostRuntime) -> Result<(), Fail> {
     println!(rt; "held: nothing")?;
     for counted in [false, true] {
         let kept = if counted { "counted" } else { "uncounted" };
-        let mut store = Partitions::new(rt.alloc(), 1)?;
+        let mut store = Partitions::new(rt.alloc(), 1);
         put_numbers(&rt, rt.alloc(), &mut store, 768)?;
         if counted {
             store.keep_counts()?;
@@ -274,7 +267,7 @@ fn counts_go_with_their_partition(rt: HostRuntime) -> Result<(), Fail> {
 #[test]
 fn each_cell_is_dropped_once(rt: HostRuntime) {
     let drops = Cell::new(0);
-    let mut store = store_of(&rt, rt.alloc(), 3);
+    let mut store = Partitions::new(rt.alloc(), 3);
     let refs = fill(&rt, rt.alloc(), &mut store, &drops, 600);
     counts_are(&rt, &store, 600, 168);
     remove_thirds(&rt, &mut store, refs.as_slice());
@@ -295,7 +288,7 @@ fn remove_all(rt: &impl Abort, store: &mut Partitions<Counted<'_>>, refs: &[Tupl
 #[test]
 fn a_release_gives_back_the_partitions_behind_the_last_tuple(rt: HostRuntime) {
     let drops = Cell::new(0);
-    let mut store = store_of(&rt, rt.alloc(), 3);
+    let mut store = Partitions::new(rt.alloc(), 3);
     let refs = fill(&rt, rt.alloc(), &mut store, &drops, 768);
     let refs = refs.as_slice();
     counts_are(&rt, &store, 768, 0);
@@ -333,7 +326,7 @@ fn a_release_gives_back_the_partitions_behind_the_last_tuple(rt: HostRuntime) {
 #[test]
 fn a_partition_in_the_middle_gives_its_memory_back_and_is_filled_again(rt: HostRuntime) {
     let drops = Cell::new(0);
-    let mut store = store_of(&rt, rt.alloc(), 3);
+    let mut store = Partitions::new(rt.alloc(), 3);
     let refs = fill(&rt, rt.alloc(), &mut store, &drops, 1_024);
     let refs = refs.as_slice();
     remove_all(
@@ -364,13 +357,7 @@ fn a_partition_in_the_middle_gives_its_memory_back_and_is_filled_again(rt: HostR
 }
 
 #[test]
-fn a_tuple_that_cannot_be_addressed_is_refused(rt: HostRuntime) {
+fn the_widest_tuples_have_a_store(rt: HostRuntime) {
     let widest = Partitions::<u64>::new(rt.alloc(), MAX_WIDTH);
-    assert!(&rt; widest.is_ok());
-    let none = Partitions::<u64>::new(rt.alloc(), 0);
-    assert!(&rt; none.is_err());
-    let wider = Partitions::<u64>::new(rt.alloc(), MAX_WIDTH + 1);
-    assert!(&rt; wider.is_err());
-    let most = Partitions::<u64>::new(rt.alloc(), usize::MAX);
-    assert!(&rt; most.is_err());
+    assert!(&rt; widest.width() == MAX_WIDTH && widest.len() == 0 && widest.free() == 0);
 }

@@ -4,7 +4,7 @@
 use lin_hash::RowHash;
 use mm_index::{ExactIndex, MAX_LEN, PlainBag};
 use no_memory::NoMemory;
-use part_raw::TupleRef;
+use part_raw::{MAX_TUPLES, TupleRef};
 use std::alloc::Global;
 use std::process::Abort;
 
@@ -14,6 +14,9 @@ fn numbered(number: u32) -> TupleRef {
 
 // Puts a row in where it stands under no hash.
 fn add(index: &mut RowHash, hash: u32, r: TupleRef) -> Result<(), NoMemory> {
+    if u64::from(r.number) >= MAX_TUPLES {
+        return Ok(());
+    }
     index.reserve(1)?;
     index.cover(r)?;
     if index.len() < MAX_LEN && !index.holds(r) {
