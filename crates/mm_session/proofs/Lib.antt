@@ -11,6 +11,7 @@ pub mod KeptLemmas
 pub mod LineLemmas
 pub mod ListingLemmas
 pub mod MemberLemmas
+pub mod MemoryLemmas
 pub mod NoLinks
 pub mod OnlyRowLemmas
 pub mod PerformLemmas

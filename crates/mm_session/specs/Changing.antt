@@ -7,6 +7,7 @@ use Rattle.plain_tables.specs.declared.refusal.Refusal.{Refusal}
 use Rattle.plain_tables.specs.declared.refusal.Refusal.TheVariants.{NoMemory}
 use Rattle.plain_tables.specs.declared.resolved.Resolved.{Resolved}
 use Rattle.plain_tables.specs.declared.resolved.Resolved.TheVariants as resolved
+use Rattle.temp_list.specs.OnlyRow.{AskForOneRow}
 use Rattle.mm_session.specs.Sessions.{State}
 
 -- an insert, an update or a delete
@@ -15,6 +16,11 @@ IsChange (resolved.Insert n row) = Unit {0}
 IsChange (resolved.Update n assignments tests) = Unit {0}
 IsChange (resolved.Delete n tests) = Unit {0}
 IsChange r = ⊥
+
+-- A delete of which a test asks for the key, so that it is of one row at most: it needs no memory.
+abbrev pub IsDeleteByKey : Resolved → Type 0
+IsDeleteByKey (resolved.Delete n tests) = AskForOneRow tests
+IsDeleteByKey r = ⊥
 
 -- the effect came about, and changed so many rows
 abbrev pub HasChanged : State → Effect → ℕ → Type 0

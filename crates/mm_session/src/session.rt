@@ -1,6 +1,6 @@
 //! A session: tables, and a stream of requests that comes in pieces.
 
-ghost use Rattle.std.specs.Prelude.{◌≡◌, ◌<◌, ◌≤◌, ◌+◌, ◌++◌, ◌∷◌, ◌↔◌, [], ℕ, List, Err, true, false, length, IsTrue, IsErrOf, IfNone, IfOk, IfErr, IfSome, OnOk, OnErr};
+ghost use Rattle.std.specs.Prelude.{◌≡◌, ◌≢◌, ◌<◌, ◌≤◌, ◌+◌, ◌++◌, ◌∷◌, ◌↔◌, [], ℕ, List, Err, true, false, length, IsTrue, IsErrOf, IfNone, IfOk, IfErr, IfSome, OnOk, OnErr};
 ghost use Rattle.std.specs.Io.KnownBytes.{Keeps};
 
 use crate::answer::Answer;
@@ -49,8 +49,9 @@ impl Session {
     ghost use Rattle.mm_session.specs.IndexAnswers.{AnswersIndexes};
     ghost use Rattle.plain_tables.specs.Doing.{done};
     ghost use Rattle.plain_tables.specs.ResolvedLaws.{IsMeant};
+    ghost use Rattle.plain_tables.specs.declared.refusal.Refusal.TheVariants as refusal;
     ghost use Rattle.plain_tables.specs.declared.resolved.Resolved.TheVariants as resolved;
-    ghost use Rattle.mm_session.specs.Changing.{HasChanged, HasDeclined, IsChange, ShowsValues};
+    ghost use Rattle.mm_session.specs.Changing.{HasChanged, HasDeclined, IsChange, IsDeleteByKey, ShowsValues};
     ghost use Rattle.mm_session.specs.Columns.{columns_told};
     ghost use Rattle.mm_session.specs.Sessions.{State, Gains, Feeds, Finishes, BreaksOff, new_session};
 
@@ -150,13 +151,15 @@ impl Session {
         mem::swap(&mut self.responder.answer, answer);
     }
 
-    /// Does an insert, an update or a delete beside the stream, and tells how many rows it was about. The stream goes on as before.
+    /// Does an insert, an update or a delete beside the stream, and tells how many rows it was about. The stream goes on as before. A
+    /// delete by the key needs no memory.
     pub fn change(&mut self, command: &Resolved) -> Result<usize, Refusal>
         requires meant { IsMeant self.old.limits self.old.database command.now }
         requires change { IsChange command.now }
         ensures done { IfOk result (HasChanged self.new (done self.old.limits self.old.database command.now)) }
         ensures refused { IfErr result (HasDeclined self.old self.new (done self.old.limits self.old.database command.now)) }
         ensures unchanged { OnErr result (self.new ≡ self.old) }
+        ensures by_key { IsDeleteByKey command.now → result ≢ Err refusal.NoMemory }
         ensures stream { StaysInStream self.old self.new }
     {
         self.responder.executor.change(command)

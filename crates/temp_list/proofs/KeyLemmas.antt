@@ -73,7 +73,7 @@ only_key relations s kept p to held passes same =
 
 module _ (relations : List RelationState) (s : RelationState) (kept : IsKept s) (key : Value) where
   -- a row that passes has the key
-  same_key : (r : TupleRef) → IsSome (finite.get s.rows r) → stands op.Eq (value_in relations s 0 r) key ≡ true → key_at s.rows r ≡ Some key
+  pub same_key : (r : TupleRef) → IsSome (finite.get s.rows r) → stands op.Eq (value_in relations s 0 r) key ≡ true → key_at s.rows r ≡ Some key
   same_key r held e = has_key relations s r held ∙ ap (λ (v : Value). Some v) (equal_one (value_in relations s 0 r) key e)
 
   -- the row that has the key is the one whose key equals it

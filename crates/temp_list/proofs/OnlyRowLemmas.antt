@@ -1,12 +1,14 @@
 -- The row that passes, where there is one at most.
-use Rattle.std.proofs.Common.{◌≡◌, ◌≢◌, ◌≤◌, ◌+◌, ◌<◌, ℕ, zero, suc, Bool, true, false, cond, List, [], ◌∷◌, ◌++◌, Option, None, Some, IsTrue, Ordering, is_some, filter, get_or, length, refl, sym, ap, ◌∙◌, subst, arith, append-nil, append_assoc}
+use Rattle.std.proofs.Common.{◌≡◌, ◌≢◌, ◌≤◌, ◌+◌, ◌<◌, ℕ, zero, suc, Bool, true, false, cond, List, [], ◌∷◌, ◌++◌, Option, None, Some, IsSome, IsTrue, Ordering, is_some, filter, get_or, length, refl, sym, ap, ◌∙◌, subst, arith, append-nil, append_assoc}
 use Rattle.std.specs.Cmp.{second_so}
-use Rattle.std.specs.List.{All, Contains, HoldsAt}
+use Rattle.std.specs.FinMap as finite
+use Rattle.std.specs.List.{All, Contains, HoldsAt, position}
+use Rattle.std.specs.Prelude.{IfSome, ◌==◌}
 use Rattle.std.specs.Option.{option_to_list}
 use Rattle.std.specs.Ordering.{is_eq, is_ge, ordering_index}
 use Rattle.std.specs.declared.cmp.Ordering.TheVariants.{Less, Equal, Greater}
-use Rattle.std.proofs.lemmas.List.{get_or-append-add, length-append}
-use Rattle.std.proofs.lemmas.Bool.{false_from_ne_true}
+use Rattle.std.proofs.lemmas.List.{get_or-append-add, get_or_default, length-append}
+use Rattle.std.proofs.lemmas.Bool.{and_parts, eqb-true, false_from_ne_true}
 use Rattle.std.proofs.lemmas.List.Elements.{All-filter, All-head, filter-append, filter_passes}
 use Rattle.std.proofs.lemmas.List.Kept.{IsNonDecreasingBy-filter}
 use Rattle.common_lemmas.proofs.Elements.{All-append_parts}
@@ -16,6 +18,7 @@ use Rattle.plain_tables.specs.declared.condition.Op.{Op}
 use Rattle.plain_tables.specs.declared.condition.Op.TheVariants as op
 use Rattle.plain_tables.specs.declared.resolved.Test.{Test}
 use Rattle.plain_tables.specs.declared.value.Value.{Value}
+use Rattle.plain_tables.specs.declared.value.Value.TheVariants.{Null}
 use Rattle.plain_tables.specs.Hashes.{low_hash}
 use Rattle.plain_tables.specs.Queries.{stands}
 use Rattle.mm_index.specs.Bag.{IsSameBag, with_hash}
@@ -23,13 +26,14 @@ use Rattle.mm_index.specs.Range.{NeverFalls, from_range}
 use Rattle.mm_index.proofs.Bags.{IsSameBag-sym, length-same_bag}
 use Rattle.mm_index.proofs.Refs.{Contains-same_refs}
 use Rattle.mm_relation.specs.Reading.{key_at}
+use Rattle.plan_chooser.proofs.Choices.{leftmost_passes}
 use Rattle.plan_chooser.specs.Plans.{hash_serves, is_equality, is_range, tree_serves}
 use Rattle.mm_relation.specs.Changes.{HasHash, HasTree, entries_of, has_hash_on, has_tree_on, list_of}
 use Rattle.mm_relation.specs.State.{RelationState, IsKept, IsCurrent, linked_keys, tree_list}
-use Rattle.temp_list.specs.OnlyRow.{AsksForKey, AsksForValue}
+use Rattle.temp_list.specs.OnlyRow.{AsksForKey, AsksForValue, is_for_key}
 use Rattle.temp_list.specs.Ranges.{place_of}
 use Rattle.temp_list.specs.Reading.{HasColumns, passing, row_passes, value_in}
-use Rattle.temp_list.proofs.KeyLemmas.{standing_found, standing_none}
+use Rattle.temp_list.proofs.KeyLemmas.{same_key, standing_found, standing_none}
 use Rattle.temp_list.proofs.RangeLemmas.{range_stands}
 use Rattle.temp_list.proofs.SearchLemmas.{IsSameBag-filter, filter_inner, hash_range, serves_tree, tree_in_order}
 use Rattle.temp_list.proofs.SelectLemmas.{passes_each, selected}
@@ -181,6 +185,10 @@ module _ (relations : List RelationState) (s : RelationState) (kept : IsKept s) 
   pub keyed_found : (r : TupleRef) → key_at s.rows r ≡ Some test.value → passing relations s tests ≡ filter (row_passes relations s tests) (r ∷ [])
   keyed_found r at = sym among_keyed ∙ ap (filter (row_passes relations s tests)) (standing_found relations s kept test.value r at)
 
+  -- a row that is held and passes is the one
+  pub keyed_passing : (r : TupleRef) → IsSome (finite.get s.rows r) → row_passes relations s tests r ≡ true → passing relations s tests ≡ r ∷ []
+  keyed_passing r held passes = keyed_found r (same_key relations s kept test.value r held (has_key r passes)) ∙ ap (λ b. cond b (r ∷ []) []) passes
+
   pub keyed_none : ((r : TupleRef) → key_at s.rows r ≢ Some test.value) → passing relations s tests ≡ []
   keyed_none none = sym among_keyed ∙ ap (filter (row_passes relations s tests)) (standing_none relations s kept test.value none)
 
@@ -195,3 +203,28 @@ module _ (relations : List RelationState) (s : RelationState) (kept : IsKept s) 
       subst (λ k. stands test.op (value_in relations s k r) test.value ≡ true) (sym asked.0)
       (subst (λ (o : Op). stands o (value_in relations s 0 r) test.value ≡ true) (sym asked.1) stands_so) in
       ap (λ ts. row_passes relations s ts r) (single tests n test alone asks.0 item) ∙ rw passes refl
+
+-- the same where no test is at hand
+any_test : Test
+any_test = record { column = record { 0 = 0 }; op = op.Eq; value = Null }
+
+pub one_passing : (relations : List RelationState) (s : RelationState) → IsKept s → (tests : List Test) → (n : ℕ) × AsksForKey tests n
+    → (r : TupleRef) → IsSome (finite.get s.rows r) → row_passes relations s tests r ≡ true → passing relations s tests ≡ r ∷ []
+one_passing relations s kept tests (n, asks) =
+    let test : Test = get_or tests n any_test in
+    keyed_passing relations s kept tests n asks test (get_or_default tests n any_test test asks.0)
+
+-- ---- the test that asks for a key
+
+equal_so : (o : Op) → is_equality o ≡ true → o ≡ op.Eq
+equal_so op.Eq e = refl
+equal_so o e = cc
+
+asks_so : (t : Test) → is_for_key t ≡ true → (t.column.0 ≡ 0) × (t.op ≡ op.Eq)
+asks_so t e =
+    let parts = and_parts (is_equality t.op) (t.column.0 == 0) e in
+    (eqb-true t.column.0 0 parts.1, equal_so t.op parts.0)
+
+pub leftmost_asks : (tests : List Test) (first : Option ℕ) → first ≡ position is_for_key tests → IfSome first (AsksForKey tests)
+leftmost_asks tests None e = tt
+leftmost_asks tests (Some n) e = let asks = leftmost_passes is_for_key tests (Some n) e in (asks.0, λ d. asks_so (get_or tests n d) (asks.1 d))

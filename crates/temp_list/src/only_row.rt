@@ -1,10 +1,10 @@
 //! The row of a table that passes tests, where there is one at most: it is found with no list of rows, and takes no memory.
-ghost use Rattle.std.specs.Prelude.{◌≡◌, IfSome};
+ghost use Rattle.std.specs.Prelude.{◌≡◌, ℕ, IfSome, IsSome, position};
 ghost use Rattle.std.specs.Option.{option_to_list};
 ghost use Rattle.mm_relation.specs.State.{IsCurrent, linked_keys};
 ghost use Rattle.plan_chooser.specs.Plans.{Fits};
 ghost use Rattle.plan_chooser.specs.declared.plans.SelectPlan.TheVariants as plans;
-ghost use Rattle.temp_list.specs.OnlyRow.{AsksForKey, AsksForValue};
+ghost use Rattle.temp_list.specs.OnlyRow.{AskForOneRow, AsksForKey, AsksForValue, is_for_key};
 ghost use Rattle.temp_list.specs.Reading.{HasColumns, passing};
 
 use crate::range_probe::RangeProbe;
@@ -114,12 +114,40 @@ fn only_by_tree<R: Relations>(
     Some(found)
 }
 
-/// The row of a table that passes the tests, where a plan shows that there is one at most: `Some(None)` where there is none. None
-/// where there may be more. It takes no memory.
-///
-/// By the tree of the key that is shown wherever a test asks for the key. By another index it is where a test asks for one value,
-/// and few of the rows that have this value fail another test.
-pub fn find_only_row<R: Relations>(
+// The row that passes the tests, of which one asks for its key: the first that does in the order of the keys.
+fn only_by_scan<R: Relations>(tables: &R, relation: &Relation, tests: &[Test]) -> Option<TupleRef>
+    requires current { IsCurrent (linked_keys relation.now.targets (R.tables tables.now)) relation.now }
+    requires columns { HasColumns relation.now tests.now }
+    requires key { (n : ℕ) × AsksForKey tests.now n }
+    ensures { passing (R.tables tables.now) relation.now tests.now ≡ option_to_list result }
+{
+    a_relation_is_kept(relation);
+    for r in relation.walk() {
+        if passes_all(tables, relation, r, tests) {
+            return Some(r);
+        }
+    }
+    None
+}
+
+// Whether a test asks for the row of one key.
+fn asks_for_key(test: &Test) -> bool
+    ensures { result ≡ is_for_key test.now }
+{
+    matches!(test.op, Op::Eq) && test.column.0 == 0
+}
+
+// The leftmost test that asks for the row of one key.
+#[tactic(auto, using(crate::proofs::OnlyRowLemmas::leftmost_asks))]
+fn key_test(tests: &[Test]) -> Option<usize>
+    ensures first { result ≡ position is_for_key tests.now }
+    ensures asks { IfSome result (AsksForKey tests.now) }
+{
+    tests.iter().position(asks_for_key)
+}
+
+// By a plan: the row that passes, or that there is none. None where there may be more.
+fn only_by_plan<R: Relations>(
     tables: &R,
     relation: &Relation,
     plan: SelectPlan,
@@ -144,4 +172,32 @@ pub fn find_only_row<R: Relations>(
             }
         }
     }
+}
+
+/// The row of a table that passes the tests, where it is shown that there is one at most: `Some(None)` where there is none. None
+/// where there may be more. It takes no memory.
+///
+/// It is shown wherever a test asks for the key, whatever the plan is. By an index it also is where a test asks for one value, and
+/// few of the rows that have this value fail another test.
+pub fn find_only_row<R: Relations>(
+    tables: &R,
+    relation: &Relation,
+    plan: SelectPlan,
+    tests: &[Test],
+) -> Option<Option<TupleRef>>
+    requires current { IsCurrent (linked_keys relation.now.targets (R.tables tables.now)) relation.now }
+    requires columns { HasColumns relation.now tests.now }
+    requires fits { Fits relation.now tests.now plan }
+    ensures only { IfSome result (λ row. passing (R.tables tables.now) relation.now tests.now ≡ option_to_list row) }
+    ensures by_key { AskForOneRow tests.now → IsSome result }
+{
+    let found = only_by_plan(tables, relation, plan, tests);
+    if found.is_some() {
+        return found;
+    }
+    let n = key_test(tests)?;
+    Some(match plan {
+        SelectPlan::Scan => only_by_scan(tables, relation, tests),
+        SelectPlan::Hash(_) | SelectPlan::Tree(_) => only_by_key(tables, relation, tests, n),
+    })
 }

@@ -1,12 +1,14 @@
 //! Inserts, updates and deletes that make no answer: how many rows each is about is told as a number.
 
-ghost use Rattle.std.specs.Prelude.{◌≡◌, IfOk, IfErr, OnOk, OnErr};
+ghost use Rattle.std.specs.Prelude.{◌≡◌, ◌≢◌, Err, IfOk, IfErr, OnOk, OnErr};
 ghost use Rattle.plain_tables.specs.Doing.{done};
 ghost use Rattle.plain_tables.specs.ResolvedLaws.{IsMeant};
+ghost use Rattle.plain_tables.specs.declared.refusal.Refusal.TheVariants as refusal;
 ghost use Rattle.plain_tables.specs.declared.resolved.Resolved.TheVariants as resolved;
 ghost use Rattle.mm_catalog.specs.Seen.{database_of};
 ghost use Rattle.mm_catalog.specs.Changes.{HasEffect, IsDeclinedFor, IsRefusedFor};
-ghost use Rattle.mm_session.specs.Changing.{IsChange};
+ghost use Rattle.temp_list.specs.OnlyRow.{AskForOneRow};
+ghost use Rattle.mm_session.specs.Changing.{IsChange, IsDeleteByKey};
 
 use super::Executor;
 use super::search::rows_passing;
@@ -39,11 +41,13 @@ impl Executor {
         Ok(rows.len())
     }
 
-    // Takes out the rows of a table that pass the tests, and tells how many these are.
-    fn delete_rows(&mut self, table: TableNumber, tests: &[Test]) -> Result<usize, Refusal>
+    /// Takes out the rows of a table that pass the tests, and tells how many these are. After a refusal the tables are as before. Where a
+    /// test asks for the key it takes no memory.
+    pub fn delete_rows(&mut self, table: TableNumber, tests: &[Test]) -> Result<usize, Refusal>
         requires { IsMeant self.old.catalog.limits (database_of self.old.catalog) (resolved.Delete table tests.now) }
         ensures done { IfOk result (HasEffect self.old.catalog self.new.catalog (done self.old.catalog.limits (database_of self.old.catalog) (resolved.Delete table tests.now))) }
         ensures refused { IfErr result (IsRefusedFor self.old.catalog self.new.catalog (done self.old.catalog.limits (database_of self.old.catalog) (resolved.Delete table tests.now))) }
+        ensures by_key { AskForOneRow tests.now → result ≢ Err refusal.NoMemory }
     {
         let rows = rows_passing(self.alloc, self.policy, &self.catalog, table, tests)?;
         self.catalog.delete(table, &rows)?;
@@ -57,6 +61,7 @@ impl Executor {
         ensures done { IfOk result (HasEffect self.old.catalog self.new.catalog (done self.old.catalog.limits (database_of self.old.catalog) command.now)) }
         ensures refused { IfErr result (IsDeclinedFor self.old.catalog self.new.catalog (done self.old.catalog.limits (database_of self.old.catalog) command.now)) }
         ensures unchanged { OnErr result (self.new.catalog ≡ self.old.catalog) }
+        ensures by_key { IsDeleteByKey command.now → result ≢ Err refusal.NoMemory }
     {
         match command {
             Resolved::Insert { table, values } => {

@@ -1,9 +1,10 @@
 //! The rows of a table that pass tests, by the plan that the policy picks.
 
-ghost use Rattle.std.specs.Prelude.{◌≡◌, IfOk};
+ghost use Rattle.std.specs.Prelude.{◌≡◌, IfOk, IsOk};
 ghost use Rattle.std.specs.Option.{option_to_list};
 ghost use Rattle.plain_tables.specs.ResolvedLaws.{OfTable, AreTests};
 ghost use Rattle.mm_catalog.specs.Seen.{database_of};
+ghost use Rattle.temp_list.specs.OnlyRow.{AskForOneRow};
 ghost use Rattle.mm_session.specs.Passing.{ArePassing};
 
 use mm_catalog::Catalog;
@@ -30,7 +31,7 @@ fn one_row(alloc: Global, found: Option<TupleRef>) -> FoundRows
     rows
 }
 
-/// The rows of a table that pass the tests, in any order.
+/// The rows of a table that pass the tests, in any order. Where a test asks for the key it takes no memory.
 pub fn rows_passing(
     alloc: Global,
     policy: Policy,
@@ -39,7 +40,8 @@ pub fn rows_passing(
     tests: &[Test],
 ) -> Result<FoundRows, NoMemory>
     requires { OfTable table (database_of catalog.now) (λ t. AreTests (database_of catalog.now) t tests.now) }
-    ensures { IfOk result (λ rows. ArePassing catalog.now table.0 tests.now rows.items) }
+    ensures passing { IfOk result (λ rows. ArePassing catalog.now table.0 tests.now rows.items) }
+    ensures by_key { AskForOneRow tests.now → IsOk result }
 {
     a_catalog_is_consistent(catalog);
     let relation = catalog.at(table);

@@ -31,7 +31,7 @@ returns c =
     let relations = c.args.self.now.catalog.relations in
     let source = c.args.query.now.source in
     let s = c.at-relation.result.now in
-    IfSome_then c.find_only_row.result c.find_only_row.ensures
+    IfSome_then c.find_only_row.result c.find_only_row.ensures.only
     (λ row is.
     record {
       ordered = c.requires.ordered;

@@ -7,7 +7,7 @@ use Rattle.mm_session.specs.Passing.{ArePassing}
 use Rattle.mm_session.proofs.execute.Executor.update_rows.Goals as goal
 
 passing : (c : goal.After-deref) → ArePassing c.args.self.now.catalog c.args.table.0 c.args.tests.now c.deref.result.now
-passing c = subst (ArePassing c.args.self.now.catalog c.args.table.0 c.args.tests.now) (sym c.deref.ensures) c.in_ok-rows.ensures
+passing c = subst (ArePassing c.args.self.now.catalog c.args.table.0 c.args.tests.now) (sym c.deref.ensures) c.in_ok-rows.ensures.passing
 
 pub rows_passing-requires : goal.rows_passing-requires
 rows_passing-requires c = (c.requires.0, c.requires.1, c.requires.2.1)
@@ -25,7 +25,7 @@ pub returns-clause-done : goal.returns-clause-done
 returns-clause-done c =
     let old = c.args.self.now.catalog in
     let are : ArePassing old c.args.table.0 c.args.tests.now c.deref.result.now =
-    subst (ArePassing old c.args.table.0 c.args.tests.now) (sym c.deref.ensures) c.in_ok-rows.ensures in
+    subst (ArePassing old c.args.table.0 c.args.tests.now) (sym c.deref.ensures) c.in_ok-rows.ensures.passing in
     let counted : length c.deref.result.now ≡ c.len.result = search (rules, c.deref.ensures) in
     subst (HasEffect old c.update.new.self (done old.limits (database_of old) (resolved.Update c.args.table c.args.assignments.now c.args.tests.now))) counted
     (c.in_ok-update.ensures.updated (passes_all c.args.tests.now) are.picks)

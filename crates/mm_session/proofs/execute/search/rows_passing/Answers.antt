@@ -18,11 +18,11 @@ pub find_only_row-requires-clause-columns : goal.find_only_row-requires-clause-c
 find_only_row-requires-clause-columns c =
     test_columns c.args.catalog.now c.a_catalog_is_consistent.ensures c.args.table.0 c.requires.0 c.requires.1 c.args.tests.now c.requires.2 c.at-relation.result.now c.at-relation.ensures
 
-pub returns-in-Some : goal.returns-in-Some
-returns-in-Some c =
+pub returns-in-Some-clause-passing : goal.returns-in-Some-clause-passing
+returns-in-Some-clause-passing c =
     are_passing c.args.catalog.now c.a_catalog_is_consistent.ensures c.args.table.0 c.requires.0 c.requires.1 c.args.tests.now c.at-relation.result.now c.at-relation.ensures
     (test_columns c.args.catalog.now c.a_catalog_is_consistent.ensures c.args.table.0 c.requires.0 c.requires.1 c.args.tests.now c.requires.2 c.at-relation.result.now c.at-relation.ensures)
-    c.one_row.result.items (IsSameBag-from_same c.one_row.result.items (passing c.args.catalog.now.relations c.at-relation.result.now c.args.tests.now) (c.one_row.ensures ∙ sym c.in-Some.ensures))
+    c.one_row.result.items (IsSameBag-from_same c.one_row.result.items (passing c.args.catalog.now.relations c.at-relation.result.now c.args.tests.now) (c.one_row.ensures ∙ sym c.in-Some.ensures.only))
 
 pub find_rows-requires-clause-there : goal.find_rows-requires-clause-there
 find_rows-requires-clause-there c = there_at c.args.catalog.now c.a_catalog_is_consistent.ensures c.args.table.0 c.requires.0 c.requires.1
@@ -30,8 +30,8 @@ find_rows-requires-clause-there c = there_at c.args.catalog.now c.a_catalog_is_c
 pub find_rows-requires-clause-columns : goal.find_rows-requires-clause-columns
 find_rows-requires-clause-columns c = test_columns c.args.catalog.now c.a_catalog_is_consistent.ensures c.args.table.0 c.requires.0 c.requires.1 c.args.tests.now c.requires.2
 
-pub returns : goal.returns
-returns c =
+pub returns-clause-passing : goal.returns-clause-passing
+returns-clause-passing c =
     let s = c.at-relation.result.now in
     are_passing c.args.catalog.now c.a_catalog_is_consistent.ensures c.args.table.0 c.requires.0 c.requires.1 c.args.tests.now s c.at-relation.ensures
     (test_columns c.args.catalog.now c.a_catalog_is_consistent.ensures c.args.table.0 c.requires.0 c.requires.1 c.args.tests.now c.requires.2 s c.at-relation.ensures)
