@@ -10,7 +10,7 @@ use mm_prepared::{Cell, Commands, Declined, Lent, Statements, may_declare};
 use mm_session::{Answer, NotOneRequest, Session, SessionFault};
 use no_memory::NoMemory;
 use plain_statements::Template;
-use plain_tables::{Limits, Refusal, Resolved};
+use plain_tables::{Limits, Refusal, Resolved, Value};
 use plan_chooser::Policy;
 use std::alloc::Global;
 use std::io::Write;
@@ -28,6 +28,14 @@ pub struct Numbered {
 pub enum Executed {
     Changed(usize),
     Rows { columns: usize },
+}
+
+/// A statement that is kept, as it was prepared and as it stands: the line that spells it, and the values that are bound to its holes,
+/// by their places.
+#[derive(Clone, Copy, Debug)]
+pub struct PreparedLine<'a> {
+    pub line: &'a str,
+    pub values: &'a [Value],
 }
 
 /// A session with statements. A statement is a line whose question marks are holes for values; it is prepared once, and executed with
@@ -56,7 +64,7 @@ impl Model for Database {
 }
 
 impl Database {
-    ghost use Rattle.std.specs.Prelude.{◌≡◌, ◌≢◌, ◌≤◌, ◌↔◌, ℕ, Err, None, Some, false, true, [], IsErrOf, IsSome, IsTrue, IfErr, IfOk, OnErr, OnOk, length, replicate, slice_set};
+    ghost use Rattle.std.specs.Prelude.{◌≡◌, ◌≢◌, ◌≤◌, ◌↔◌, ℕ, Err, None, Some, false, true, [], IsErrOf, IsSome, IsTrue, IfErr, IfOk, MatchOption, OnErr, OnOk, length, replicate, slice_set};
     ghost use Rattle.std.specs.Io.KnownBytes.{Keeps};
     ghost use Rattle.plain_tables.specs.declared.value.Value.TheVariants as value;
     ghost use Rattle.plain_streams.specs.Division.{IsWhole};
@@ -170,6 +178,17 @@ impl Database {
         ensures { IsTrue result ↔ IsSome (statement_at self.now number) }
     {
         self.statements.get(number).is_some()
+    }
+
+    /// The statement that a number names, lent.
+    pub fn statement(&self, number: usize) -> Option<PreparedLine<'_>>
+        ensures { MatchOption result (statement_at self.now number ≡ None) (λ kept. statement_at self.now number ≡ Some (record { line = kept.line.now; values = kept.values.now })) }
+    {
+        let prepared = self.statements.get(number)?;
+        Some(PreparedLine {
+            line: prepared.line.as_str(),
+            values: prepared.bound.as_slice(),
+        })
     }
 
     /// Keeps the statement that a line spells, under a number that named none. Each of its holes has a null until a value is bound.

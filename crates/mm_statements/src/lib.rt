@@ -25,6 +25,6 @@ mod querying;
 mod reading;
 mod resolving;
 
-pub use database::{Database, Executed, Numbered};
+pub use database::{Database, Executed, Numbered, PreparedLine};
 pub use faults::{ExecuteFault, PrepareFault};
 pub use mm_prepared::{Bound, Cell, Declined, Prepared, Statements, finish};
