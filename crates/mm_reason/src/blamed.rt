@@ -3,7 +3,7 @@
 use crate::blocks::{why_no_header, why_no_row_at};
 use crate::parts::{IndexPart, Name, Parts};
 use crate::tables::{Seen, column_at, no_table, table_named, tables_of, why_no_column};
-use crate::told::{Reason, tell};
+use crate::told::{Reason, Told, about, tell};
 use crate::values::{why_long, why_mistyped};
 use crate::{declaring, joins};
 use mm_catalog::{Catalog, MOST_CONDITIONS, MOST_ITEMS, MOST_JOINS};
@@ -34,7 +34,7 @@ impl<'a> Blamed<'a> {
             return Ok(None);
         };
         let tables = self.tables()?;
-        Ok(Some(why_no_column(self.alloc, &tables, name)?))
+        Ok(Some(Told::of(why_no_column(self.alloc, &tables, name)?)))
     }
 
     fn of_table(&self) -> Reason {
@@ -125,10 +125,12 @@ impl<'a> Blamed<'a> {
         ) else {
             return Ok(None);
         };
-        if self.refusal == Refusal::TextTooLong {
-            return why_long(self.alloc, column, value);
-        }
-        why_mistyped(self.alloc, table, column, value)
+        let why = if self.refusal == Refusal::TextTooLong {
+            why_long(self.alloc, column, value)
+        } else {
+            why_mistyped(self.alloc, table, column, value)
+        };
+        about(why, number)
     }
 
     fn of_shown(&self, place: Place) -> Reason {

@@ -105,8 +105,8 @@ fn why_no_row(alloc: Global, catalog: &Catalog, table: &Seen<'_>, fields: &ByteR
     for (place, column) in table.columns.iter().enumerate() {
         if let Some(kind) = catalog.type_of(&column.kind) {
             let field = fields.get(place).unwrap_or(b"");
-            if let Some(words) = why_no_value(alloc, column, kind, field)? {
-                return Ok(Some(words));
+            if let Some(told) = why_no_value(alloc, column, kind, field)? {
+                return Ok(Some(told));
             }
         }
     }

@@ -2,7 +2,7 @@
 
 use crate::parts::Name;
 use crate::tables::{Seen, column_at, table_named, tables_of, why_no_column};
-use crate::told::{Reason, tell};
+use crate::told::{Reason, Told, tell};
 use mm_catalog::Catalog;
 use plain_tables::{BaseKind, Column, Join, JoinSide, Place, Text};
 use std::alloc::Global;
@@ -13,7 +13,7 @@ fn missing_side(alloc: Global, tables: &[Seen<'_>], side: &JoinSide) -> Reason {
     for table in tables {
         if table.name == side.table.as_str() && table.column(&side.column).is_none() {
             let words = why_no_column(alloc, from_ref(table), Name::bare(&side.column))?;
-            return Ok(Some(words));
+            return Ok(Some(Told::of(words)));
         }
     }
     Ok(None)
@@ -22,11 +22,11 @@ fn missing_side(alloc: Global, tables: &[Seen<'_>], side: &JoinSide) -> Reason {
 // Why a join of a table with these before it joins nothing.
 fn why_unjoined(alloc: Global, before: &[Seen<'_>], own: &Seen<'_>, join: &Join) -> Reason {
     for side in [&join.left, &join.right] {
-        if let Some(words) = missing_side(alloc, before, side)? {
-            return Ok(Some(words));
+        if let Some(told) = missing_side(alloc, before, side)? {
+            return Ok(Some(told));
         }
-        if let Some(words) = missing_side(alloc, from_ref(own), side)? {
-            return Ok(Some(words));
+        if let Some(told) = missing_side(alloc, from_ref(own), side)? {
+            return Ok(Some(told));
         }
     }
     let name = own.name;

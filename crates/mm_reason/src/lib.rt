@@ -5,6 +5,7 @@
 //!  line that is no command ──▶ syntax: the symbol where the parser stops, what may stand there, and hints
 //!  command                 ──▶ mm_resolver tells what is to blame ──▶ blamed, by declaring, joins, values and blocks
 //!  rows                    ──▶ rows: which key, which reference; referrers: who names the row
+//!  statement with values   ──▶ filled: the command that it is ──▶ as above ──▶ statements: the column of the value's question mark
 //! ```
 //!
 //! It is asked after a refusal, which has changed nothing: so what is found out costs nothing where nobody asks. What a command
@@ -18,7 +19,9 @@
 mod answered;
 mod blamed;
 mod blocks;
+mod columns;
 mod declaring;
+mod filled;
 mod hints;
 mod joins;
 mod nearest;
@@ -27,6 +30,7 @@ mod reasons;
 mod referrers;
 mod rows;
 mod shown;
+mod statements;
 mod syntax;
 mod tables;
 mod told;
@@ -34,3 +38,4 @@ mod values;
 
 pub use answered::refusal_of;
 pub use reasons::reason;
+pub use statements::{prepare_reason, statement_reason};

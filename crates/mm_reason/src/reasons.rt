@@ -5,7 +5,7 @@ use crate::blocks::{cut_short, too_long, too_long_dump};
 use crate::parts::Parts;
 use crate::rows::refused_by_rows;
 use crate::syntax::why_stopped;
-use crate::told::{Reason, tell};
+use crate::told::{Reason, Told, tell};
 use mm_catalog::Catalog;
 use mm_lang::{Line, Stopped, parse_or_stop};
 use mm_resolver::command_culprit;
@@ -39,8 +39,8 @@ fn of_names(
     .reason(culprit)
 }
 
-// Why a command is refused. It is passed twice: one is described, and the other is resolved again.
-fn of_command(
+/// Why a command is refused. It is passed twice: one is described, and the other is resolved again.
+pub fn of_command(
     alloc: Global,
     catalog: &Catalog,
     command: &Command,
@@ -60,13 +60,13 @@ fn of_command(
     }
 }
 
-// Why a line spells no command, where it is refused for that.
-fn no_command(alloc: Global, line: &str, stopped: Stopped, refusal: Refusal) -> Reason {
+/// Why a line spells no command or no statement, where it is refused for that.
+pub fn of_stop(alloc: Global, line: &str, stopped: Stopped, refusal: Refusal) -> Reason {
     let stop = stopped.stop().ok_or(NoMemory)?;
     if refusal != Refusal::NotACommand {
         return Ok(None);
     }
-    Ok(Some(why_stopped(alloc, line, stop)?))
+    Ok(Some(Told::of(why_stopped(alloc, line, stop)?)))
 }
 
 // Why a line that can be read is refused, with the block behind it.
@@ -79,7 +79,7 @@ fn of_text(
 ) -> Reason {
     let command = match parse_or_stop(alloc, line) {
         Ok(command) => command,
-        Err(stopped) => return no_command(alloc, line.as_str(), stopped, refusal),
+        Err(stopped) => return of_stop(alloc, line.as_str(), stopped, refusal),
     };
     match parse_or_stop(alloc, line) {
         Ok(again) => of_command(alloc, catalog, &command, again, block, refusal),
@@ -87,13 +87,23 @@ fn of_text(
     }
 }
 
-// Where a line is not UTF-8.
-fn not_utf8(alloc: Global, line: &[u8]) -> Reason {
+/// Where a line is not UTF-8.
+pub fn of_utf8(alloc: Global, line: &[u8]) -> Reason {
     let Err(error) = str::from_utf8(line) else {
         return Ok(None);
     };
     let byte = error.valid_up_to().saturating_add(1);
     tell(format!(in alloc; "at byte {byte} no character begins"))
+}
+
+/// That a line is too long.
+pub fn of_too_long(alloc: Global) -> Reason {
+    tell(format!(in alloc; "a line has at most {LONGEST_LINE} bytes"))
+}
+
+/// That no memory was found.
+pub fn of_no_memory(alloc: Global) -> Reason {
+    tell(format!(in alloc; "no memory was found for it, and all tables are as before"))
 }
 
 // The first of the requests in some bytes that has an answer: its line, and what stands behind its line feed, or the block
@@ -131,10 +141,8 @@ fn of_line(
     };
     let block = asked_of(&judged, bytes);
     match (&judged, refusal) {
-        (Judged::TooLong, Refusal::LineTooLong) => {
-            tell(format!(in alloc; "a line has at most {LONGEST_LINE} bytes"))
-        }
-        (Judged::NotUtf8, Refusal::NotUtf8) => not_utf8(alloc, line),
+        (Judged::TooLong, Refusal::LineTooLong) => of_too_long(alloc),
+        (Judged::NotUtf8, Refusal::NotUtf8) => of_utf8(alloc, line),
         (Judged::Text(line), _) => of_text(alloc, catalog, line, block, refusal),
         _ => Ok(None),
     }
@@ -150,9 +158,14 @@ pub fn reason(
     block: &[u8],
     refusal: Refusal,
 ) -> Result<Option<String>, NoMemory> {
-    if refusal == Refusal::NoMemory {
-        return tell(format!(in alloc; "no memory was found for it, and all tables are as before"));
+    let told = if refusal == Refusal::NoMemory {
+        of_no_memory(alloc)?
+    } else {
+        let (line, bytes) = first_request(line, block);
+        of_line(alloc, catalog, line, bytes, refusal)?
+    };
+    match told {
+        Some(told) => Ok(Some(told.words)),
+        None => Ok(None),
     }
-    let (line, bytes) = first_request(line, block);
-    of_line(alloc, catalog, line, bytes, refusal)
 }

@@ -73,8 +73,8 @@ fn why_named(
 ) -> Result<String, NoMemory> {
     for number in 0..catalog.table_count() {
         if let Some(table) = table_at(catalog, TableNumber(number)) {
-            if let Some(words) = why_named_by(alloc, &table, named, r)? {
-                return Ok(words);
+            if let Some(told) = why_named_by(alloc, &table, named, r)? {
+                return Ok(told.words);
             }
         }
     }

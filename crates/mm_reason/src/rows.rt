@@ -3,7 +3,7 @@
 use crate::referrers::named_rows;
 use crate::shown::Shown;
 use crate::tables::{Seen, table_at};
-use crate::told::{Reason, tell};
+use crate::told::{Reason, about, tell};
 use crate::values::why_unheld;
 use mm_catalog::Catalog;
 use no_memory::NoMemory;
@@ -42,16 +42,16 @@ fn why_no_key(
         return Ok(None);
     };
     match held_key(alloc, table, key)? {
-        Some(words) => Ok(Some(words)),
+        Some(told) => Ok(Some(told)),
         None => repeated_key(alloc, before, key),
     }
 }
 
 // The first value of a row that is a reference and names no row.
 fn unheld(alloc: Global, catalog: &Catalog, table: &Seen<'_>, values: &[Value]) -> Reason {
-    for (column, value) in table.columns.iter().zip(values) {
-        if let Some(words) = why_unheld(alloc, catalog, column, value)? {
-            return Ok(Some(words));
+    for (number, (column, value)) in table.columns.iter().zip(values).enumerate() {
+        if let Some(told) = why_unheld(alloc, catalog, column, value)? {
+            return Ok(Some(told.about(number)));
         }
     }
     Ok(None)
@@ -64,10 +64,10 @@ fn unheld_setting(
     table: &Seen<'_>,
     assignments: &[Assignment],
 ) -> Reason {
-    for assignment in assignments {
+    for (number, assignment) in assignments.iter().enumerate() {
         if let Some(column) = table.columns.get(assignment.column.0) {
-            if let Some(words) = why_unheld(alloc, catalog, column, &assignment.value)? {
-                return Ok(Some(words));
+            if let Some(told) = why_unheld(alloc, catalog, column, &assignment.value)? {
+                return Ok(Some(told.about(number)));
             }
         }
     }
@@ -95,7 +95,7 @@ fn kept_out(
     refusal: Refusal,
 ) -> Reason {
     match refusal {
-        Refusal::KeyExists { .. } => why_no_key(alloc, table, before, values),
+        Refusal::KeyExists { .. } => about(why_no_key(alloc, table, before, values), 0),
         Refusal::NoReferencedRow { .. } => unheld(alloc, catalog, table, values),
         Refusal::TableFull { .. } => full(alloc, catalog, table, before.len()),
         _ => Ok(None),

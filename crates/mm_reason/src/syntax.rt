@@ -1,5 +1,6 @@
 //! Why a line is no command, or no statement: what stands where the parser stops, and what may stand there.
 
+use crate::columns::{column_behind, split_left};
 use crate::hints::hint;
 use crate::nearest::Nearest;
 use crate::shown::Cut;
@@ -60,13 +61,11 @@ fn symbol_at(line: &str, stop: Stop) -> Unfit<'_> {
         .unwrap_or(b"");
     let (symbol, behind) = split_lexeme(left);
     let length = symbol.len().saturating_add(behind.len());
-    let (front, rest) = line
-        .split_at_checked(bytes.len().saturating_sub(length))
-        .unwrap_or((line, ""));
+    let (front, rest) = split_left(line, length);
     let text = str::from_utf8(symbol).unwrap_or(first_character(rest));
     Unfit {
         place: stop.place,
-        column: front.chars().count().saturating_add(1),
+        column: column_behind(front),
         kind: kind_of(text),
         text,
         is_behind_text: front.ends_with('\''),
