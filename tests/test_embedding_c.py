@@ -14,8 +14,9 @@ from support import compiling, harness, refusing, tested
 EXAMPLES = harness.ROOT / "examples" / "c"
 PAGE = harness.ROOT / "docs" / "c.md"
 STATEMENTS = {"mmdb_prepare", "mmdb_bind_integer", "mmdb_bind_text", "mmdb_bind_null", "mmdb_execute", "mmdb_columns", "mmdb_finalize"}
-LINES = {"mmdb_command", "mmdb_load", "mmdb_query", "mmdb_feed", "mmdb_indexes", "mmdb_answer", "mmdb_refusal", "mmdb_reason"}
-EXPORTS = {"mmdb_open", "mmdb_close", *STATEMENTS, *LINES}
+LINES = {"mmdb_command", "mmdb_load", "mmdb_query", "mmdb_feed", "mmdb_indexes", "mmdb_answer", "mmdb_refusal"}
+REASONS = {"mmdb_reason", "mmdb_prepare_reason", "mmdb_statement_reason"}
+EXPORTS = {"mmdb_open", "mmdb_close", *STATEMENTS, *LINES, *REASONS}
 ROOM = compiling.Room()
 
 
@@ -149,6 +150,9 @@ class Embedding(Programs):
 
     def test_each_status_of_queries_is_met(self):
         self.check_program("queries")
+
+    def test_each_status_of_the_reasons_of_statements_is_met(self):
+        self.check_program("reasons")
 
     def test_each_call_for_memory_is_refused(self):
         self.check_program("refused")

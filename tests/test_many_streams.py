@@ -13,6 +13,7 @@ import json
 import os
 import pathlib
 import random
+import re
 import time
 import unittest
 
@@ -28,6 +29,7 @@ AT_ONCE = 100
 DIFFERENCES_TOLD = 5
 # No load of a stream that is fed is cut short, and memory is always found.
 REFUSALS = sorted(str(number) for number in set(model.TEXTS) - {13, 90})
+COLUMN = re.compile(rb"column (\d+): ")
 METHODS = ("Nested", "HashJoin", "TreeJoin", "TreeMerge", "Precomputed")
 
 
@@ -115,12 +117,12 @@ class OneByOne:
     def misfits_by_statements(self):
         with embedded.Handle(self.stream.policy, self.stream.limits) as handle:
             statements = prepared.Statements(handle, self.stream.draw, self.stream.count)
-            self.ask_all(handle, statements.ask)
+            self.ask_all(handle, statements.ask, why=lambda: statements.why)
             self.check_indexes(handle)
             self.misfits += [f"the rows of {text!r} changed" for text in statements.changed()]
         return self.misfits
 
-    def ask_all(self, handle, asks, then=lambda _: None):
+    def ask_all(self, handle, asks, then=lambda _: None, why=lambda: None):
         for (line, block), expected in zip(self.stream.units, self.stream.answers):
             answer = asks(line, block)
             number = int(answer[6:8]) if answer.startswith(b"error ") else 0
@@ -130,6 +132,8 @@ class OneByOne:
             if answer != expected or (told != number and line) or not reason or b"\n" in reason:
                 beside = f"with the refusal {told} and the reason {reason!r}"
                 self.misfits.append(f"{line!r} is answered {answer!r}, not {expected!r}, {beside}")
+            if why() and not explains(*why(), number, reason):
+                self.misfits.append(f"why the statement of {line!r} is refused by {number} is told as {why()!r}, not {reason!r}")
             if not number:
                 then(line)
 
@@ -137,6 +141,17 @@ class OneByOne:
         for name, listed in lists(self.stream.tables):
             if not handle_tells(handle, name, listed):
                 self.misfits.append(f"the indexes {listed} are told as {handle.indexes(name.encode())!r}")
+
+
+def explains(text, why, number, reason):
+    """Whether it is told why a statement was refused, as of its line but for the column of a value. Which symbol stops a line, and which
+    of several values is of the wrong type, differs where some are places."""
+    found = COLUMN.match(why)
+    if number == 20:
+        return found is not None or model.is_silent(text)
+    is_pointed = found is None or text.decode()[int(found[1]) - 1] == "?"
+    words = why[found.end() :] if found else why
+    return is_pointed and words != b"" and b"\n" not in words and (number == 35 or words == reason)
 
 
 def lists(tables):

@@ -65,6 +65,8 @@ FEED = call("mmdb_feed", NUMBER, ADDRESS, ADDRESS, SIZE)
 ANSWER = call("mmdb_answer", NUMBER, ADDRESS, ADDRESS)
 REFUSAL = call("mmdb_refusal", NUMBER, ADDRESS)
 REASON = call("mmdb_reason", NUMBER, ADDRESS, ADDRESS, SIZE, ADDRESS, SIZE, ADDRESS)
+PREPARE_REASON = call("mmdb_prepare_reason", NUMBER, ADDRESS, ADDRESS, SIZE, ADDRESS)
+STATEMENT_REASON = call("mmdb_statement_reason", NUMBER, ADDRESS, NUMBER, ADDRESS)
 INDEXES = call("mmdb_indexes", NUMBER, ADDRESS, ADDRESS, SIZE, ADDRESS)
 PREPARE = call("mmdb_prepare", NUMBER, ADDRESS, ADDRESS, SIZE, ADDRESS)
 BIND_INTEGER = call("mmdb_bind_integer", NUMBER, ADDRESS, NUMBER, NUMBER, ctypes.c_int64)
@@ -137,6 +139,12 @@ class Handle:
 
     def reason(self, line, block):
         return self.said(REASON(self.at, line, len(line), block, len(block), self.told_at))
+
+    def prepare_reason(self, line):
+        return self.said(PREPARE_REASON(self.at, line, len(line), self.told_at))
+
+    def statement_reason(self, statement):
+        return self.said(STATEMENT_REASON(self.at, statement.number, self.told_at))
 
     def indexes(self, table):
         return self.said(INDEXES(self.at, table, len(table), self.told_at))

@@ -59,20 +59,26 @@ class Statements:
         self.kept = {}
         # The rows of each kept statement whose last execution had some, and what stood in them.
         self.rows = {}
+        # The line of the last statement and why it was refused, where it was.
+        self.why = None
 
     def ask(self, line, block):
         """The answer to a line, by a statement where it can be one. One with a place of its own can't."""
         text, values = parted(self.draw, line) if is_about_rows(line) else (line, None)
+        self.why = None
         return self.handle.ask(line, block) if values is None else self.answer(text, values)
 
     def answer(self, text, values):
         statement = self.prepared(text)
         if statement is None:
+            self.why = text, self.handle.prepare_reason(text)
             return self.handle.answer()
         self.rows.pop(text, None)
         self.handle.bind(statement, values)
         rows = self.handle.execute(statement)
         self.count["statements", "refused when executed" if rows is None else "done"] += 1
+        if rows is None:
+            self.why = text, self.handle.statement_reason(statement)
         answer = self.handle.answer() if rows is None else self.told(text, statement, rows)
         if self.draw.random() < ENDED:
             self.end(text)

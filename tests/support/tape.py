@@ -28,6 +28,8 @@ class Tape:
             "ANSWER": lambda at, to: self.add(b"answer"),
             "REFUSAL": lambda at: self.add(b"refusal"),
             "REASON": lambda at, line, length, block, more, to: self.add(b"reason+", length, more, behind=line + block),
+            "PREPARE_REASON": lambda at, line, length, to: self.add(b"why_line+", length, behind=line),
+            "STATEMENT_REASON": lambda at, of, to: self.add(b"why", of),
             "INDEXES": lambda at, name, length, to: self.add(b"indexes+", length, behind=name),
             "PREPARE": lambda at, line, length, to: self.add(b"prepare+", length, behind=line),
             "BIND_INTEGER": lambda at, *numbers: self.add(b"integer", *numbers),

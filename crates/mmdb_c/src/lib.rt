@@ -15,6 +15,8 @@ ghost use Rattle.mmdb_c.specs.Calls.{AreLimits, IsNew, request, Becomes, Answers
 
 mod database;
 mod handle;
+pub mod reason_calls;
+mod reasons;
 mod rows;
 pub mod statement_calls;
 mod statements;

@@ -424,6 +424,24 @@ static void asks_columns(handle *of)
     sum_of(&rows);
 }
 
+static void asks_why(handle *of)
+{
+    const statement *to = any_statement(of);
+    const bytes line = given_bytes();
+    const int is_of_line = is_drawn(50), is_none = line.at == NULL || line.length == 0;
+    mmdb_bytes told;
+    const mmdb_status status = is_of_line ? mmdb_prepare_reason(&of->db, line.at, line.length, &told)
+                                          : mmdb_statement_reason(&of->db, to ? to->of.number : no_statement(of), &told);
+    uint32_t allowed = only(MMDB_DONE);
+    if (is_of_line && is_none)
+        allowed = only(MMDB_NO_LINE);
+    else if (!is_of_line && !to)
+        allowed = only(MMDB_NO_SUCH_STATEMENT);
+    is_within(status, of->is_open ? allowed : only(MMDB_NOT_OPEN), is_of_line ? "prepare_reason" : "statement_reason");
+    CHECK(memchr(told.at, '\n', told.length) == NULL);
+    free(line.at);
+}
+
 static void finalizes(handle *of)
 {
     statement *to = any_statement(of);
@@ -454,6 +472,7 @@ static void calls_on_null(void)
     CHECK(mmdb_columns(NULL, 0, NULL) == MMDB_NOT_OPEN && mmdb_finalize(NULL, 0) == MMDB_NOT_OPEN);
     CHECK(mmdb_bind_null(NULL, 0, 0) == MMDB_NOT_OPEN && mmdb_bind_text(NULL, 0, 0, NULL, 7) == MMDB_NOT_OPEN);
     CHECK(mmdb_reason(NULL, NULL, 1, NULL, 1, &answer) == MMDB_NOT_OPEN && mmdb_indexes(NULL, "", 0, NULL) == MMDB_NOT_OPEN);
+    CHECK(mmdb_prepare_reason(NULL, NULL, 1, &answer) == MMDB_NOT_OPEN && mmdb_statement_reason(NULL, 0, NULL) == MMDB_NOT_OPEN);
     CHECK(mmdb_query(NULL, "", 0, &rows) == MMDB_NOT_OPEN && mmdb_query(NULL, NULL, 1, NULL) == MMDB_NOT_OPEN);
     CHECK(mmdb_answer(NULL, &answer) == MMDB_NOT_OPEN && mmdb_refusal(NULL) == 0);
     mmdb_close(NULL);
@@ -464,7 +483,7 @@ typedef void (*maker)(handle *of);
 static const maker MAKERS[] = {
     commands, commands, commands, commands, loads,    loads,     feeds,    feeds,        prepares,     prepares,      prepares,
     binds,    binds,    binds,    binds,    executes, executes,  executes, asks_columns, asks_columns, looks_at_rows, tells,
-    queries,  queries,
+    queries,  queries,  asks_why,
 };
 
 /* One call. Handles are seldom opened and closed, so that much becomes of what they have. */

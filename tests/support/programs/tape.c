@@ -62,6 +62,8 @@ static int asks(mmdb *db, const call *of)
         mmdb_feed(db, of->bytes, length);
     else if (is(of, "reason+"))
         mmdb_reason(db, of->bytes, length, of->bytes + length, block_length, &answer);
+    else if (is(of, "why_line+"))
+        mmdb_prepare_reason(db, of->bytes, length, &answer);
     else if (is(of, "indexes+"))
         mmdb_indexes(db, of->bytes, length, &answer);
     else if (is(of, "answer"))
@@ -79,6 +81,7 @@ static int states(mmdb *db, const call *of)
     const uint32_t number = (uint32_t)of->numbers[0], place = (uint32_t)of->numbers[1];
     mmdb_statement statement;
     mmdb_rows rows;
+    mmdb_bytes reason;
     if (is(of, "prepare+"))
         mmdb_prepare(db, of->bytes, (size_t)of->numbers[0], &statement);
     else if (is(of, "text+"))
@@ -91,6 +94,8 @@ static int states(mmdb *db, const call *of)
         mmdb_execute(db, number, &rows);
     else if (is(of, "columns"))
         mmdb_columns(db, number, &rows);
+    else if (is(of, "why"))
+        mmdb_statement_reason(db, number, &reason);
     else if (is(of, "finalize"))
         mmdb_finalize(db, number);
     else
