@@ -51,7 +51,7 @@ class Programs(unittest.TestCase):
         self.assertEqual((ended.err, ended.out, ended.status), ("", printed, 0))
 
     def test_the_programs_of_each_page(self):
-        for page, count in (("README.md", 1), ("docs/python.md", 4)):
+        for page, count in (("README.md", 1), ("docs/python.md", 5)):
             found = embedding.programs(page, "python")
             self.assertEqual(len(found), count)
             for program, printed in found:
@@ -300,12 +300,13 @@ class Reasons(binding.WithDatabase):
 
     def test_each_call(self):
         there, nowhere = "dept has a row with the key 10", "emp is no table"
+        bound = f"column 14: {there}"
         self.db.execute("drop table emp")
         rows = [(30, "hats"), (10, "bags")]
         for number, reason, call, *given in (
-            (41, there, self.db.execute, "insert dept (?, ?)", *rows[1]),
-            (41, there, self.db.change, "insert dept (:id, :name)", {"id": 10, "name": "bags"}),
-            (41, there, self.db.executemany, "insert dept (?, ?)", rows),
+            (41, bound, self.db.execute, "insert dept (?, ?)", *rows[1]),
+            (41, bound, self.db.change, "insert dept (:id, :name)", {"id": 10, "name": "bags"}),
+            (41, bound, self.db.executemany, "insert dept (?, ?)", rows),
             (41, there, self.db.load, "dept", rows),
             (41, there, self.db.load_dicts, "dept", [{"name": "bags", "id": 10}]),
             (41, there, self.db.load_csv, "dept", "id,name\n10,bags\n"),
@@ -398,8 +399,8 @@ class Parameters(binding.WithDatabase):
                 self.assertEqual(self.db.execute("insert t (?, ?)", number, text), 1)
                 self.assertEqual(self.db.select("select s from t where id = :id", id=number), [[text]])
         self.assertEqual(self.db.dump("t"), [list(row) for row in enumerate(texts)])
-        why = self.refused_without_reason(41, self.db.execute, "insert t (?, ?)", 1, "b\nc")
-        self.assertEqual(why.line, "insert t (1, 'b\nc')")
+        why = self.refused(41, self.db.execute, "insert t (?, ?)", 1, "b\nc")
+        self.assertEqual((why.line, why.reason), ("insert t (1, 'b\nc')", "column 11: t has a row with the key 1"))
 
     def test_texts_with_line_feeds_are_found_and_set(self):
         draw = random.Random(SEED)

@@ -175,14 +175,14 @@ class Connections(unittest.TestCase):
     def test_what_is_refused_tells_the_reason(self):
         self.cursor.execute("insert t (1, 'a')")
         for error, told, call, *given in (
-            (mmdb.IntegrityError, "error 41 key exists: t has a row with the key 1", self.cursor.execute, (1, "b")),
-            (mmdb.IntegrityError, "error 41 key exists: t has a row with the key 1", self.cursor.executemany, [(2, "b"), (1, "b")]),
-            (mmdb.DataError, "error 46 text too long: the text for column s has 1025 bytes, and 1024 are allowed", self.cursor.execute, (1, "b" * 1025)),
-            (mmdb.ProgrammingError, "error 35 wrong type: column id of t has integers, and 'a' is a text", self.cursor.execute, ("a", "b")),
+            (mmdb.IntegrityError, "41 key exists: column 11: t has a row with the key 1", self.cursor.execute, (1, "b")),
+            (mmdb.IntegrityError, "41 key exists: column 11: t has a row with the key 1", self.cursor.executemany, [(2, "b"), (1, "b")]),
+            (mmdb.DataError, "46 text too long: column 14: the text for column s has 1025 bytes, and 1024 are allowed", self.cursor.execute, (1, "b" * 1025)),
+            (mmdb.ProgrammingError, "35 wrong type: column 11: column id of t has integers, and 'a' is a text", self.cursor.execute, ("a", "b")),
         ):
             with self.subTest(given=given), self.assertRaises(error) as raised:
                 call("insert t (?, ?)", *given)
-            self.assertEqual(str(raised.exception), told)
+            self.assertEqual(str(raised.exception), f"error {told}")
 
     def test_no_transactions(self):
         self.cursor.execute("insert t (1, 'a')")

@@ -2,6 +2,7 @@
 
 import ast
 import copy
+import functools
 import gc
 import itertools
 import pickle
@@ -131,41 +132,57 @@ class Statements(binding.WithDatabase):
 
     def test_what_is_refused_whatever_the_values_are(self):
         for number, line, told, reason in (
-            (20, "selct * from emp", "selct * from emp", "selct is no command"),
+            (20, "selct * from emp", "selct * from emp", "column 1: selct is no statement: is select meant?"),
             (20, "select * from emp where id ? 1", "select * from emp where id null 1", "column 28"),
-            (20, "select ? from emp", "select null from emp", "column 8"),
+            (20, "select ? from emp", "select null from emp", "column 8: wanted distinct, * or a column's name, found ?"),
+            (20, "select :a from emp", "select null from emp", "column 8: wanted distinct, * or a column's name, found :a"),
             (20, "select * from emp\r\r", "select * from emp\r\r", "column 18"),
+            (20, "insert emp (:id, :name, x)", "insert emp (null, null, x)", "column 25: x is no value: a text stands between quote marks"),
             (30, "select * from nowhere where id = ?", "select * from nowhere where id = null", "nowhere is no table"),
             (32, "delete emp where salary = ?", "delete emp where salary = null", "salary is no column of emp"),
-            (35, "insert emp ('1', ?, ?)", "insert emp ('1', null, null)", "'1' is a text"),
-            (45, "insert emp (?)", "insert emp (null)", "3"),
+            (35, "insert emp ('1', ?, ?)", "insert emp ('1', null, null)", "column id of emp has integers, and '1' is a text"),
+            (45, "insert emp (?)", "insert emp (null)", "a row of emp has a value for each column: 3, not 1"),
         ):
             with self.subTest(line=line):
                 why = self.refused(number, self.db.prepare, line)
-                self.assertEqual(why.line, told)
+                self.assertEqual((why.line, why.written), (told, line))
                 self.assertIn(reason, why.reason)
 
     def test_refusals_of_values(self):
         insert, update = self.db.prepare("insert emp (?, ?, ?)"), self.db.prepare("update emp set dept = ? where id = ?")
         long = "é" * 513
         for number, statement, parameters, line, reason in (
-            (35, insert, ("4", "D", 10), "insert emp ('4', 'D', 10)", "column id of emp has integers, and '4' is a text"),
-            (35, insert, (4, None, 10), "insert emp (4, null, 10)", "column name of emp"),
-            (35, insert, (4, "D", "toys"), "insert emp (4, 'D', 'toys')", "column dept of emp"),
-            (35, update, (10, None), "update emp set dept = 10 where id = null", "column id of emp takes no null"),
-            (41, insert, (1, "D", 10), "insert emp (1, 'D', 10)", "emp has a row with the key 1"),
-            (42, insert, (4, "D", 11), "insert emp (4, 'D', 11)", "dept has no row with the key 11"),
-            (42, update, (11, 1), "update emp set dept = 11 where id = 1", "dept has no row with the key 11"),
-            (46, insert, (4, long, 10), f"insert emp (4, '{long}', 10)", "the text for column name has 1026 bytes"),
+            (35, insert, ("4", "D", 10), "insert emp ('4', 'D', 10)", "column 13: column id of emp has integers, and '4' is a text"),
+            (35, insert, (4, None, 10), "insert emp (4, null, 10)", "column 16: column name of emp takes no null"),
+            (35, insert, (4, "D", "toys"), "insert emp (4, 'D', 'toys')", "column 19: column dept of emp has integers, and 'toys' is a text"),
+            (35, update, (10, None), "update emp set dept = 10 where id = null", "column 36: column id of emp takes no null"),
+            (41, insert, (1, "D", 10), "insert emp (1, 'D', 10)", "column 13: emp has a row with the key 1"),
+            (42, insert, (4, "D", 11), "insert emp (4, 'D', 11)", "column 19: dept has no row with the key 11, which column dept names"),
+            (42, update, (11, 1), "update emp set dept = 11 where id = 1", "column 23: dept has no row with the key 11, which column dept names"),
+            (46, insert, (4, long, 10), f"insert emp (4, '{long}', 10)", "column 16: the text for column name has 1026 bytes, and 1024 are allowed"),
         ):
             with self.subTest(parameters=parameters):
                 why = self.refused(number, statement.execute, *parameters)
-                self.assertEqual(why.line, line)
-                self.assertIn(reason, why.reason)
+                self.assertEqual((why.line, why.written, why.reason), (line, statement.line, reason))
         self.assertEqual(insert.execute(4, "é" * 512, 10), 1)
         self.assertEqual(self.db.select("select name from emp where id = 4"), [["é" * 512]])
         self.assertEqual(self.refused_somehow(46, insert.execute, 5, "x" * 100_000, 10).line, f"insert emp (5, '{'x' * 100_000}', 10)")
-        self.assertEqual(self.refused_without_reason(41, insert.execute, 4, "a\n", 10).line, "insert emp (4, 'a\n', 10)")
+        why = self.refused(41, insert.execute, 4, "a\n", 10)
+        self.assertEqual((why.line, why.reason), ("insert emp (4, 'a\n', 10)", "column 13: emp has a row with the key 4"))
+
+    def test_refusals_of_values_by_name(self):
+        """The columns are those of the line as it was written."""
+        line = "update emp set name='é :id ?',dept=:dept where id=:who and name<>:name"
+        statement, given = self.db.prepare(line), {"dept": 10, "who": 1, "name": "D"}
+        for number, named, reason in (
+            (42, {"dept": 11}, "column 36: dept has no row with the key 11, which column dept names"),
+            (35, {"who": "1"}, "column 51: column id of emp has integers, and '1' is a text"),
+            (35, {"name": 5}, "column 66: column name of emp has texts, and 5 is an integer"),
+        ):
+            for call in (statement.execute, functools.partial(self.db.execute, line)):
+                with self.subTest(named=named):
+                    why = self.refused(number, call, {**given, **named})
+                    self.assertEqual((why.written, why.reason), (line, reason))
 
     def test_values_that_are_none(self):
         statement = self.db.prepare("insert emp (?, ?, ?)")
@@ -370,7 +387,7 @@ class Kept(binding.WithDatabase):
                 try:
                     insert.execute(number, "again")
                 except mmdb.Refused as why:
-                    wrong.extend([] if why.reason == f"t has a row with the key {number}" else [why])
+                    wrong.extend([] if why.reason == f"column 11: t has a row with the key {number}" else [why])
                 found = select.execute(id=number)
                 wrong.extend([] if found == [[str(number)]] else [found])
 

@@ -71,7 +71,7 @@ class Cargo(unittest.TestCase):
         pieces = PIECE.findall((harness.ROOT / "docs" / "rust.md").read_text())[1:]
         self.assertEqual(len(pieces), 8)
         program = f"#![allow(unused)]\nfn main() -> Result<(), mmdb::Error> {{\n{''.join(pieces)}Ok(())\n}}\n"
-        refused = "error 42 no referenced row: dept has no row with the key 99, which column dept names"
+        refused = "error 42 no referenced row: column 19: dept has no row with the key 99, which column dept names"
         self.check_program("pieces", program, f"1 Ann Some(10)\n2 O'Hara None\n{refused}\n")
 
     def test_random_streams(self):

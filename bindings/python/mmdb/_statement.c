@@ -69,6 +69,25 @@ PyObject *tuple_of(PyObject *const *values, Py_ssize_t count)
     return tuple;
 }
 
+/* Why a statement was just refused, by the library's words, or None. Its columns are those of the prepared line. */
+static PyObject *reason_of(Handle *handle, const Statement *statement)
+{
+    mmdb_bytes words;
+    uint32_t status;
+    if (statement->is_prepared) {
+        status = mmdb_statement_reason(&handle->db, statement->given.number, &words);
+    } else {
+        Py_ssize_t length;
+        const char *line = bytes_of(statement->line, &length);
+        if (line == NULL)
+            return NULL;
+        status = mmdb_prepare_reason(&handle->db, line, (size_t)length, &words);
+    }
+    if (status != MMDB_DONE || words.length == 0)
+        return none();
+    return PyUnicode_DecodeUTF8((const char *)words.at, (Py_ssize_t)words.length, "strict");
+}
+
 /* Raises what a status says of a statement with these values. */
 static int refused(Handle *handle, Statement *statement, uint32_t status, PyObject *const *values, Py_ssize_t count)
 {
@@ -79,10 +98,12 @@ static int refused(Handle *handle, Statement *statement, uint32_t status, PyObje
     if (status == MMDB_REFUSED)
         mmdb_answer(&handle->db, &answer);
     PyObject *told = PyBytes_FromStringAndSize((const char *)answer.at, (Py_ssize_t)answer.length);
+    PyObject *reason = status == MMDB_REFUSED ? reason_of(handle, statement) : none();
     PyObject *given = tuple_of(values, count);
-    if (told != NULL && given != NULL)
-        raised(PyObject_CallMethod((PyObject *)handle, "_refuse", "OOO", statement->placed, given, told));
+    if (told != NULL && reason != NULL && given != NULL)
+        raised(PyObject_CallMethod((PyObject *)handle, "_refuse", "OOOO", statement->placed, given, told, reason));
     Py_XDECREF(told);
+    Py_XDECREF(reason);
     Py_XDECREF(given);
     return -1;
 }

@@ -218,12 +218,13 @@ class Database(Handle):
         """What rows with these columns are made of."""
         return shape_of(names, kinds)
 
-    def _refuse(self, at: Union[Placed, str], values: Sequence[Any], answer: bytes) -> NoReturn:
-        """Raises the refusal that the library has just answered to a statement with these values, or to a line."""
-        line = at if isinstance(at, str) else at.filled(values)
-        sent = encoded(line)
-        # (a line with a line feed is none that there is a reason of)
-        raise refusal_of(answer, sent, None if "\n" in line else self._reason(sent, b""))
+    def _refuse(self, at: Union[Placed, str], values: Sequence[Any], answer: bytes, reason: Optional[str]) -> NoReturn:
+        """Raises the refusal that the library has just answered to a statement with these values, or to a line, for this
+        reason."""
+        if isinstance(at, str):
+            raise refusal_of(answer, encoded(at), reason)
+        told = None if reason is None else at.pointed(reason)
+        raise refusal_of(answer, encoded(at.filled(values)), told, at.written())
 
     def _failed(self, status: int) -> NoReturn:
         """Raises what a call says that the library didn't do."""

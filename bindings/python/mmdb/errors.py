@@ -51,7 +51,14 @@ class Refused(DatabaseError):
     It is of one of the classes above too, by its number.
     """
 
-    def __init__(self, number: int, text: str, line: Optional[str] = None, reason: Optional[str] = None) -> None:
+    def __init__(
+        self,
+        number: int,
+        text: str,
+        line: Optional[str] = None,
+        reason: Optional[str] = None,
+        written: Optional[str] = None,
+    ) -> None:
         super().__init__(number, text)
         #: The number of the refusal.
         self.number = number
@@ -61,6 +68,8 @@ class Refused(DatabaseError):
         self.line = line
         #: Why, in a line of words for people; None where no memory is found for them.
         self.reason = reason
+        #: The line as it was written, with its places. The columns that the reason names are those of this line.
+        self.written = line if written is None else written
 
     def __str__(self) -> str:
         return f"error {self.number} {self.text}" + (f": {self.reason}" if self.reason else "")
@@ -110,7 +119,7 @@ _CLASSES: Dict[int, Type[Refused]] = {
 }
 
 
-def refusal_of(answer: bytes, line: bytes, reason: Optional[str]) -> Refused:
-    """The refusal that an answer is, to this line and for this reason."""
+def refusal_of(answer: bytes, line: bytes, reason: Optional[str], written: Optional[str] = None) -> Refused:
+    """The refusal that an answer is, to this line and for this reason. The line was written so, where it has places."""
     number, text = answer[6:-1].decode().split(" ", 1)
-    return _CLASSES.get(int(number), Refused)(int(number), text, line.decode(), reason)
+    return _CLASSES.get(int(number), Refused)(int(number), text, line.decode(), reason, written)

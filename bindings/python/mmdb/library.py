@@ -117,6 +117,8 @@ _LOAD = _call(_LIBRARY, "mmdb_load", _NUMBER, _ADDRESS, _ADDRESS, _SIZE, _ADDRES
 _INDEXES = _call(_LIBRARY, "mmdb_indexes", _NUMBER, _ADDRESS, _ADDRESS, _SIZE, _ADDRESS)
 _ANSWER = _call(_LIBRARY, "mmdb_answer", _NUMBER, _ADDRESS, _ADDRESS)
 _REASON = _call(_LIBRARY, "mmdb_reason", _NUMBER, _ADDRESS, _ADDRESS, _SIZE, _ADDRESS, _SIZE, _ADDRESS)
+_PREPARE_REASON = _call(_LIBRARY, "mmdb_prepare_reason", _NUMBER, _ADDRESS, _ADDRESS, _SIZE, _ADDRESS)
+_STATEMENT_REASON = _call(_LIBRARY, "mmdb_statement_reason", _NUMBER, _ADDRESS, _NUMBER, _ADDRESS)
 _CLOSE = _call(_LIBRARY, "mmdb_close", None, _ADDRESS)
 _PREPARE = _call(_LIBRARY, "mmdb_prepare", _NUMBER, _ADDRESS, _ADDRESS, _SIZE, _ADDRESS)
 _BIND_INTEGER = _call(_LIBRARY, "mmdb_bind_integer", _NUMBER, _ADDRESS, _NUMBER, _NUMBER, ctypes.c_int64)
@@ -228,7 +230,10 @@ class Handle:
 
         It is asked right behind the answer, while the tables are as they were.
         """
-        status = _REASON(self._at, line, len(line), block, len(block), self._told_at)
+        return self._words(_REASON(self._at, line, len(line), block, len(block), self._told_at))
+
+    def _words(self, status: int) -> Optional[str]:
+        """The words of a reason that was asked for. None where there are none, or for want of memory."""
         if status == _NO_MEMORY:
             return None
         words = self._unanswered(status) if status else self._told_bytes()
@@ -354,11 +359,19 @@ class _Statement:
     def failed(self, handle: Handle, status: int, values: Sequence[Any]) -> None:
         """Raises what a status says."""
         if status == _NO_MEMORY:
-            handle._refuse(self.placed, values, b"error 90 no memory\n")
+            handle._refuse(self.placed, values, b"error 90 no memory\n", None)
         if status == _REFUSED:
             _ANSWER(handle._at, handle._told_at)
-            handle._refuse(self.placed, values, handle._told_bytes())
+            answer = handle._told_bytes()
+            handle._refuse(self.placed, values, answer, self.reason(handle))
         handle._failed(status)
+
+    def reason(self, handle: Handle) -> Optional[str]:
+        """Why it was just refused: by the library's words, whose columns are those of the prepared line."""
+        if self.number is None:
+            line = self.placed.prepared
+            return handle._words(_PREPARE_REASON(handle._at, line, len(line), handle._told_at))
+        return handle._words(_STATEMENT_REASON(handle._at, self.number, handle._told_at))
 
 
 def _columns_of(cells: _Cells) -> List[List[Any]]:

@@ -4,7 +4,7 @@ from __future__ import annotations
 
 import functools
 import re
-from typing import Any, Iterable, List, Mapping, NamedTuple, Optional, Tuple
+from typing import Any, Iterable, Iterator, List, Mapping, NamedTuple, Optional, Tuple
 
 from .errors import WrongType, WrongUse
 from .values import encoded, row_of, spelled
@@ -15,6 +15,9 @@ _TEXT_OR_PLACE = re.compile(r"'[^']*(?:'|\Z)|\?|:([^\W\d]\w*)")
 # Where nothing has to stand between a place and what is before it, or behind it, to keep the two apart.
 _APART_BEFORE = frozenset(" \t(,=<>")
 _APART_BEHIND = frozenset(" \t),")
+
+# How a reason begins that names a column.
+_COLUMN = re.compile(r"column (\d+): ")
 
 # How a line begins: with a word, as a comment, or, where it is blank, with its end.
 _BEGINNING = re.compile(r"[ \t]*(?:([A-Za-z_]\w*)|(#|\r?\Z))", re.ASCII)
@@ -48,6 +51,31 @@ class Placed(NamedTuple):
     def filled(self, values: Iterable[Any]) -> str:
         """The line with values in its places, as literals."""
         return self.text % tuple(map(spelled, values))
+
+    def written(self) -> str:
+        """The line as it was given."""
+        names = iter(self.names)
+        return _TEXT_OR_PLACE.sub(lambda found: _written_as(found, names), self.prepared.decode())
+
+    def pointed(self, reason: str) -> str:
+        """A reason, whose column is one of the prepared line, with that of the line as it was given."""
+        found = _COLUMN.match(reason) if self.names else None
+        if found is None:
+            return reason
+        column, names = int(found[1]), iter(self.names)
+        moved = column
+        for place in _TEXT_OR_PLACE.finditer(self.prepared.decode()):
+            at = place.start() + 1
+            if at > column:
+                break
+            if place[0] != "?":
+                continue
+            name = next(names)
+            if at < column:
+                moved += len(name)
+            else:
+                reason = reason.replace("found ?", f"found :{name}", 1)
+        return f"column {moved}: {reason[found.end() :]}"
 
     def fitting(self, parameters: Tuple[Any, ...], named: Mapping[str, Any]) -> Tuple[Any, ...]:
         """The parameters in the order of the places: those of `named`, or of a mapping that is the one parameter, by
@@ -128,6 +156,12 @@ def _cut(line: str) -> Tuple[List[str], List[Optional[str]]]:
             names.append(found[1])
     pieces[-1] += line[at:]
     return pieces, names
+
+
+def _written_as(found: re.Match[str], names: Iterator[str]) -> str:
+    """A text as it is, and a place as it was written."""
+    name = next(names, None) if found[0] == "?" else None
+    return found[0] if name is None else f":{name}"
 
 
 def _texts_and_places(line: str) -> Iterable[re.Match[str]]:

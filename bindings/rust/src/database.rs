@@ -5,7 +5,7 @@ use std::fmt;
 use crate::columns::block_of;
 use crate::error::{Error, Result};
 use crate::index::{indexes_of, Index};
-use crate::kept::{why_not_prepared, Kept, Lines};
+use crate::kept::{why_not_kept, why_not_prepared, Kept, Lines};
 use crate::known::Known;
 use crate::library::{Declined, Handle};
 use crate::limits::{Limits, Policy};
@@ -261,6 +261,7 @@ impl Database {
         refused.unwrap_or_else(|| Error::Refused {
             number: 30,
             text: "no such table".to_string(),
+            written: line.clone(),
             line,
             reason: None,
         })
@@ -283,13 +284,15 @@ impl Database {
         }
     }
 
-    /// The same, where its statement isn't kept. One without places is seldom done twice, so it stays so. Where there
-    /// is no statement, the line with its values tells why.
+    /// The same, where its statement isn't kept. One without places is seldom done twice, so it stays so, and so does one
+    /// for which no memory is found.
     fn change_anew<P: Params>(&mut self, line: &str, params: P) -> Result<usize> {
         let handle = &self.session.handle;
         if has_places(line) {
-            if let Ok(at) = self.lines.keep(handle, line) {
-                return self.lines.use_of(at).change(handle, params);
+            match self.lines.keep(handle, line) {
+                Ok(at) => return self.lines.use_of(at).change(handle, params),
+                Err(Declined::Refused) => return Err(why_not_kept(handle, line, params, Declined::Refused)),
+                Err(_) => {}
             }
         }
         self.session
@@ -307,7 +310,7 @@ impl Database {
             None if !is_select(line) => return Err(Error::NotASelect),
             None => match self.lines.keep(&self.session.handle, line) {
                 Ok(at) => at,
-                Err(declined) => return Err(self.why_none(line, params, declined)),
+                Err(declined) => return Err(why_not_kept(&self.session.handle, line, params, declined)),
             },
         };
         let kept = self.lines.use_of(at);
@@ -318,13 +321,6 @@ impl Database {
             kept.let_go(&self.session.handle);
         }
         made
-    }
-
-    /// Why the statement of a select is none: as the line with its values says.
-    #[cold]
-    fn why_none<P: Params>(&mut self, line: &str, params: P, declined: Declined) -> Error {
-        let why = why_not_prepared(&self.session.handle, line, declined);
-        self.session.ask(line, params).err().unwrap_or(why)
     }
 }
 

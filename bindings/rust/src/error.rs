@@ -23,6 +23,8 @@ pub enum Error {
         /// Why, in a line of words for people, which may change from version to version. There is none where no memory
         /// is found for them.
         reason: Option<String>,
+        /// The line as it was written, with its places. The columns that the reason names are those of this line.
+        written: String,
     },
     /// The limits of a database to open are none.
     OutOfRange,
@@ -145,7 +147,17 @@ impl Error {
         }
     }
 
-    /// Why it was refused, where it was, in a line of words for people, as `t has a row with the key 1`.
+    /// The line that was refused, as it was written: with its places. The columns that [`reason`](Error::reason) names are
+    /// those of this line. There is none where a database wasn't opened.
+    pub fn written(&self) -> Option<&str> {
+        match self {
+            Error::Refused { written, .. } if !written.is_empty() => Some(written),
+            _ => None,
+        }
+    }
+
+    /// Why it was refused, where it was, in a line of words for people, as `t has a row with the key 1`. Where the value of a
+    /// place is to blame, they begin with the column where that place stands, as `column 11: t has a row with the key 1`.
     pub fn reason(&self) -> Option<&str> {
         match self {
             Error::Refused { reason, .. } => reason.as_deref(),
@@ -191,22 +203,15 @@ impl fmt::Display for Error {
 }
 
 impl Error {
-    /// A line for which memory was wanted and refused.
-    pub(crate) fn no_memory(line: String) -> Error {
+    /// A line for which memory was wanted and refused, which was written so.
+    pub(crate) fn no_memory(line: String, written: String) -> Error {
         Error::Refused {
             number: 90,
             text: "no memory".to_string(),
             line,
             reason: None,
+            written,
         }
-    }
-
-    /// This refusal, without the words on a wrong type, which may be that of a value that isn't there yet.
-    pub(crate) fn without_reason_of_type(mut self) -> Error {
-        if let Error::Refused { number: 35, reason, .. } = &mut self {
-            *reason = None;
-        }
-        self
     }
 
     /// Writes an error about values: of rows that are read, or are to be loaded.

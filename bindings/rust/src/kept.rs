@@ -7,11 +7,10 @@ use std::sync::Arc;
 use crate::bound::Bound;
 use crate::error::{Error, Result};
 use crate::library::{Declined, Handle, Prepared};
-use crate::line::{bind, fill, find_places, is_select, with_marks, Place};
+use crate::line::{bind, fill, find_places, is_select, pointed, with_marks, with_nulls, Place};
 use crate::params::Params;
 use crate::rows::RowsRef;
 use crate::session::refused;
-use crate::value::ValueRef;
 
 /// A statement, and what has to be known to put values into its places and to read its rows.
 pub(crate) struct Kept {
@@ -64,9 +63,10 @@ impl Kept {
             return Err(Error::NotAChange);
         }
         self.bind(handle, params)?;
+        let number = self.prepared.number();
         match handle.execute(&mut self.prepared) {
             Ok(executed) => Ok(executed.changed as usize),
-            Err(declined) => Err(self.written.why(handle, declined)),
+            Err(declined) => Err(self.written.why(handle, number, declined)),
         }
     }
 
@@ -82,14 +82,15 @@ impl Kept {
             return Err(Error::NotASelect);
         }
         self.bind(handle, params)?;
+        let number = self.prepared.number();
         if self.named_at != Some(declared) {
             let names = handle.columns(&mut self.prepared);
-            self.names = Arc::new(names.map_err(|declined| self.written.why(handle, declined))?);
+            self.names = Arc::new(names.map_err(|declined| self.written.why(handle, number, declined))?);
             self.named_at = Some(declared);
         }
         match handle.execute(&mut self.prepared) {
             Ok(executed) => Ok(RowsRef::new(&self.names, executed.cells)),
-            Err(declined) => Err(self.written.why(handle, declined)),
+            Err(declined) => Err(self.written.why(handle, number, declined)),
         }
     }
 
@@ -97,7 +98,8 @@ impl Kept {
     pub(crate) fn names(&mut self, handle: &Handle, declared: u64) -> Result<&[String]> {
         if self.is_select && self.named_at != Some(declared) {
             let names = handle.columns(&mut self.prepared);
-            self.names = Arc::new(names.map_err(|declined| why_not_prepared(handle, &self.written.line, declined))?);
+            let number = self.prepared.number();
+            self.names = Arc::new(names.map_err(|declined| self.written.why_ever(handle, number, declined))?);
             self.named_at = Some(declared);
         }
         Ok(&self.names)
@@ -118,7 +120,7 @@ impl Kept {
         bind(&written.line, &written.places, params, &mut written.bound)?;
         for (place, value) in (0..).zip(written.bound.iter()) {
             if let Err(declined) = handle.bind(&mut self.prepared, place, value) {
-                return Err(written.why(handle, declined));
+                return Err(written.why(handle, self.prepared.number(), declined));
             }
         }
         Ok(())
@@ -131,38 +133,71 @@ impl Written {
         handle.prepare(marked.as_deref().unwrap_or(&self.line).as_bytes())
     }
 
-    /// Why a call with these values was declined.
+    /// Why a call with these values was declined, of the statement of a number.
     #[cold]
-    fn why(&self, handle: &Handle, declined: Declined) -> Error {
-        let mut line = String::new();
-        fill(&self.line, &self.places, self.bound.iter(), &mut line);
-        // With line feeds it is no line that could be asked about.
-        refusal_of(handle, declined, line, !self.bound.has_line_feed())
+    fn why(&self, handle: &Handle, number: u32, declined: Declined) -> Error {
+        let mut filled = String::new();
+        fill(&self.line, &self.places, self.bound.iter(), &mut filled);
+        let reason = || handle.statement_reason(number);
+        refusal_of(handle, declined, &self.line, &self.places, filled, reason)
+    }
+
+    /// Why it was declined whatever its values are. It is told with nulls in its places.
+    #[cold]
+    fn why_ever(&self, handle: &Handle, number: u32, declined: Declined) -> Error {
+        let filled = with_nulls(&self.line, &self.places);
+        let reason = || handle.statement_reason(number);
+        refusal_of(handle, declined, &self.line, &self.places, filled, reason)
     }
 }
 
-/// Why a line was declined whatever its values are. It is told with nulls in its places.
+/// Why a line wasn't kept as a statement. It is told with nulls in its places.
 #[cold]
 pub(crate) fn why_not_prepared(handle: &Handle, line: &str, declined: Declined) -> Error {
-    let (mut places, mut filled) = (Vec::new(), String::new());
+    let mut places = Vec::new();
     find_places(line, &mut places);
-    fill(line, &places, places.iter().map(|_| ValueRef::Null), &mut filled);
-    let error = refusal_of(handle, declined, filled, true);
-    if places.is_empty() {
-        error
-    } else {
-        error.without_reason_of_type()
-    }
+    let filled = with_nulls(line, &places);
+    not_prepared(handle, declined, line, &places, filled)
 }
 
-/// Why a call on a statement was declined, whose values a line has.
-fn refusal_of(handle: &Handle, declined: Declined, line: String, can_be_asked: bool) -> Error {
+/// Why a line wasn't kept as a statement. It is told with these parameters in its places.
+#[cold]
+pub(crate) fn why_not_kept<P: Params>(handle: &Handle, line: &str, params: P, declined: Declined) -> Error {
+    let (mut places, mut bound, mut filled) = (Vec::new(), Bound::default(), String::new());
+    find_places(line, &mut places);
+    if let Err(why) = bind(line, &places, params, &mut bound) {
+        return why;
+    }
+    if line.contains('\n') {
+        return Error::NotOneRequest;
+    }
+    fill(line, &places, bound.iter(), &mut filled);
+    not_prepared(handle, declined, line, &places, filled)
+}
+
+/// Why a line with these places, which are filled so, wasn't kept as a statement.
+fn not_prepared(handle: &Handle, declined: Declined, line: &str, places: &[Place], filled: String) -> Error {
+    let marked = with_marks(line, places);
+    let reason = || handle.prepare_reason(marked.as_deref().unwrap_or(line).as_bytes());
+    refusal_of(handle, declined, line, places, filled, reason)
+}
+
+/// Why a call was declined on a line with these places, which are filled so, by the reason that a function asks for.
+fn refusal_of(
+    handle: &Handle,
+    declined: Declined,
+    line: &str,
+    places: &[Place],
+    filled: String,
+    reason: impl FnOnce() -> Option<String>,
+) -> Error {
     match declined {
-        Declined::Refused => refused(&handle.refusal(), line, |line| {
-            let reason = || handle.reason(line.as_bytes(), &[]);
-            can_be_asked.then(reason).flatten()
-        }),
-        Declined::NoMemory => Error::no_memory(line),
+        Declined::Refused => {
+            let answer = handle.refusal();
+            let reason = reason().map(|words| pointed(line, places, words));
+            refused(&answer, filled, line.to_string(), reason)
+        }
+        Declined::NoMemory => Error::no_memory(filled, line.to_string()),
         Declined::Status(status) => Error::Status(status),
     }
 }

@@ -115,11 +115,19 @@ extern "C" {
         block_length: usize,
         reason: *mut Told,
     ) -> u32;
+    fn mmdb_prepare_reason(db: *mut Inside, line: *const u8, length: usize, reason: *mut Told) -> u32;
+    fn mmdb_statement_reason(db: *mut Inside, statement: u32, reason: *mut Told) -> u32;
     fn mmdb_close(db: *mut Inside);
 }
 
 /// A statement of a handle, by its number.
 pub(crate) struct Prepared(u32);
+
+impl Prepared {
+    pub(crate) fn number(&self) -> u32 {
+        self.0
+    }
+}
 
 /// What the execution of a statement gives that isn't refused: its cells, and how many rows it was about.
 pub(crate) struct Executed<'s> {
@@ -162,7 +170,7 @@ impl Handle {
                 told: Told::NOTHING,
             }),
             LIMIT_OUT_OF_RANGE => Err(Error::OutOfRange),
-            NO_MEMORY => Err(Error::no_memory(String::new())),
+            NO_MEMORY => Err(Error::no_memory(String::new(), String::new())),
             status => Err(Error::Status(status)),
         }
     }
@@ -189,16 +197,13 @@ impl Handle {
         answered(unsafe { mmdb_indexes(self.inside.get(), table.as_ptr(), table.len(), &mut self.told) })
     }
 
-    /// Why the line was refused that was just answered, with its block; or the statement that was just executed, which
-    /// is this line with its values. There is none of another answer, and none where no memory is found for the words.
+    /// Why the line was refused that was just answered, with its block. There is none of another answer, and none where
+    /// no memory is found for the words.
     pub(crate) fn reason(&self, line: &[u8], block: &[u8]) -> Option<String> {
-        let mut told = Told::NOTHING;
         let db = self.inside.get();
+        let (line, length, block, block_length) = (line.as_ptr(), line.len(), block.as_ptr(), block.len());
         // SAFETY: as of `command`.
-        let status = unsafe { mmdb_reason(db, line.as_ptr(), line.len(), block.as_ptr(), block.len(), &mut told) };
-        // SAFETY: the words are good until the next call.
-        let words = str::from_utf8(unsafe { told.bytes() }).ok()?;
-        (status == IS_DONE && !words.is_empty()).then(|| words.to_string())
+        words(|told| unsafe { mmdb_reason(db, line, length, block, block_length, told) })
     }
 
     /// What the last call has told.
@@ -266,6 +271,20 @@ impl Handle {
         unsafe { mmdb_finalize(self.inside.get(), number) };
     }
 
+    /// Why this line was just refused, when it was to be kept as a statement, where memory is found for the words.
+    pub(crate) fn prepare_reason(&self, line: &[u8]) -> Option<String> {
+        let (db, line, length) = (self.inside.get(), line.as_ptr(), line.len());
+        // SAFETY: as of `prepare`.
+        words(|told| unsafe { mmdb_prepare_reason(db, line, length, told) })
+    }
+
+    /// Why the statement of a number was just refused with its values, where memory is found for the words.
+    pub(crate) fn statement_reason(&self, number: u32) -> Option<String> {
+        let db = self.inside.get();
+        // SAFETY: as of `execute`. A number that names no statement has no words.
+        words(|told| unsafe { mmdb_statement_reason(db, number, told) })
+    }
+
     /// The refusal by which a call on a statement was just declined, as it is answered.
     pub(crate) fn refusal(&self) -> String {
         let mut told = Told::NOTHING;
@@ -276,6 +295,15 @@ impl Handle {
         };
         String::from_utf8_lossy(answer).into_owned()
     }
+}
+
+/// The words that a call tells, where it is done and tells any.
+fn words(call: impl FnOnce(&mut Told) -> u32) -> Option<String> {
+    let mut told = Told::NOTHING;
+    let status = call(&mut told);
+    // SAFETY: the words are good until the next call, and there is none here.
+    let words = str::from_utf8(unsafe { told.bytes() }).ok()?;
+    (status == IS_DONE && !words.is_empty()).then(|| words.to_string())
 }
 
 /// Whether a call on a statement was done, by its status.

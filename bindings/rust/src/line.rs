@@ -122,6 +122,42 @@ pub(crate) fn fill<'v>(line: &str, places: &[Place], values: impl Iterator<Item 
     made.push_str(&line[rest..]);
 }
 
+/// The line with nulls in its places.
+pub(crate) fn with_nulls(line: &str, places: &[Place]) -> String {
+    let mut made = String::new();
+    fill(line, places, places.iter().map(|_| ValueRef::Null), &mut made);
+    made
+}
+
+/// A reason, whose column is one of the line with a `?` at each place, with that of the line as it stands.
+pub(crate) fn pointed(line: &str, places: &[Place], reason: String) -> String {
+    if places.iter().all(|place| place.is_nameless) {
+        return reason;
+    }
+    let Some((column, words)) = column_of(&reason) else {
+        return reason;
+    };
+    let (mut wider, mut found) = (0, "?");
+    for place in places {
+        let at = line[..place.at.start].chars().count() + 1 - wider;
+        if at == column {
+            found = place.name(line);
+        }
+        if at >= column {
+            break;
+        }
+        wider += place.name(line).chars().count() - 1;
+    }
+    let words = words.replacen("found ?", &format!("found {found}"), 1);
+    format!("column {}: {words}", column + wider)
+}
+
+/// The column that a reason begins with, where it does, and its words.
+fn column_of(reason: &str) -> Option<(usize, &str)> {
+    let (column, words) = reason.strip_prefix("column ")?.split_once(": ")?;
+    Some((column.parse().ok()?, words))
+}
+
 /// Puts the places of a line there in the stead of what is there. A comment has none.
 pub(crate) fn find_places(line: &str, places: &mut Vec<Place>) {
     places.clear();

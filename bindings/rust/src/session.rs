@@ -64,8 +64,8 @@ fn accepted<'a>(handle: &'a mut Handle, line: &str, block: &[u8]) -> Result<&'a 
 fn accepted_of<'a>(handle: &'a mut Handle, line: &str, asked: &str, block: &[u8]) -> Result<&'a str> {
     if handle.answer().starts_with(ERROR.as_bytes()) {
         let answer = String::from_utf8_lossy(handle.answer()).into_owned();
-        let reason = |_: &str| handle.reason(asked.as_bytes(), block);
-        return Err(refused(&answer, line.to_string(), reason));
+        let reason = handle.reason(asked.as_bytes(), block);
+        return Err(refused(&answer, line.to_string(), line.to_string(), reason));
     }
     Ok(std::str::from_utf8(handle.answer()).expect("an answer is UTF-8"))
 }
@@ -73,15 +73,16 @@ fn accepted_of<'a>(handle: &'a mut Handle, line: &str, asked: &str, block: &[u8]
 /// What the answer begins with that is a refusal.
 const ERROR: &str = "error ";
 
-/// The refusal that an answer tells of a line, and the reason that a function asks for by this line.
-pub(crate) fn refused(answer: &str, line: String, reason: impl FnOnce(&str) -> Option<String>) -> Error {
+/// The refusal that an answer tells of a line, which was written so with its places, and the reason.
+pub(crate) fn refused(answer: &str, line: String, written: String, reason: Option<String>) -> Error {
     let told = answer.strip_prefix(ERROR).unwrap_or_default().trim_end_matches('\n');
     let (number, text) = told.split_once(' ').unwrap_or((told, ""));
     let (number, text) = (number.parse().unwrap_or_default(), text.to_string());
     Error::Refused {
         number,
         text,
-        reason: reason(&line),
         line,
+        reason,
+        written,
     }
 }

@@ -213,8 +213,12 @@ fn a_refusal_tells_what_was_sent() {
     let refused = db.execute("insert t (?, ?)", (1, "it's")).unwrap_err();
     assert_eq!((refused.number(), refused.text()), (Some(41), Some("key exists")));
     assert_eq!(refused.line(), Some("insert t (1, 'it''s')"));
-    assert_eq!(refused.reason(), Some("t has a row with the key 1"));
-    assert_eq!(refused.to_string(), "error 41 key exists: t has a row with the key 1");
+    assert_eq!(refused.written(), Some("insert t (?, ?)"));
+    assert_eq!(refused.reason(), Some("column 11: t has a row with the key 1"));
+    assert_eq!(
+        refused.to_string(),
+        "error 41 key exists: column 11: t has a row with the key 1"
+    );
     assert!(refused.source().is_none());
     let twice = db.load("t", [(3, "a"), (3, "b")]).unwrap_err();
     assert_eq!(
@@ -246,7 +250,7 @@ fn a_refusal_tells_why() {
         (db.query("select u from t", []).err(), "u is no column of t"),
         (
             db.query_row("select s from t where id = ?", ["1"], |_| Ok(())).err(),
-            "column id of t has integers, and '1' is a text",
+            "column 28: column id of t has integers, and '1' is a text",
         ),
         (db.load("t", [(3, "a"), (2, "b")]).err(), "t has a row with the key 2"),
         (

@@ -65,7 +65,7 @@ fn all_can_be_shown() {
     assert_eq!(format!("{db:?}"), "Database { .. }");
     assert_eq!(format!("{:?}", params_from_iter(1..3)), "ParamsFromIter(1..3)");
     let refused = db.execute("insert t (1, 'a')", []).unwrap_err();
-    let shown = r#"Refused { number: 41, text: "key exists", line: "insert t (1, 'a')", reason: Some("t has a row with the key 1") }"#;
+    let shown = r#"Refused { number: 41, text: "key exists", line: "insert t (1, 'a')", reason: Some("t has a row with the key 1"), written: "insert t (1, 'a')" }"#;
     assert_eq!(format!("{refused:?}"), shown);
 }
 

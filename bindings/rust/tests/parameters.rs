@@ -66,7 +66,7 @@ fn a_refusal_of_a_text_with_a_line_feed_has_its_line() {
     let refused = db.execute("insert t (?, ?)", (1, "two\nlines")).unwrap_err();
     assert_eq!(refused.number(), Some(41));
     assert_eq!(refused.line(), Some("insert t (1, 'two\nlines')"));
-    assert_eq!(refused.reason(), None);
+    assert_eq!(refused.reason(), Some("column 11: t has a row with the key 1"));
 }
 
 #[test]

@@ -132,7 +132,18 @@ fn what_is_not_prepared() {
             "select u from t where id = null and s = null and id > 1",
             Some("u is no column of t"),
         ),
-        ("insert t ('a', ?)", 35, "insert t ('a', null)", None),
+        (
+            "insert t ('a', ?)",
+            35,
+            "insert t ('a', null)",
+            Some("column id of t has integers, and 'a' is a text"),
+        ),
+        (
+            "insert t (:id, :s, x)",
+            20,
+            "insert t (null, null, x)",
+            Some("column 20: x is no value: a text stands between quote marks"),
+        ),
         (
             "delete t where id = 'a'",
             35,
@@ -149,6 +160,7 @@ fn what_is_not_prepared() {
         let refused = db.prepare(line).expect_err(line);
         let tells = (refused.number(), refused.line(), refused.reason());
         assert_eq!(tells, (Some(number), Some(told), reason));
+        assert_eq!(refused.written(), Some(line));
     }
 }
 
@@ -189,17 +201,87 @@ fn a_refusal_of_a_statement_tells_what_a_line_tells() {
     let refused = db.prepare("insert t (?, ?)").unwrap().execute((1, "it's")).unwrap_err();
     assert_eq!((refused.number(), refused.text()), (Some(41), Some("key exists")));
     assert_eq!(refused.line(), Some("insert t (1, 'it''s')"));
-    assert_eq!(refused.reason(), Some("t has a row with the key 1"));
+    assert_eq!(refused.written(), Some("insert t (?, ?)"));
+    assert_eq!(refused.reason(), Some("column 11: t has a row with the key 1"));
     let wrong = db
         .prepare("select * from t where id=:id and s = 'a'")
         .unwrap()
         .query(named_params! { ":id": "1" })
         .unwrap_err();
     assert_eq!(wrong.line(), Some("select * from t where id='1' and s = 'a'"));
-    assert_eq!(wrong.reason(), Some("column id of t has integers, and '1' is a text"));
+    let why = Some("column 26: column id of t has integers, and '1' is a text");
+    assert_eq!(wrong.reason(), why);
     let mut line = |line: &str, id: Value| db.query(line, [id]).unwrap_err();
-    assert_eq!(line("select * from t where id=? and s = 'a'", "1".into()), wrong);
+    let other = line("select * from t where id=? and s = 'a'", "1".into());
+    assert_eq!((other.line(), other.reason()), (wrong.line(), why));
     assert_eq!(line("select * from t where id=?", Value::Null).number(), Some(35));
+}
+
+/// The columns are those of the line as it was written.
+#[test]
+fn a_refusal_of_a_value_tells_where_its_place_stands() {
+    let mut db = with_rows();
+    db.execute("table u (id int, t ref t null, s text)", []).unwrap();
+    db.execute("insert u (1, 1, 'a')", []).unwrap();
+    let long = "é".repeat(513);
+    let (one, text, null): (Value, Value, Value) = (1.into(), "a".into(), Value::Null);
+    for (line, given, number, why) in [
+        (
+            "insert u (?, ?, 'b')",
+            vec![one.clone(), null.clone()],
+            41,
+            "column 11: u has a row with the key 1",
+        ),
+        (
+            "insert u (7, ?, ?)",
+            vec![9.into(), text.clone()],
+            42,
+            "column 14: t has no row with the key 9, which column t names",
+        ),
+        (
+            "update u set s='é', t=? where id=?",
+            vec![9.into(), one.clone()],
+            42,
+            "column 23: t has no row with the key 9, which column t names",
+        ),
+        (
+            "insert u (7, null,?)",
+            vec![one.clone()],
+            35,
+            "column 19: column s of u has texts, and 1 is an integer",
+        ),
+        (
+            "insert u (7, null, ?)",
+            vec![null],
+            35,
+            "column 20: column s of u takes no null",
+        ),
+        (
+            "insert u (7, null, ?)",
+            vec![long.into()],
+            46,
+            "column 20: the text for column s has 1026 bytes, and 1024 are allowed",
+        ),
+        (
+            "select s from u where nothing = ?",
+            vec![text],
+            32,
+            "nothing is no column of u",
+        ),
+    ] {
+        let refused = if line.starts_with("select") {
+            db.query(line, &given).unwrap_err()
+        } else {
+            db.execute(line, &given).unwrap_err()
+        };
+        let tells = (refused.number(), refused.written(), refused.reason());
+        assert_eq!(tells, (Some(number), Some(line), Some(why)));
+    }
+    let line = "update u set s=:text, t=:t where id=:id and s<>:text";
+    let given = named_params! { ":text": "x\ny", ":t": 9, ":id": 1 };
+    let refused = db.execute(line, given).unwrap_err();
+    let why = "column 25: t has no row with the key 9, which column t names";
+    assert_eq!((refused.written(), refused.reason()), (Some(line), Some(why)));
 }
 
 #[test]
