@@ -1,8 +1,5 @@
 //! Why a statement was refused, and why a line is none.
 
-ghost use Rattle.std.specs.Prelude.{◌≡◌, Err};
-ghost use Rattle.mmdb_c.specs.declared.reasons.Unexplained.TheVariants as unexplained;
-
 use crate::database::Database;
 use mm_reason::{prepare_reason, refusal_of, statement_reason};
 use no_memory::NoMemory;
@@ -27,8 +24,10 @@ impl From<NoMemory> for Unexplained {
 }
 
 impl Database {
+    ghost use Rattle.std.specs.Prelude.{◌≡◌, Err};
     ghost use Rattle.mmdb_c.specs.Calls.{IsAsBefore};
     ghost use Rattle.mmdb_c.specs.StatementCalls.{IsMissing};
+    ghost use Rattle.mmdb_c.specs.declared.reasons.Unexplained.TheVariants as unexplained;
 
     // Keeps these words as the reason.
     fn keep_reason(&mut self, words: Option<String>) -> Result<(), NoMemory>
