@@ -9,4 +9,4 @@ at-requires c = there_at c.args.catalog.now c.a_catalog_is_consistent.ensures c.
 
 pub first_named-requires : goal.first_named-requires
 first_named-requires c =
-    subst (λ rs. All (λ r. IsSome (finite.get c.at.result.now.rows r)) rs) (sym c.deref.ensures) (c.in_ok-rows.ensures.held c.at.result.now c.at.ensures)
+    subst (λ rs. All (λ r. IsSome (finite.get c.at.result.now.rows r)) rs) (sym c.deref.ensures) (c.in_ok-rows.ensures.passing.held c.at.result.now c.at.ensures)
