@@ -106,8 +106,8 @@ typedef enum mmdb_status {
     MMDB_NO_LINE = 5,            /* a line that is null or has no bytes; a block, a piece or a name that is null and has
                                     some */
     MMDB_NOT_ONE_REQUEST = 6,    /* a line feed in a line; a line that asks for a block of another length than given */
-    MMDB_NO_MEMORY = 7,          /* mmdb_open, mmdb_reason, mmdb_prepare, mmdb_bind_text of more than 14 bytes: none was
-                                    found. mmdb_feed: none for the answers; the stream is over */
+    MMDB_NO_MEMORY = 7,          /* mmdb_open, mmdb_prepare, mmdb_bind_text of more than 14 bytes, and the calls that tell
+                                    a reason: none was found. mmdb_feed: none for the answers; the stream is over */
     MMDB_ENDED = 8,              /* mmdb_feed of a stream that is over; the other calls go on */
     MMDB_NO_SUCH_STATEMENT = 9,  /* the number names no statement, or one that was finalised */
     MMDB_NO_SUCH_PLACE = 10,     /* the statement has no place of that number */
@@ -214,8 +214,8 @@ uint32_t mmdb_indexes(mmdb *db, const void *table, size_t length, mmdb_bytes *an
    line. Of a piece whose answers found no room it is a front of them. Where a statement was prepared, executed or asked
    for its columns, or a line queried, they are its refusal, or no bytes. Any other call leaves them as they are: one
    that binds or finalises, and one that can't be answered, as of a number that names no statement.
-   Gives MMDB_DONE, and bytes that are good until the next call but this one, mmdb_refusal and mmdb_reason; or
-   MMDB_NOT_OPEN. */
+   Gives MMDB_DONE, and bytes that are good until the next call but this one, mmdb_refusal and those that tell a reason;
+   or MMDB_NOT_OPEN. */
 uint32_t mmdb_answer(mmdb *db, mmdb_bytes *answer);
 
 /* Gives no status, but the number of the refusal that the last answers begin with, as 41 of `error 41 key exists`; or
@@ -224,14 +224,28 @@ uint32_t mmdb_refusal(mmdb *db);
 
 /* Why a line was refused, with the block that it asks for, in one line of English: for people, who are told what stands
    at which column, or which name, column, value or row it was. It is asked right behind the mmdb_command, mmdb_load or
-   mmdb_query that was refused, while the tables are as they were, and changes neither them nor the answers. Of a
-   statement the line is that with the values in their places. What the words are may change from version to version;
-   the number of the refusal doesn't.
+   mmdb_query that was refused, while the tables are as they were, and changes neither them nor the answers. What the
+   words are may change from version to version; the number of the refusal doesn't.
    Gives MMDB_DONE and the words, which are good until the next call on this handle: no bytes where the last answers
    begin with no refusal, or it is none of this line. Or gives MMDB_NOT_OPEN, MMDB_NO_LINE, or MMDB_NO_MEMORY where none
    was found for the words. */
 uint32_t mmdb_reason(mmdb *db, const void *line, size_t length, const void *block, size_t block_length,
                      mmdb_bytes *reason);
+
+/* Why a line was refused by mmdb_prepare, in words as those of mmdb_reason. The line is the one that was given, with each
+   ? that it has, and columns count its characters. It is asked right behind that call. It also tells why mmdb_query
+   refused a line that is another command than an insert, an update, a delete or a select.
+   Gives MMDB_DONE and the words, as mmdb_reason does; or MMDB_NOT_OPEN, MMDB_NO_LINE or MMDB_NO_MEMORY. */
+uint32_t mmdb_prepare_reason(mmdb *db, const void *line, size_t length, mmdb_bytes *reason);
+
+/* Why a statement was refused by mmdb_execute or mmdb_columns, in words as those of mmdb_reason. It is asked right behind
+   that call, with the values still bound. Where a value is to blame that was bound to a ?, the words begin with the
+   column at which this ? stands in the line that was prepared, as `column 11: t has a row with the key 1`. Tables,
+   statements, rows and answers stay as they are.
+   Gives MMDB_DONE and the words, which are good until the next call on this handle: no bytes where the last answers begin
+   with no refusal, or it is none of this statement. Or gives MMDB_NOT_OPEN, MMDB_NO_SUCH_STATEMENT, or MMDB_NO_MEMORY
+   where none was found for the words. */
+uint32_t mmdb_statement_reason(mmdb *db, uint32_t statement, mmdb_bytes *reason);
 
 /* Closes a handle and gives back all that it holds; its answers are good no longer. It is MMDB_CLOSED then, and may be
    opened again. Of a closed handle and of null nothing is done. */
@@ -463,6 +477,24 @@ static inline mmdb_status mmdb_checked_reason(mmdb *db, const void *line, size_t
     return (mmdb_status)mmdb_reason(db, line, length, mmdb_checked_bytes(block), block_length, to);
 }
 
+static inline mmdb_status mmdb_checked_prepare_reason(mmdb *db, const void *line, size_t length, mmdb_bytes *reason)
+{
+    mmdb_bytes unwanted;
+    mmdb_bytes *to = mmdb_checked_answer_at(reason, &unwanted);
+    if (mmdb_checked_is_closed(db))
+        return MMDB_NOT_OPEN;
+    if (line == NULL)
+        return MMDB_NO_LINE;
+    return (mmdb_status)mmdb_prepare_reason(db, line, length, to);
+}
+
+static inline mmdb_status mmdb_checked_statement_reason(mmdb *db, uint32_t statement, mmdb_bytes *reason)
+{
+    mmdb_bytes unwanted;
+    mmdb_bytes *to = mmdb_checked_answer_at(reason, &unwanted);
+    return mmdb_checked_is_closed(db) ? MMDB_NOT_OPEN : (mmdb_status)mmdb_statement_reason(db, statement, to);
+}
+
 static inline void mmdb_checked_close(mmdb *db)
 {
     if (!mmdb_checked_is_closed(db))
@@ -485,6 +517,8 @@ static inline void mmdb_checked_close(mmdb *db)
 #define mmdb_answer mmdb_checked_answer
 #define mmdb_refusal mmdb_checked_refusal
 #define mmdb_reason mmdb_checked_reason
+#define mmdb_prepare_reason mmdb_checked_prepare_reason
+#define mmdb_statement_reason mmdb_checked_statement_reason
 #define mmdb_close mmdb_checked_close
 
 #ifdef __cplusplus
