@@ -47,7 +47,7 @@ MIXED = {
 SCANS = {
     "key's T-tree": ("T-tree", "select n from t where id >= 0"),
     "T-tree, sorted": ("T-tree", "select n from t where n >= 0"),
-    "as rows lie, sorted": ("scan", "select n from t"),
+    "walk by key": ("scan", "select n from t"),
     "key's T-tree, none": ("T-tree", "select n from t where id >= 0 and n = 1"),
     "as rows lie, none": ("scan", "select n from t where n = 1"),
     "sqlite3 table": ("sqlite3", "select n from t not indexed"),
