@@ -20,6 +20,8 @@ SEED = 19860828
 EQUAL = 100
 RANGES = 20
 FEW = 10
+# How many rows of three numbers a block takes, which has 16 MiB at most.
+ROWS_A_BLOCK = 500_000
 # How many pairs are counted in one process.
 SHARE = 12
 # Large pages for the tables, as ./run asks for them.
@@ -139,10 +141,10 @@ def each(line, values):
 
 
 def load(table, names, rows):
-    """A load of rows of numbers."""
+    """A load of rows of numbers, in as few blocks as their limit allows."""
     record = b",".join([b"%d"] * len(rows[0])) + b"\n"
-    block = names + b"\n" + each(record, rows)
-    return b"load %s %d\n" % (table, len(block)) + block
+    blocks = (names + b"\n" + each(record, rows[at : at + ROWS_A_BLOCK]) for at in range(0, len(rows), ROWS_A_BLOCK))
+    return b"".join(b"load %s %d\n" % (table, len(block)) + block for block in blocks)
 
 
 class Table:
