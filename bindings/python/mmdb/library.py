@@ -226,14 +226,14 @@ class Handle:
         return self._unanswered(status) if status else self._told_bytes()
 
     def _reason(self, line: bytes, block: bytes) -> Optional[str]:
-        """Why the line that was just answered was refused, with its block. None where it wasn't, or for want of memory.
+        """Why the line that was just answered was refused, with its block. None if it wasn't, or when out of memory.
 
-        It is asked right behind the answer, while the tables are as they were.
+        It is asked directly after the answer, while the tables are unchanged.
         """
         return self._words(_REASON(self._at, line, len(line), block, len(block), self._told_at))
 
     def _words(self, status: int) -> Optional[str]:
-        """The words of a reason that was asked for. None where there are none, or for want of memory."""
+        """The words of a reason that was asked for. None if there are none, or when out of memory."""
         if status == _NO_MEMORY:
             return None
         words = self._unanswered(status) if status else self._told_bytes()
