@@ -1,5 +1,5 @@
 """Very many random streams in one process over the library, judged by plain lists of rows: whole under each policy, in pieces, line by
-line, where each refusal has its number and a reason, and as statements, whose values are bound and whose rows are read as cells.
+line and as statements. Line by line each refusal has its number and a reason. As statements values are bound and rows are cells.
 
 In large sizes (`tests/fire many_streams`) the environment selects streams: MMDB_FIRST is the number of the first, MMDB_STREAMS how many,
 MMDB_SEED the seed, MMDB_JOBS the number of processes. MMDB_KEPT names a file that keeps the progress, so that a run can go on later.

@@ -1,7 +1,7 @@
 """How rows are shown: as a table, as CSV, as JSON or as Markdown.
 
-A null differs from each text in every mode: in a table and in Markdown it is an empty cell, and the empty text is `''`;
-in CSV it is an empty field, and the empty text is `""`; in JSON it is `null`.
+A null differs from each text in every mode. In a table and in Markdown it is an empty cell, and the empty text is `''`.
+In CSV it is an empty field, and the empty text is `""`. In JSON it is `null`.
 """
 
 from __future__ import annotations

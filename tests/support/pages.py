@@ -17,7 +17,7 @@ LINK = re.compile(r"!?\[([^\]]*)\]\(([^()\s]*)\)")
 END = re.compile(r"(?<=[.!?])[)\"'*_]*\s+")
 WORD = re.compile(r"\S*\w\S*")
 # What begins a paragraph in a manual page, and what is code there.
-BREAKS = (".SH", ".SS", ".PP", ".TP", ".IP", ".TQ", ".RS", ".RE", ".LP", ".P", ".HP", ".br", ".nf", ".fi")
+BREAKS = (".SH", ".SS", ".PP", ".TP", ".IP", ".TQ", ".RS", ".RE", ".LP", ".P", ".HP", ".br", ".EX", ".EE", ".nf", ".fi", ".TS", ".TE")
 ESCAPE = re.compile(r"\\(?:\(..|f.|.)")
 
 
@@ -100,10 +100,10 @@ def manual_pieces(page):
     for number, line in enumerate([*page.splitlines(), ".PP"], 1):
         macro = line.split()[0] if line.startswith(".") and line[1:].strip() else ""
         in_table = (in_table or macro == ".TS") and macro != ".TE"
-        if macro in BREAKS or macro in (".EX", ".EE", ".TS", ".TE") or in_table:
+        if macro in BREAKS or in_table:
             yield Piece(begun, text)
             text, begun = "", number
-        in_code = (in_code or macro == ".EX") and macro != ".EE"
+        in_code = (in_code or macro in (".EX", ".nf")) and macro not in (".EE", ".fi")
         if in_table and not macro:
             yield from (Piece(number, cell) for cell in line.split("\t"))
         elif not in_code and not line.startswith((".\\", "'\\", ".TH")):

@@ -1,9 +1,9 @@
 /* Sessions that come, are touched, looked up and expire, second by second, at full speed: 200 commands a second, each by a
-   statement. The words are SEED, the number of ROUNDS, how many SECONDS each has, the longest LIFE of a session in seconds, and
-   1 where the keys are CHOSEN: tokens whose hashes are equal in their 12 lowest bits, numbers that fall and ends that rise.
+   statement. The words are SEED, the number of ROUNDS, the SECONDS of each, the longest LIFE of a session in seconds, and CHOSEN.
+   If that is 1, the hashes of tokens are equal in their 12 lowest bits, numbers fall and ends rise.
 
-   Behind each round it tells the bytes that the engine holds, and at the end how long each kind of command took. Its status is 1
-   where an answer is not that of a list of the sessions. */
+   After each round it prints the bytes that the engine holds, and at the end how long each kind of command took. Its status is 1
+   if an answer is not that of a list of the sessions. */
 #define _POSIX_C_SOURCE 199309L
 #include "churn.h"
 

@@ -1,10 +1,10 @@
-/* Makes calls of each kind with what a hostile caller gives, within what the header lets him give: lines and texts of any bytes,
-   zero bytes among them, and of any length; null with a length and without; numbers of statements and of places that name none;
-   closed handles, null handles and open ones. The words are the SEED and how many CALLS there are.
+/* Makes calls of each kind with a hostile caller's arguments, within what the header allows. Lines and texts have any bytes, zero bytes
+   among them, and any length; null comes with a length and without. Numbers of statements and of places name none, and handles are
+   closed, null or open. The words are the SEED and the number of CALLS.
 
-   Each status has to be one that the header tells of, and NOT_OPEN, NO_LINE, NO_SUCH_STATEMENT and NO_SUCH_PLACE come just where they
-   have to. What is answered is read to its end. The rows of each statement are as they were until it is executed anew, and those of a
-   line until the next is queried. */
+   Each status must be one that the header names, and NOT_OPEN, NO_LINE, NO_SUCH_STATEMENT and NO_SUCH_PLACE come exactly where they
+   must. Answers are read to their end. The rows of each statement stay until it is executed again, and those of a line until the next
+   query. */
 #include "checking.h"
 
 #include <inttypes.h>
