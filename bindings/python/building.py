@@ -1,9 +1,8 @@
-"""Builds the package, as pip and its kin ask for it (PEP 517 and PEP 660), with the library and the licences in it.
+"""Builds the package for pip and similar tools (PEP 517 and PEP 660), with the library and the licences in it.
 
-Nothing but Python is wanted for that, so it needs no network. In the repository the library is that of `release/`, and in
-an unpacked sdist it stands in the package already. Where a C compiler and Python's headers are there, the extension is
-built over the library's archive, and the wheel is for CPython 3.10 and later. Else the package is without it, and the
-wheel is for any Python 3.
+It needs only Python, and no network. In the repository the library is that of `release/`, and an unpacked sdist has it in
+the package already. If there are a C compiler and Python's headers, the extension is built over the library's archive,
+and the wheel is for CPython 3.10 and later. Otherwise the package is without it, and the wheel is for any Python 3.
 """
 
 import base64

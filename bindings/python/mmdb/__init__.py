@@ -6,9 +6,9 @@
         for book in db.select("select * from book where id < :most", most=10):
             print(book.id, book.title)
 
-The library is part of the extension `_mmdb`, where that was built. Else, and where the environment variable MMDB_PURE
-or MMDB_LIBRARY is set, it is `libmmdb.so`, by ctypes: from the folder that MMDB_LIBRARY names, else from this package
-or beside it, else from where the system keeps libraries.
+The library is part of the extension `_mmdb`, if that was built. Otherwise, and if the environment variable MMDB_PURE or
+MMDB_LIBRARY is set, it is `libmmdb.so`, by ctypes: from the folder that MMDB_LIBRARY names, else from this package or
+beside it, else from where the system keeps libraries.
 """
 
 from .database import MOST, POLICIES, Database, Parameters

@@ -21,21 +21,21 @@ MOST = 1 << 24
 #: The parameters of one line: values in their order, or by name.
 Parameters = Union[Sequence[Value], Mapping[str, Value]]
 
-# What lines the calls take that don't take all.
+# The lines of the calls that don't take all.
 _TAKEN = {"select": ("select",), "change": CHANGES}
 
-# What the library answers to a call that isn't done, of mmdb.h.
+# The statuses of mmdb.h for a call that isn't done.
 _NOT_OPEN, _NOT_ONE_REQUEST, _NO_MEMORY, _NO_SUCH_STATEMENT = 1, 6, 7, 9
 
 
 class Database(Handle):
     """A database in main memory, without tables at first.
 
-    `policy` is one of `POLICIES`. `rows` is the greatest number of rows of a table, 1 to `MOST`; `block` the greatest
-    number of bytes of a block of a load or a dump, up to `MOST`. Used as a context manager, it is closed at the end.
+    `policy` is one of `POLICIES`. `rows` is the most rows of a table, 1 to `MOST`; `block` the most bytes of a
+    block of a load or a dump, up to `MOST`. Used as a context manager, it is closed at the end.
     Each call of a closed one but `close` raises ValueError.
 
-    Threads may share it: their calls come one after another. A signal handler and a `__del__` must not use it.
+    Threads may share it: their calls run one after another. A signal handler and a `__del__` must not use it.
     """
 
     def __init__(self, policy: str = "auto", rows: int = MOST, block: int = MOST) -> None:
@@ -59,46 +59,46 @@ class Database(Handle):
         # (these are those of the handle, so that what goes well doesn't come by here)
 
         def execute(self, line: str, /, *parameters: Any, **named: Value) -> Any:
-            """Does what a command says, and gives what it answers.
+            """Executes a command, and returns its answer.
 
-            Each `?` of the line that stands in no text is the place of a parameter, an int, a str or None, which is
-            null. Where the places are of the form `:name`, the parameters are given as keywords, or as a mapping.
+            Each `?` of the line outside of texts is the place of a parameter, an int, a str or None, which is
+            null. If the places are of the form `:name`, the parameters are keywords or a mapping.
 
-            A select gives its `Rows`; `insert`, `update` and `delete` give how many rows they were about; `tables`
-            gives the text of the declarations, each with a line feed, and `dump` the text of the load that it answers.
-            All other commands give None, and so do comments and blank lines.
+            A select returns its `Rows`; `insert`, `update` and `delete` return the number of rows; `tables` returns
+            the text of the declarations, each with a line feed, and `dump` the text of the load that it answers.
+            All other commands, comments and blank lines return None.
 
-            Raises `Refused` where it is refused. Raises ValueError where the parameters don't fit the places, a text
-            has a lone surrogate, an integer has more than 64 bits, or the line has a line feed or is a load with a
-            block. Raises TypeError where a parameter is of any other type, bool among them.
+            Raises `Refused` if it is refused. Raises ValueError if the parameters don't fit the places, a text has a
+            lone surrogate, an integer has more than 64 bits, or the line has a line feed or is a load with a block.
+            Raises TypeError if a parameter is of any other type, bool among them.
             """
 
         def select(self, line: str, /, *parameters: Any, **named: Value) -> Rows:
-            """Does a select, and gives its rows.
+            """Executes a select, and returns its rows.
 
             Raises what `execute` raises, and TypeError for a line that begins with the word of another command.
             """
 
         def change(self, line: str, /, *parameters: Any, **named: Value) -> int:
-            """Does an insert, an update or a delete, and gives how many rows it was about.
+            """Executes an insert, an update or a delete, and returns the number of rows.
 
             Raises what `execute` raises, and TypeError for a line that begins with the word of another command.
             """
 
     def prepare(self, line: str) -> Statement:
-        """An insert, an update, a delete or a select that is prepared once, to be done many times.
+        """An insert, an update, a delete or a select that is prepared once, to be executed many times.
 
-        Raises `Refused` where it is refused whatever its parameters are. Raises TypeError for a line that begins with
+        Raises `Refused` if it is refused whatever its parameters are. Raises TypeError for a line that begins with
         the word of another command.
         """
         return Statement(self, line)
 
     def executemany(self, line: str, rows: Iterable[Parameters]) -> int:
-        """Does an insert, an update or a delete with each row of parameters, and gives how many rows all were about.
+        """Executes an insert, an update or a delete with each row of parameters, and returns the number of all rows.
 
-        Each row is a tuple or list of values, or a mapping of names to values. All are looked at before the first is
-        done, so where one doesn't fit nothing is done. Where one is refused, those before it are done, and
-        `Refused.line` tells which it was. No call of another thread comes between.
+        Each row is a tuple or list of values, or a mapping of names to values. All are checked before the first is
+        executed, so if one doesn't fit nothing is done. If one is refused, those before it are done, and
+        `Refused.line` says which it was. No call of another thread comes between.
 
         Raises what `change` raises.
         """
@@ -113,14 +113,14 @@ class Database(Handle):
             return sum(self._counted(encoded(at.filled(values))) for values in given)
 
     def load(self, table: str, rows: Iterable[Iterable[Value]]) -> int:
-        """Puts these rows into a table, all of them or none, and gives how many they are.
+        """Inserts these rows into a table, all of them or none, and returns their number.
 
         Each row has a value for each column, in their order. A text may have line feeds here.
 
-        Raises `Refused` as the language says. Raises ValueError where a row has another number of values, a text has a
-        lone surrogate, an integer has more than 64 bits, or an empty text is to come into a reference that takes nulls,
-        where a load would read null. Raises TypeError where a value is of another type than its column, and where a row
-        is a str, a dict or no row at all.
+        Raises `Refused` as the language says. Raises ValueError if a row has another number of values, a text has a
+        lone surrogate, an integer has more than 64 bits, or an empty text would go into a reference that takes nulls,
+        where a load would read null. Raises TypeError if a value has another type than its column, and if a row is a
+        str, a dict or no row at all.
         """
         given = rows_of(rows)
         with self._turn:
@@ -128,9 +128,9 @@ class Database(Handle):
             return self._loaded(table, block_of(columns, given) if columns else b"")
 
     def load_dicts(self, table: str, dicts: Iterable[Mapping[str, Value]]) -> int:
-        """Puts rows into a table that are given by the names of its columns, all of them or none.
+        """Inserts rows given by the names of the columns into a table, all of them or none.
 
-        Raises what `load` raises, and ValueError where a dict lacks a column or has a key that is none.
+        Raises what `load` raises, and ValueError if a dict lacks a column or has a key that is none.
         """
         given = list(dicts)
         with self._turn:
@@ -138,7 +138,7 @@ class Database(Handle):
             return self._loaded(table, block_of(columns, rows_of_dicts(table, columns, given)) if columns else b"")
 
     def load_csv(self, table: str, block: Union[str, bytes]) -> int:
-        """Puts the rows of a CSV into a table, all of them or none, and gives how many they are.
+        """Inserts the rows of a CSV into a table, all of them or none, and returns their number.
 
         The first record has the names of all columns, in their order. Raises `Refused` as the language says.
         """
@@ -148,12 +148,12 @@ class Database(Handle):
     def dump(self, table: str) -> Rows:
         """All rows of a table by rising keys, with the bare names of its columns.
 
-        They are no block, whose bytes are limited. Raises `Refused` where there is no such table.
+        They are no block, whose bytes are limited. Raises `Refused` if there is no such table.
         """
         with self._turn:
             columns = self._columns(table)
             if not columns:
-                # (the library tells what is wrong, or that the name stands between blanks)
+                # (the library says what is wrong, or that the name has blanks around it)
                 table = self._accepted(encoded(f"dump {table}")).decode().split(" ", 2)[1]
         line = f"select * from {table}"
         rows: Rows = self._done(line, placed(line), ())
@@ -161,9 +161,9 @@ class Database(Handle):
         return rows
 
     def indexes(self, table: str) -> List[Index]:
-        """How the indexes of a table stand: that of its key, and then the declared ones in their order.
+        """The state of the indexes of a table: that of its key, and then the declared ones in order.
 
-        Raises `Refused` where there is no such table; its line is the name.
+        Raises `Refused` if there is no such table; its line is the name.
         """
         name = encoded(table)
         with self._turn:
@@ -176,8 +176,8 @@ class Database(Handle):
     def answer(self, line: Union[str, bytes], block: Optional[bytes] = None) -> bytes:
         """The bytes that the library answers to a line, refusals too. They are empty for comments and blank lines.
 
-        `block` is the block of a load. Raises ValueError where the line has a line feed, and where it asks for a block
-        of another length than the one given.
+        `block` is the block of a load. Raises ValueError if the line has a line feed, or if it asks for a block of
+        another length than the one given.
         """
         with self._turn:
             return self._answer(as_bytes(line), None if block is None else as_bytes(block))
@@ -185,13 +185,13 @@ class Database(Handle):
     def reason(self, line: Union[str, bytes], block: Optional[bytes] = None) -> Optional[str]:
         """Why `answer` was a refusal of this line with its block, in a line of words for people.
 
-        It is asked right behind that call, with nothing between, while the tables are as they were. It is None where
-        that was no refusal, and where no memory is found for the words.
+        Call it right after that call, with nothing between, while the tables are unchanged. It is None if that was no
+        refusal, and if memory ran out for the words.
         """
         with self._turn:
             return self._reason(as_bytes(line), b"" if block is None else as_bytes(block))
 
-    # What a handle asks for, where it has no way of its own.
+    # What a handle asks for if it has no way of its own.
 
     def _perform(self, call: str, line: Any, parameters: Tuple[Any, ...], named: Mapping[str, Any]) -> Any:
         """Does what a line says that came to one of the calls."""
@@ -238,7 +238,7 @@ class Database(Handle):
             raise WrongUse("mmdb: a line has no line feed, and a load has a block as long as it says")
         raise WrongUse(f"mmdb: the library answers {status}")
 
-    # The calls below want their turn held.
+    # The calls below need their turn held.
 
     def _answer(self, line: bytes, block: Optional[bytes] = None) -> bytes:
         """What is answered. After a declaration, and a call that was interrupted, the columns are known no longer."""
@@ -264,7 +264,7 @@ class Database(Handle):
         return int(self._accepted(line, block)[3:])
 
     def _loaded(self, table: str, block: bytes) -> int:
-        """Loads a block. Of a table that isn't there it is empty, and the library tells what is wrong."""
+        """Loads a block. It is empty for a missing table, and the library says what is wrong."""
         return self._counted(encoded(f"load {table} {len(block)}"), block)
 
     def _forget_columns(self) -> None:
@@ -280,7 +280,7 @@ class Database(Handle):
 
 
 def _outcome(line: str, answer: bytes) -> Any:
-    """What a command gives that is no statement."""
+    """The result of a command that is no statement."""
     if answer == b"ok\n" or not answer:
         return None
     if line.lstrip(" \t").startswith("tables"):

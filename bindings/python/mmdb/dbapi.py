@@ -51,7 +51,7 @@ class Connection:
         raise NotSupportedError("mmdb: there are no transactions, so nothing can be rolled back")
 
     def close(self) -> None:
-        """Closes the database, which gives all its memory back. A second call does nothing."""
+        """Closes the database, which frees all its memory. A second call does nothing."""
         self.database.close()
 
     def __enter__(self) -> Connection:
@@ -74,7 +74,7 @@ class Cursor:
 
     def __init__(self, connection: Connection) -> None:
         self.connection = connection
-        #: How many rows `fetchmany` gives where it isn't told.
+        #: How many rows `fetchmany` returns by default.
         self.arraysize = 1
         #: How many rows the last command was about, or selected; -1 where it was about none.
         self.rowcount = -1
@@ -85,7 +85,7 @@ class Cursor:
         self._is_closed = False
 
     def execute(self, operation: str, parameters: Parameters = ()) -> Cursor:
-        """Does a command, with a sequence of parameters for `?`, or a mapping for `:name`, and gives this cursor.
+        """Executes a command, with a sequence of parameters for `?`, or a mapping for `:name`, and returns this cursor.
 
         Raises one of the errors of PEP 249.
         """
@@ -97,7 +97,7 @@ class Cursor:
         return self
 
     def executemany(self, operation: str, seq_of_parameters: Iterable[Parameters]) -> Cursor:
-        """Does an insert, an update or a delete with each of these, and gives this cursor.
+        """Executes an insert, an update or a delete with each of these, and returns this cursor.
 
         `rowcount` is the sum of all. Raises what `Database.executemany` raises.
         """

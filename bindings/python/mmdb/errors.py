@@ -1,4 +1,4 @@
-"""What is raised: the tree of PEP 249, in which a refusal of the library and each wrong use of a call has its place."""
+"""The exceptions: the tree of PEP 249, with a place for each refusal of the library and each wrong use of a call."""
 
 from __future__ import annotations
 
@@ -22,7 +22,7 @@ class DatabaseError(Error):
 
 
 class DataError(DatabaseError):
-    """A value that has no room, or no place in its column."""
+    """A value that is too long, or doesn't fit its column."""
 
 
 class OperationalError(DatabaseError):
@@ -46,7 +46,7 @@ class NotSupportedError(DatabaseError):
 
 
 class Refused(DatabaseError):
-    """An answer `error NUMBER TEXT`. The tables are as they were.
+    """An answer `error NUMBER TEXT`. The tables are unchanged.
 
     It is of one of the classes above too, by its number.
     """
@@ -62,11 +62,11 @@ class Refused(DatabaseError):
         super().__init__(number, text)
         #: The number of the refusal.
         self.number = number
-        #: What stands behind the number, with the number of a record where the refusal of a load has one.
+        #: The text after the number, with the number of a record if the refusal of a load has one.
         self.text = text
-        #: The line as it was sent, with its parameters in their places; None where a database finds no memory to open.
+        #: The line as it was sent, with its parameters in their places; None if memory ran out when a database was opened.
         self.line = line
-        #: Why, in a line of words for people; None where no memory is found for them.
+        #: Why, in a line of words for people; None if memory ran out for them.
         self.reason = reason
         #: The line as it was written, with its places. The columns that the reason names are those of this line.
         self.written = line if written is None else written
@@ -95,7 +95,7 @@ class LineRefused(Refused, ProgrammingError):
 
 
 class NoMemory(Refused, OperationalError, MemoryError):
-    """The refusal 90. No memory was found, to open a database or for a request."""
+    """The refusal 90. Memory ran out, for opening a database or for a request."""
 
 
 class WrongUse(ProgrammingError, ValueError):
@@ -107,7 +107,7 @@ class WrongType(ProgrammingError, TypeError):
 
 
 class WrongValue(DataError, ValueError):
-    """A value of the right type that can't be sent, or one that can't be told from another."""
+    """A value of the right type that can't be sent, or can't be told from another."""
 
 
 _CLASSES: Dict[int, Type[Refused]] = {

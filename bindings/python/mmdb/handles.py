@@ -1,4 +1,4 @@
-"""The library, by the extension where that was built, else by ctypes. Both have the same two classes."""
+"""The library, by the extension if that was built, else by ctypes. Both have the same two classes."""
 
 from __future__ import annotations
 
@@ -16,7 +16,7 @@ else:
     except ImportError:
         from .library import Handle, Prepared
 
-#: How the library is reached: by the `extension`, or by `ctypes`.
+#: How the library is used: by the `extension`, or by `ctypes`.
 implementation = "extension" if Handle.__module__.endswith("._mmdb") else "ctypes"
 
 __all__ = ["Handle", "Prepared", "implementation"]

@@ -1,4 +1,4 @@
-"""How the indexes of a table stand."""
+"""The state of the indexes of a table."""
 
 from __future__ import annotations
 
@@ -6,7 +6,7 @@ from typing import List, NamedTuple, Optional
 
 
 class Index(NamedTuple):
-    """An index of a table, and how it stands. What the other kind alone has is None."""
+    """An index of a table, and its state. What only the other kind has is None."""
 
     #: The name of its column.
     column: str
@@ -14,20 +14,20 @@ class Index(NamedTuple):
     kind: str
     #: How many rows it has: all of the table.
     rows: int
-    #: How many nodes lie one below the other in a tree at most.
+    #: The height of a tree in nodes.
     height: Optional[int]
     #: How many nodes a tree has, of at most 32 rows each.
     nodes: Optional[int]
-    #: How many rows a node of a tree has in the mean, rounded down.
+    #: The average number of rows in a node of a tree, rounded down.
     fill: Optional[int]
     #: How many buckets a hash has.
     buckets: Optional[int]
-    #: How many rows stand in the fullest bucket of a hash.
+    #: The number of rows in the fullest bucket of a hash.
     longest: Optional[int]
 
 
 def indexes_of(answer: str) -> List[Index]:
-    """The indexes that an answer tells of."""
+    """The indexes in an answer."""
     return [_index_of(record.split(",")) for record in answer.splitlines()[2:]]
 
 

@@ -1,6 +1,6 @@
 """The shared library by ctypes: where it is, and its calls on one database.
 
-The extension `_mmdb` has the same classes, and is taken in the place of this where it was built.
+The extension `_mmdb` has the same classes, and replaces this if it was built.
 """
 
 from __future__ import annotations
@@ -70,8 +70,8 @@ def _path() -> str:
 
 
 def _is_whole(path: str) -> bool:
-    """Whether a file is a library with all that its front tells of, up to the table of its sections at its end. To load
-    a part of one would end the process."""
+    """Whether a file is a whole library, up to the table of its sections at its end. Loading a part of one would end the
+    process."""
     with open(path, "rb") as file:
         front = file.read(64)
         size = file.seek(0, os.SEEK_END)
@@ -177,15 +177,15 @@ class Handle:
             _CLOSE(self._at)
 
     def execute(self, line: str, /, *parameters: Any, **named: Any) -> Any:
-        """Does what a command says, and gives what it answers."""
+        """Executes a command, and returns its answer."""
         return self._perform("execute", line, parameters, named)
 
     def select(self, line: str, /, *parameters: Any, **named: Any) -> Any:
-        """Does a select, and gives its rows."""
+        """Executes a select, and returns its rows."""
         return self._perform("select", line, parameters, named)
 
     def change(self, line: str, /, *parameters: Any, **named: Any) -> Any:
-        """Does an insert, an update or a delete, and gives how many rows it was about."""
+        """Executes an insert, an update or a delete, and returns the number of rows."""
         return self._perform("change", line, parameters, named)
 
     def _done(self, line: str, placed: Placed, values: Tuple[Any, ...]) -> Any:
@@ -208,7 +208,7 @@ class Handle:
         self._kept.move_to_end(line)
         return statement
 
-    # The calls below want their turn held.
+    # The calls below need their turn held.
 
     def _command(self, line: bytes) -> bytes:
         """What is answered to a line. It is empty for comments and blank lines."""
@@ -266,7 +266,7 @@ class _Statement:
         self.declarations = 0
 
     def done(self, handle: Handle, values: Tuple[Any, ...]) -> Any:
-        """Does it with these values, and gives its rows, or how many rows it was about."""
+        """Executes it with these values, and returns its rows, or their number."""
         self.prepare(handle, values)
         size = self.bind(handle, values)
         if self.placed.is_select:
@@ -278,7 +278,7 @@ class _Statement:
         return found
 
     def done_many(self, handle: Handle, rows: List[Tuple[Any, ...]]) -> int:
-        """Does it with each of these rows of values, and gives how many rows all were about."""
+        """Does it with each of these rows of values, and returns the number of all rows."""
         check_rows(rows)
         count: int = 0
         for values in rows:
@@ -304,7 +304,7 @@ class _Statement:
             handle._failed(_NO_SUCH_PLACE)
 
     def bind(self, handle: Handle, values: Tuple[Any, ...]) -> int:
-        """Binds these values, and gives how many bytes their texts are."""
+        """Binds these values, and returns how many bytes their texts are."""
         at, number, size = handle._at, self.number, 0
         for place, value in enumerate(values):
             kind = type(value)
@@ -330,7 +330,7 @@ class _Statement:
             return
         self.shape, self.declarations = None, handle._declarations
         status = _COLUMNS(handle._at, self.number, handle._cells_at)
-        # (where it is refused, the execution is too, and tells why)
+        # (if it is refused, the execution is too, and says why)
         if not status:
             self.shape = shape_of(*map(tuple, _columns_of(handle._cells)))
 
@@ -393,7 +393,7 @@ def _columns_of(cells: _Cells) -> List[List[Any]]:
 
 
 def _value_of(texts: int, integer: int, at: int, length: int, kind: int) -> Any:
-    """The value that stands in a cell."""
+    """The value of a cell."""
     if kind == _TEXT:
         return ctypes.string_at(texts + at, length).decode()
     return integer if kind == _INTEGER else None
@@ -446,7 +446,7 @@ class Prepared:
         handle._turn.release()
 
     def execute(self, /, *parameters: Any, **named: Any) -> Any:
-        """Does it with these parameters, and gives its rows, or how many rows it was about."""
+        """Executes it with these parameters, and returns its rows, or their number."""
         return self._perform(parameters, named)
 
     def _done(self, values: Tuple[Any, ...]) -> Any:

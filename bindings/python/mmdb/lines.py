@@ -1,4 +1,4 @@
-"""Lines: what kind of command one is, and where its parameters stand."""
+"""Lines: what kind of command one is, and where its parameters are."""
 
 from __future__ import annotations
 
@@ -12,7 +12,7 @@ from .values import encoded, row_of, spelled
 # A text, which has no places; or a place, with its name where it has one.
 _TEXT_OR_PLACE = re.compile(r"'[^']*(?:'|\Z)|\?|:([^\W\d]\w*)")
 
-# Where nothing has to stand between a place and what is before it, or behind it, to keep the two apart.
+# Where nothing is needed between a place and what is before it, or after it, to keep the two apart.
 _APART_BEFORE = frozenset(" \t(,=<>")
 _APART_BEHIND = frozenset(" \t),")
 
@@ -32,7 +32,7 @@ STATEMENTS = (*CHANGES, "select")
 
 
 class Placed(NamedTuple):
-    """A line, and where its parameters stand. (The extension reads its fields by their order.)"""
+    """A line, and where its parameters are. (The extension reads its fields by their order.)"""
 
     #: The bytes of the line with a `?` at each place, which can be prepared.
     prepared: bytes
@@ -42,7 +42,7 @@ class Placed(NamedTuple):
     places: int
     #: The names of its places in their order; none where they are marked by `?`.
     names: Tuple[str, ...]
-    #: How many values it wants, each name counted once.
+    #: How many values it needs, each name counted once.
     wanted: int
     is_select: bool
     #: Whether it is an insert, an update, a delete or a select, by its first word, and not too long.
@@ -79,7 +79,7 @@ class Placed(NamedTuple):
 
     def fitting(self, parameters: Tuple[Any, ...], named: Mapping[str, Any]) -> Tuple[Any, ...]:
         """The parameters in the order of the places: those of `named`, or of a mapping that is the one parameter, by
-        name. Raises WrongUse where they don't fit the places, and WrongType where a list stands for its values."""
+        name. Raises WrongUse if they don't fit the places, and WrongType if a list is passed for its values."""
         if not named and not self.names and len(parameters) == self.places:
             return parameters
         only = parameters[0] if len(parameters) == 1 else None
@@ -117,7 +117,7 @@ class Placed(NamedTuple):
 
 @functools.lru_cache(maxsize=512)
 def placed(line: str) -> Placed:
-    """A line, and where its parameters stand. Raises WrongUse where it has a line feed, or places of both kinds."""
+    """A line, and where its parameters are. Raises WrongUse if it has a line feed, or places of both kinds."""
     if "\n" in line:
         raise WrongUse("mmdb: a line has no line feed")
     pieces: List[str] = [line]
@@ -142,7 +142,7 @@ def placed(line: str) -> Placed:
 
 
 def _cut(line: str) -> Tuple[List[str], List[Optional[str]]]:
-    """What stands before, between and behind the places of a line, and their names, which places by `?` don't have."""
+    """The text before, between and after the places of a line, and their names, which places by `?` don't have."""
     pieces: List[str] = [""]
     names: List[Optional[str]] = []
     at = 0
@@ -184,13 +184,13 @@ def _listed(names: Iterable[str]) -> str:
 
 
 def check_line(line: Any) -> None:
-    """Raises WrongType where a line is no text."""
+    """Raises WrongType if a line is no text."""
     if not isinstance(line, str):
         raise WrongType(f"mmdb: a line is a str, not {type(line).__name__}")
 
 
 def check_kind(call: str, line: str, *commands: str) -> None:
-    """Raises WrongType where the first word tells that a line is another command than these, or none."""
+    """Raises WrongType if a line is another command than these by its first word, or none."""
     check_line(line)
     found = _BEGINNING.match(line)
     if found is None or found[1] in commands:

@@ -1,4 +1,4 @@
-"""Rows, and the names by which their values are had."""
+"""Rows, and the names of their values."""
 
 from __future__ import annotations
 
@@ -15,11 +15,11 @@ else:
 
 
 class Row(_Values):
-    """A row: the list of its values, which are also had by the names of their columns.
+    """A row: the list of its values, which also have the names of their columns.
 
-    `row["emp.id"]` is the value of a column by its full name, and `row["id"]` and `row.id` where one column alone has
-    that name. A name that a list has of its own, as `count`, or that begins and ends with two underscores, is had by
-    `row["count"]` alone.
+    `row["emp.id"]` is the value of a column by its full name, and `row["id"]` and `row.id` if only one column has that
+    name. A name that lists have, as `count`, or that begins and ends with two underscores, works as `row["count"]`
+    only.
     """
 
     __slots__ = ()
@@ -61,12 +61,12 @@ _ROWS_OWN = frozenset(dir(Row))
 
 
 def _is_property(name: str) -> bool:
-    """Whether a column of that name is had as an attribute."""
+    """Whether a column of that name is an attribute."""
     return name not in _ROWS_OWN and not (name.startswith("__") and name.endswith("__"))
 
 
 def short_names(names: Sequence[str]) -> List[str]:
-    """The names without their tables, but where several are alike then."""
+    """The names without their tables, unless several would be alike."""
     bare = [name.rpartition(".")[2] for name in names]
     counts = collections.Counter(bare)
     return [short if counts[short] == 1 else name for short, name in zip(bare, names)]
@@ -94,7 +94,7 @@ else:
 class Rows(_ListOfRows):
     """A list of rows, with the names of their columns.
 
-    It is equal to each list that has the same rows, and each row to a list of its values.
+    It equals each list with the same rows, and each row equals a list of its values.
     """
 
     __slots__ = ("names", "types")
@@ -106,7 +106,7 @@ class Rows(_ListOfRows):
     types: Tuple[type, ...]
 
     def dicts(self) -> List[Dict[str, Any]]:
-        """Each row as a dict, by the columns' names alone, or by their full names where several are alike."""
+        """Each row as a dict, by the columns' names alone, or by their full names if several are alike."""
         keys = short_names(self.names)
         return [dict(zip(keys, row)) for row in self]
 

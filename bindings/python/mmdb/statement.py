@@ -1,4 +1,4 @@
-"""Statements that are prepared once and done many times."""
+"""Statements that are prepared once and executed many times."""
 
 from __future__ import annotations
 
@@ -14,15 +14,15 @@ if TYPE_CHECKING:
 
 
 class Statement(Prepared):
-    """An insert, an update, a delete or a select that is prepared once, to be done many times.
+    """An insert, an update, a delete or a select that is prepared once, to be executed many times.
 
-    `Database.prepare` gives one. Used as a context manager, it is closed at the end, and so it is with its database.
+    `Database.prepare` returns one. Used as a context manager, it is closed at the end, and also with its database.
     Each call of a closed one but `close` raises ValueError.
     """
 
     def __init__(self, database: Handle, line: str) -> None:
         check_kind("prepare", line, *STATEMENTS)
-        #: The line that it was made of.
+        #: Its line.
         self.line = line
         self._placed = placed(line)
         super().__init__(database, self._placed)
@@ -31,15 +31,15 @@ class Statement(Prepared):
         # (this is that of the handle, so that what goes well doesn't come by here)
 
         def execute(self, /, *parameters: Any, **named: Value) -> Any:
-            """Does it with these parameters, and gives its rows, or how many rows it was about.
+            """Executes it with these parameters, and returns its rows, or their number.
 
             Raises what `Database.execute` raises.
             """
 
     def executemany(self, rows: Iterable[Parameters]) -> int:
-        """Does an insert, an update or a delete with each row of parameters, and gives how many rows all were about.
+        """Executes an insert, an update or a delete with each row of parameters, and returns the number of all rows.
 
-        It is as `Database.executemany` is.
+        It works as `Database.executemany`.
         """
         check_kind("executemany", self.line, *CHANGES)
         self._check()
@@ -48,9 +48,9 @@ class Statement(Prepared):
 
     @property
     def names(self) -> Tuple[str, ...]:
-        """The names of the columns that a select gives, as `table.column`. Of another statement there are none.
+        """The names of the columns of a select, as `table.column`. Another statement has none.
 
-        Raises `Refused` where it is refused whatever its parameters are.
+        Raises `Refused` if it is refused whatever its parameters are.
         """
         self._check()
         return self._names() if self._placed.is_select else ()
@@ -70,6 +70,6 @@ class Statement(Prepared):
         return self._done(self._placed.fitting(parameters, named))
 
     def _check(self) -> None:
-        """Raises WrongUse where it is closed."""
+        """Raises WrongUse if it is closed."""
         if self.closed:
             raise WrongUse("mmdb: the statement is closed")

@@ -1,4 +1,4 @@
-"""Values: how they are spelled in a line and in the block of a load, and the columns that they stand in."""
+"""Values: how they are spelled in a line and in the block of a load, and their columns."""
 
 from __future__ import annotations
 
@@ -30,7 +30,7 @@ class Column(NamedTuple):
 
 
 def columns_of(listing: str) -> Dict[str, List[Column]]:
-    """The columns of each table of a listing, by the table's name. A table stands behind those that it refers to."""
+    """The columns of each table of a listing, by the table's name. A table comes after those that it refers to."""
     tables: Dict[str, List[Column]] = {}
     for name, columns in _DECLARATION.findall(listing):
         tables[name] = []
@@ -50,7 +50,7 @@ def _digits(value: int) -> str:
 
 
 def spelled(value: Any) -> str:
-    """A value as it stands in a line. (A text with a line feed stands in none.)"""
+    """A value as it is spelled in a line. (A text with a line feed can't be.)"""
     if value is None:
         return "null"
     if isinstance(value, str):
@@ -63,7 +63,7 @@ def spelled(value: Any) -> str:
 
 
 def check_values(values: Iterable[Any]) -> None:
-    """Raises WrongType where one of these is no value, and WrongValue where it is none that can be sent."""
+    """Raises WrongType if one of these is no value, and WrongValue if it can't be sent."""
     for value in values:
         encoded(spelled(value))
 
@@ -101,7 +101,7 @@ def _quoted(text: str) -> str:
 
 
 def _field(value: Any, column: Column) -> str:
-    """A value as it stands in the block of a load, in that column."""
+    """A value as it is spelled in the block of a load, in that column."""
     if value is None and column.takes_null:
         return ""
     if column.kind is int and isinstance(value, int) and not isinstance(value, bool):
@@ -115,7 +115,7 @@ def _field(value: Any, column: Column) -> str:
 
 
 def _fields(values: List[Any], column: Column) -> List[str]:
-    """The values of a column as they stand in the block of a load."""
+    """The values of a column as they are spelled in the block of a load."""
     kinds = set(map(type, values))
     if kinds == {int} and column.kind is int and _LEAST <= min(values) and max(values) <= _GREATEST:
         return list(map(str, values))
@@ -150,7 +150,7 @@ def rows_of(rows: Iterable[Any]) -> List[Tuple[Any, ...]]:
 
 
 def row_of(row: Any, number: int) -> Tuple[Any, ...]:
-    """A row whose values have an order, as a tuple. Raises WrongType where it is none."""
+    """A row whose values have an order, as a tuple. Raises WrongType if it is none."""
     if type(row) in (tuple, list):
         return tuple(row)
     if isinstance(row, _NO_ROWS) or not isinstance(row, collections.abc.Iterable):

@@ -1,4 +1,4 @@
-//! The values that were given for the places of a line.
+//! The values for the places of a line.
 
 use crate::value::ValueRef;
 

@@ -1,4 +1,4 @@
-//! Cells of rows: as the library hands them out, and as a program keeps them.
+//! Cells of rows: as the library lends them, and as a program keeps them.
 
 use std::marker::PhantomData;
 use std::{slice, str};
@@ -28,7 +28,7 @@ impl Cell {
     }
 }
 
-/// Cells that are lent, with the texts that they tell of.
+/// Cells that are lent, with their texts.
 #[derive(Clone, Copy)]
 pub(crate) struct Cells<'c> {
     cells: &'c [Cell],

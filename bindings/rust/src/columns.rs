@@ -25,7 +25,7 @@ pub(crate) struct Column {
 /// The columns of each table, by the table's name.
 pub(crate) type Tables = HashMap<String, Vec<Column>>;
 
-/// The columns of each table of a listing. A table stands behind those that it refers to.
+/// The columns of each table of a listing. A table comes after those that it refers to.
 pub(crate) fn tables_of(listing: &str) -> Tables {
     let mut tables = Tables::new();
     for declared in listing.lines().filter_map(|line| line.strip_prefix("table ")) {
@@ -101,7 +101,7 @@ fn push_field(block: &mut String, value: ValueRef<'_>, column: &Column, row: usi
     Ok(())
 }
 
-/// Whether a field with this byte stands between marks.
+/// Whether a field with this byte needs quote marks.
 fn wants_marks(byte: u8) -> bool {
     matches!(byte, b',' | b'"' | b'\r' | b'\n')
 }

@@ -28,15 +28,15 @@ pub struct Database {
 impl Database {
     /// Opens a database under the widest limits, whose plans are chosen by what is there.
     ///
-    /// It is refused with the number 90 where no memory is found.
+    /// It is refused with the number 90 when out of memory.
     pub fn open_in_memory() -> Result<Database> {
         Database::open(Policy::default(), Limits::default())
     }
 
     /// Opens a database.
     ///
-    /// It is refused with the number 90 where no memory is found, and by [`Error::OutOfRange`] where the limits are
-    /// none.
+    /// It is refused with the number 90 when out of memory, and by [`Error::OutOfRange`] if the limits are out of
+    /// range.
     pub fn open(policy: Policy, limits: Limits) -> Result<Database> {
         let handle = Handle::open(policy as u32, limits.rows, limits.block)?;
         Ok(Database {
@@ -50,7 +50,7 @@ impl Database {
     /// says that the line is another command.
     ///
     /// Its places are as in [`execute`](Database::execute). What can't be done whatever the values are is refused here;
-    /// the refusal tells the line with nulls in its places.
+    /// the refusal has the line with nulls in its places.
     ///
     /// ```
     /// let mut db = mmdb::Database::open_in_memory()?;
@@ -72,13 +72,12 @@ impl Database {
         }
     }
 
-    /// Does a command, and gives how many rows an `insert`, an `update` or a `delete` was about; 0 for any other.
+    /// Executes a command, and returns the number of rows of an `insert`, an `update` or a `delete`; 0 for any other.
     ///
     /// The statement of a line with places is kept, so that it isn't read again when the line comes again.
     ///
-    /// Each place of the line that stands in no text is filled with a parameter: each `?` in their order, or each
-    /// `:name` by its name. A parameter is one value, whatever it holds: nothing in it is ever read as a part of the
-    /// command.
+    /// Each place of the line outside of texts takes a parameter: each `?` in order, or each `:name` by its name. A
+    /// parameter is one value, whatever it contains, and never a part of the command.
     ///
     /// ```
     /// use mmdb::{named_params, params};
@@ -92,7 +91,7 @@ impl Database {
     /// ```
     ///
     /// [`Error::NotAChange`] says that the line is a `select`, a `dump` or `tables`: [`query`](Database::query),
-    /// [`dump`](Database::dump) and [`command`](Database::command) give what these answer.
+    /// [`dump`](Database::dump) and [`command`](Database::command) return what these answer.
     pub fn execute<P: Params>(&mut self, line: &str, params: P) -> Result<usize> {
         if let Some(at) = self.lines.find(line) {
             return self.lines.use_of(at).change(&self.session.handle, params);
@@ -113,7 +112,7 @@ impl Database {
         self.select(line, params, |rows| Ok(rows.to_rows()))
     }
 
-    /// What a function makes of each row of a select, one after the other.
+    /// What a function makes of each row of a select, in order.
     ///
     /// ```
     /// let mut db = mmdb::Database::open_in_memory()?;
@@ -133,7 +132,7 @@ impl Database {
         Ok(MappedRows::new(self.query(line, params)?, map))
     }
 
-    /// What a function makes of the first row of a select. Those behind it are passed over.
+    /// What a function makes of the first row of a select. Later ones are skipped.
     ///
     /// [`Error::NoRows`] says that there is none, and [`optional`](crate::OptionalExtension::optional) makes `None` of
     /// that.
@@ -159,7 +158,7 @@ impl Database {
         self.select(line, params, |rows| rows.first(read))
     }
 
-    /// Does any command, and gives what it answers.
+    /// Executes any command, and returns its outcome.
     pub fn command<P: Params>(&mut self, line: &str, params: P) -> Result<Outcome> {
         if is_select(line) {
             return self.query(line, params).map(Outcome::Rows);
@@ -172,7 +171,7 @@ impl Database {
         Ok(Outcome::of(line, answer))
     }
 
-    /// Puts rows into a table, all of them or none, and gives how many they are.
+    /// Inserts rows into a table, all of them or none, and returns their number.
     ///
     /// Each row has a value for each column, in their order. A text may have line feeds here.
     pub fn load<V: Values>(&mut self, table: &str, rows: impl IntoIterator<Item = V>) -> Result<usize> {
@@ -181,12 +180,12 @@ impl Database {
                 let block = block_of(columns, rows)?;
                 self.load_csv(table, block)
             }
-            // The library tells what is wrong.
+            // The library says what is wrong.
             None => self.load_csv(table, ""),
         }
     }
 
-    /// Puts the rows of a CSV into a table, all of them or none, and gives how many they are.
+    /// Inserts the rows of a CSV into a table, all of them or none, and returns their number.
     ///
     /// The first record has the names of all columns, in their order.
     pub fn load_csv(&mut self, table: &str, block: impl AsRef<[u8]>) -> Result<usize> {
@@ -206,7 +205,7 @@ impl Database {
         Ok(all.query([])?.to_rows().with_names(names))
     }
 
-    /// How the indexes of a table stand: that of its key, and then the declared ones in their order.
+    /// The state of the indexes of a table: that of its key, and then the declared ones in order.
     ///
     /// ```
     /// let mut db = mmdb::Database::open_in_memory()?;
@@ -236,11 +235,10 @@ impl Database {
         Ok(self.heeded())
     }
 
-    /// Why [`answer`](Database::answer) or [`answer_to_load`](Database::answer_to_load) gave a refusal of this line
-    /// with its block, in a line of words for people.
+    /// Why [`answer`](Database::answer) or [`answer_to_load`](Database::answer_to_load) returned a refusal of this
+    /// line with its block, in a line of words for people.
     ///
-    /// It is asked right behind that call. There is none where that was no refusal, and none where no memory is found
-    /// for the words.
+    /// Call it right after that call. There is none if that was no refusal, or if memory ran out for the words.
     pub fn reason(&mut self, line: &[u8], block: &[u8]) -> Option<String> {
         self.session.handle().reason(line, block)
     }
@@ -276,7 +274,7 @@ impl Database {
         self.known.declared()
     }
 
-    /// Does an insert, an update or a delete.
+    /// Executes an insert, an update or a delete.
     fn change<P: Params>(&mut self, line: &str, params: P) -> Result<usize> {
         match self.lines.find(line) {
             Some(at) => self.lines.use_of(at).change(&self.session.handle, params),

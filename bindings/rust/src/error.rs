@@ -1,34 +1,34 @@
-//! What a call can end with instead of an answer.
+//! How a call can end instead of with an answer.
 
 use std::fmt;
 
 use crate::from_value::FromValueError;
 
-/// What a call gives.
+/// The result of a call.
 pub type Result<T, E = Error> = std::result::Result<T, E>;
 
-/// Why a call wasn't done. The tables are as they were.
+/// Why a call wasn't done. The tables are unchanged.
 #[derive(Clone, Debug, PartialEq, Eq)]
 #[non_exhaustive]
 pub enum Error {
-    /// The answer is `error NUMBER TEXT`. The number is 90 too where a database finds no memory to open.
+    /// The answer is `error NUMBER TEXT`. The number is also 90 if memory ran out when a database was opened.
     #[non_exhaustive]
     Refused {
         /// The number of the refusal.
         number: u32,
-        /// What stands behind the number, with the number of a record where the refusal of a load has one.
+        /// The text after the number, with the number of a record if the refusal of a load has one.
         text: String,
-        /// The line that was refused, with its parameters. It is empty where a database wasn't opened.
+        /// The line that was refused, with its parameters. It is empty if a database wasn't opened.
         line: String,
-        /// Why, in a line of words for people, which may change from version to version. There is none where no memory
-        /// is found for them.
+        /// Why, in a line of words for people, which may change from version to version. There is none if
+        /// memory ran out for them.
         reason: Option<String>,
         /// The line as it was written, with its places. The columns that the reason names are those of this line.
         written: String,
     },
-    /// The limits of a database to open are none.
+    /// The limits of a database to open are out of range.
     OutOfRange,
-    /// The line has not as many places as there are parameters.
+    /// The line has another number of places than there are parameters.
     Places {
         /// How many places the line has.
         places: usize,
@@ -37,7 +37,7 @@ pub enum Error {
     },
     /// No value is given for a place of the line.
     MissingParameter {
-        /// The place as it stands in the line, as `:id` or `?`.
+        /// The place as it is in the line, as `:id` or `?`.
         name: String,
     },
     /// A value is given for a name that is no place of the line.
@@ -45,7 +45,7 @@ pub enum Error {
         /// The name that was given.
         name: String,
     },
-    /// A parameter is a text with a line feed, which can't stand in a line. A statement takes it, and a load.
+    /// A parameter is a text with a line feed, which can't be in a line. A statement takes it, and a load.
     LineFeed,
     /// A value is an integer that isn't one of `i64`.
     IntegerOutOfRange {
@@ -58,35 +58,35 @@ pub enum Error {
     NotAStatement,
     /// The line is no select, and was to be queried.
     NotASelect,
-    /// The line is a `select`, a `dump` or `tables`, and was to be executed, which gives a number alone.
+    /// The line is a `select`, a `dump` or `tables`, and was to be executed, which returns only a number.
     NotAChange,
-    /// A row was to be read of a select that gives none.
+    /// A row was to be read of a select without rows.
     NoRows,
     /// No column has this name.
     NoSuchColumn {
-        /// The name that was asked for.
+        /// The requested name.
         name: String,
     },
     /// Columns of several tables have this name: `table.column` says which is meant.
     AmbiguousColumn {
-        /// The name that was asked for.
+        /// The requested name.
         name: String,
     },
     /// There are not so many columns.
     NoSuchIndex {
-        /// The index that was asked for, counted from 0.
+        /// The requested index, from 0.
         index: usize,
         /// How many columns there are.
         columns: usize,
     },
-    /// A value isn't read as the type that was asked for.
+    /// A value can't be read as the requested type.
     Unread {
         /// The name of the column.
         column: String,
         /// Why not.
         cause: FromValueError,
     },
-    /// A row to load has not as many values as the table has columns.
+    /// A row to load has another number of values than the table has columns.
     RowLength {
         /// The number of the row, counted from 1.
         row: usize,
@@ -102,7 +102,7 @@ pub enum Error {
         /// The name of the column.
         column: String,
     },
-    /// An empty text is to be loaded into a reference that takes nulls, where a load would read null. An insert takes
+    /// An empty text would be loaded into a reference that takes nulls, where a load would read null. An insert takes
     /// it.
     EmptyText {
         /// The number of the row, counted from 1.
@@ -110,20 +110,20 @@ pub enum Error {
         /// The name of the column.
         column: String,
     },
-    /// An empty field of an answer is null or the empty text, and nothing in the answer says which. No call gives this,
+    /// An empty field of an answer is null or the empty text, and nothing in the answer says which. No call returns this,
     /// since the rows of a select are cells, which say what they are.
     NullOrEmpty {
         /// The name of the column, with its table.
         column: String,
     },
-    /// What a type of the program's own says, in its [`ToValue`](crate::ToValue), or a closure of it.
+    /// What the program's own type says, in its [`ToValue`](crate::ToValue), or a closure of it.
     Other(String),
     /// The library answered with a status that has no place there.
     Status(u32),
 }
 
 impl Error {
-    /// The number of the refusal, where it is one, as 41 of `error 41 key exists`.
+    /// The number of the refusal, if it is one, as 41 of `error 41 key exists`.
     pub fn number(&self) -> Option<u32> {
         match self {
             Error::Refused { number, .. } => Some(*number),
@@ -131,7 +131,7 @@ impl Error {
         }
     }
 
-    /// The text of the refusal, where it is one, as `key exists`.
+    /// The text of the refusal, if it is one, as `key exists`.
     pub fn text(&self) -> Option<&str> {
         match self {
             Error::Refused { text, .. } => Some(text),
@@ -139,7 +139,7 @@ impl Error {
         }
     }
 
-    /// The line that was refused, as it was sent: with its parameters. There is none where a database wasn't opened.
+    /// The line that was refused, as it was sent: with its parameters. There is none if a database wasn't opened.
     pub fn line(&self) -> Option<&str> {
         match self {
             Error::Refused { line, .. } if !line.is_empty() => Some(line),
@@ -148,7 +148,7 @@ impl Error {
     }
 
     /// The line that was refused, as it was written: with its places. The columns that [`reason`](Error::reason) names are
-    /// those of this line. There is none where a database wasn't opened.
+    /// those of this line. There is none if a database wasn't opened.
     pub fn written(&self) -> Option<&str> {
         match self {
             Error::Refused { written, .. } if !written.is_empty() => Some(written),
@@ -156,8 +156,8 @@ impl Error {
         }
     }
 
-    /// Why it was refused, where it was, in a line of words for people, as `t has a row with the key 1`. Where the value of a
-    /// place is to blame, they begin with the column where that place stands, as `column 11: t has a row with the key 1`.
+    /// Why it was refused, if it was, in a line of words for people, as `t has a row with the key 1`. If the value of a place
+    /// is to blame, they begin with the column of that place, as `column 11: t has a row with the key 1`.
     pub fn reason(&self) -> Option<&str> {
         match self {
             Error::Refused { reason, .. } => reason.as_deref(),

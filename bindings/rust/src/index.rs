@@ -1,6 +1,6 @@
 //! How the indexes of a table stand.
 
-/// An index of a table, and how it stands.
+/// An index of a table, and its state.
 #[derive(Clone, Debug, PartialEq, Eq)]
 #[non_exhaustive]
 pub struct Index {
@@ -12,7 +12,7 @@ pub struct Index {
     pub shape: IndexShape,
 }
 
-/// How an index stands, by its kind.
+/// The state of an index, by its kind.
 #[derive(Clone, Copy, Debug, PartialEq, Eq)]
 #[non_exhaustive]
 pub enum IndexShape {
@@ -37,7 +37,7 @@ pub enum IndexShape {
 }
 
 impl Index {
-    /// The index that a record tells of.
+    /// The index of a record.
     fn of(record: &str) -> Option<Index> {
         let mut fields = record.split(',');
         let column = fields.next()?.to_string();
@@ -60,7 +60,7 @@ impl Index {
     }
 }
 
-/// The indexes that an answer tells of.
+/// The indexes in an answer.
 pub(crate) fn indexes_of(answer: &str) -> Vec<Index> {
     answer.lines().skip(2).filter_map(Index::of).collect()
 }

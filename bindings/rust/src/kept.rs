@@ -57,7 +57,7 @@ impl Kept {
         }
     }
 
-    /// Does a change, and gives how many rows it was about.
+    /// Does a change, and returns the number of rows.
     pub(crate) fn change<P: Params>(&mut self, handle: &Handle, params: P) -> Result<usize> {
         if self.is_select {
             return Err(Error::NotAChange);
@@ -235,7 +235,7 @@ impl Lines {
         &mut slot.kept
     }
 
-    /// Keeps the statement of a line, which isn't kept yet, and tells where.
+    /// Keeps the statement of a line, which isn't kept yet, and returns its place.
     pub(crate) fn keep(&mut self, handle: &Handle, line: &str) -> Result<usize, Declined> {
         let kept = Kept::prepare(handle, line)?;
         let line = Arc::clone(&kept.written.line);

@@ -24,7 +24,7 @@
 //! # }
 //! ```
 //!
-//! Lines with values are read once: [`Database::prepare`] gives a [`Statement`], and [`Database::execute`] and
+//! Lines with values are read once: [`Database::prepare`] returns a [`Statement`], and [`Database::execute`] and
 //! [`Database::query`] keep those of their lines.
 //!
 //! The archive `libmmdb.a` is linked from the folder that the environment variable `MMDB_LIBRARY` names when the crate
@@ -89,7 +89,7 @@ macro_rules! params {
     };
 }
 
-/// Parameters with names, for the places `:name` of a line: each name as it stands there, with its colon.
+/// Parameters with names, for the places `:name` of a line: each name as it is there, with its colon.
 ///
 /// ```
 /// use mmdb::named_params;

@@ -129,7 +129,7 @@ impl Prepared {
     }
 }
 
-/// What the execution of a statement gives that isn't refused: its cells, and how many rows it was about.
+/// The result of a statement that isn't refused: its cells, and the number of rows.
 pub(crate) struct Executed<'s> {
     pub(crate) cells: Cells<'s>,
     pub(crate) changed: u64,
@@ -138,7 +138,7 @@ pub(crate) struct Executed<'s> {
 /// Why a call on a statement wasn't done.
 #[derive(Clone, Copy, Debug)]
 pub(crate) enum Declined {
-    /// It was refused, as the handle's answer tells.
+    /// It was refused, as the handle's answer says.
     Refused,
     /// There is no memory.
     NoMemory,
@@ -297,7 +297,7 @@ impl Handle {
     }
 }
 
-/// The words that a call tells, where it is done and tells any.
+/// The words that a call returns, if it is done and has any.
 fn words(call: impl FnOnce(&mut Told) -> u32) -> Option<String> {
     let mut told = Told::NOTHING;
     let status = call(&mut told);

@@ -11,7 +11,7 @@ use crate::value::ValueRef;
 
 const BLANKS: &[char] = &[' ', '\t'];
 
-// Where nothing has to stand between a place and what is before it, or behind it, to keep the two apart.
+// Where nothing is needed between a place and what is before it, or after it, to keep the two apart.
 const APART_BEFORE: &[char] = &[' ', '\t', '(', ',', '=', '<', '>'];
 const APART_BEHIND: &[char] = &[' ', '\t', ')', ','];
 
@@ -104,7 +104,7 @@ impl Binding<'_> {
     }
 }
 
-/// Makes the line in which each value stands in its place, spelled as the language does.
+/// Makes the line with each value in its place, spelled as the language does.
 pub(crate) fn fill<'v>(line: &str, places: &[Place], values: impl Iterator<Item = ValueRef<'v>>, made: &mut String) {
     made.clear();
     let mut rest = 0;
@@ -129,7 +129,7 @@ pub(crate) fn with_nulls(line: &str, places: &[Place]) -> String {
     made
 }
 
-/// A reason, whose column is one of the line with a `?` at each place, with that of the line as it stands.
+/// A reason, whose column is one of the line with a `?` at each place, with that of the line as it is.
 pub(crate) fn pointed(line: &str, places: &[Place], reason: String) -> String {
     if places.iter().all(|place| place.is_nameless) {
         return reason;
@@ -201,7 +201,7 @@ pub(crate) fn with_marks(line: &str, places: &[Place]) -> Option<String> {
     Some(made)
 }
 
-/// The first place of a line that begins in no text: a `?`, or a `:` and a word, which stands in no text.
+/// The first place of a line that begins in no text: a `?`, or a `:` and a word, outside of texts.
 fn first_place(line: &str) -> Option<Range<usize>> {
     let mut in_text = false;
     for (at, byte) in line.bytes().enumerate() {

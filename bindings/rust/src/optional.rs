@@ -1,10 +1,10 @@
-//! Where no row is no error.
+//! When no row is no error.
 
 use crate::error::{Error, Result};
 
 /// Makes `None` of [`Error::NoRows`].
 pub trait OptionalExtension<T> {
-    /// What was made of a row, or `None` where the select gives none.
+    /// What was made of a row, or `None` if the select has none.
     fn optional(self) -> Result<Option<T>>;
 }
 

@@ -8,7 +8,7 @@ use crate::rows::Rows;
 pub enum Outcome {
     /// `table`, `index` and their drops are done. A comment or a blank line has this outcome too.
     Done,
-    /// How many rows an `insert`, an `update` or a `delete` was about.
+    /// The number of rows of an `insert`, an `update` or a `delete`.
     Count(usize),
     /// The rows of a `select`.
     Rows(Rows),
@@ -17,7 +17,7 @@ pub enum Outcome {
 }
 
 impl Outcome {
-    /// How many rows a change was about, where it was one.
+    /// The number of rows of a change, if it was one.
     pub fn count(&self) -> Option<usize> {
         match self {
             Outcome::Count(count) => Some(*count),
@@ -25,7 +25,7 @@ impl Outcome {
         }
     }
 
-    /// The rows, where it was a select.
+    /// The rows, if it was a select.
     pub fn into_rows(self) -> Option<Rows> {
         match self {
             Outcome::Rows(rows) => Some(rows),
@@ -33,7 +33,7 @@ impl Outcome {
         }
     }
 
-    /// The outcome that an answer tells which is neither a select's nor a refusal.
+    /// The outcome of an answer which is neither a select's nor a refusal.
     pub(crate) fn of(line: &str, answer: &str) -> Outcome {
         if answer.is_empty() || answer == "ok\n" {
             return Outcome::Done;
@@ -46,7 +46,7 @@ impl Outcome {
     }
 }
 
-/// The number of rows that the answer to a change tells.
+/// The number of rows in the answer to a change.
 pub(crate) fn count_of(answer: &str) -> Option<usize> {
     answer.strip_prefix("ok ")?.trim_end_matches('\n').parse().ok()
 }

@@ -10,7 +10,7 @@ pub type Take<'t> = dyn FnMut(&dyn ToValue) -> Result<(), Error> + 't;
 /// Values in an order: the parameters of a line, or a row to load.
 ///
 /// A slice, a `Vec`, an array of up to 32 or a tuple of up to 16 of what is [`ToValue`] has them, and so does a
-/// reference to one of these; none are `[]` and `()`. A struct of a program's own can be a row:
+/// reference to one of these; none are `[]` and `()`. Your own struct can be a row:
 ///
 /// ```
 /// use mmdb::{Error, Take, Values};
@@ -31,12 +31,12 @@ pub type Take<'t> = dyn FnMut(&dyn ToValue) -> Result<(), Error> + 't;
 /// # Ok::<(), Error>(())
 /// ```
 pub trait Values {
-    /// Hands on each value, in their order, and ends where one of them isn't taken.
+    /// Passes on each value, in order, and ends if one of them isn't taken.
     fn each(&self, take: &mut Take<'_>) -> Result<(), Error>;
 }
 
-/// The parameters of a line: [`Values`] for its places `?`, or names with values for its places `:name`. A type of a
-/// program's own has them by [`Values`].
+/// The parameters of a line: [`Values`] for its places `?`, or names with values for its places `:name`. Your own
+/// type has them by [`Values`].
 pub trait Params {
     /// Gives the values for their places.
     #[doc(hidden)]
@@ -49,7 +49,7 @@ impl<V: Values> Params for V {
     }
 }
 
-/// Each name stands with its colon, as it does in the line.
+/// Each name has its colon, as in the line.
 impl<T: ToValue> Params for &[(&str, T)] {
     fn bind(self, line: &mut Binding<'_>) -> Result<(), Error> {
         if let Some((name, _)) = self.iter().find(|(name, _)| !line.has_place(name)) {
@@ -63,7 +63,7 @@ impl<T: ToValue> Params for &[(&str, T)] {
     }
 }
 
-/// What [`params_from_iter`] gives.
+/// What [`params_from_iter`] returns.
 #[derive(Clone, Debug)]
 pub struct ParamsFromIter<I>(I);
 

@@ -28,10 +28,10 @@ pub struct Row<'r> {
 }
 
 impl<'r> Row<'r> {
-    /// The value of a column, as the type that is asked for.
+    /// The value of a column, as the requested type.
     ///
-    /// The column is named by its number, counted from 0, or by its name: as `table.column`, or as `column` alone where
-    /// one column of the row has that name. [`Error::NoSuchIndex`], [`Error::NoSuchColumn`] and
+    /// The column is named by its number, from 0, or by its name: as `table.column`, or as `column` alone if one
+    /// column of the row has that name. [`Error::NoSuchIndex`], [`Error::NoSuchColumn`] and
     /// [`Error::AmbiguousColumn`] say that it isn't one of these; [`Error::Unread`] that its value isn't of that type.
     pub fn get<I: ColumnIndex, T: FromValue<'r>>(&self, column: I) -> Result<T> {
         let at = column.place_in(self.names)?;
@@ -61,7 +61,7 @@ impl<'r> Row<'r> {
     }
 }
 
-/// Rows are equal where their values are.
+/// Rows are equal if their values are.
 impl PartialEq for Row<'_> {
     fn eq(&self, other: &Row<'_>) -> bool {
         self.values().eq(other.values())
@@ -119,7 +119,7 @@ impl<I: ColumnIndex + ?Sized> ColumnIndex for &I {
     }
 }
 
-/// Whether a name is what stands behind the table of another.
+/// Whether a name is another one without its table.
 fn is_bare(bare: &str, name: &str) -> bool {
     name.strip_suffix(bare).map_or(false, |table| table.ends_with('.'))
 }

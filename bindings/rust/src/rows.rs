@@ -11,7 +11,7 @@ use crate::value::Value;
 
 /// The rows of a select or a dump, with the names of their columns.
 ///
-/// They are the program's own: the database can be used on while they are read.
+/// They are owned: the database can be used while they are read.
 ///
 /// ```
 /// let mut db = mmdb::Database::open_in_memory()?;
@@ -178,7 +178,7 @@ impl<'r> IntoIterator for RowsRef<'r> {
     }
 }
 
-/// Rows are equal where the names of their columns and their values are.
+/// Rows are equal if the names of their columns and their values are.
 impl PartialEq for Rows {
     fn eq(&self, other: &Rows) -> bool {
         self.names == other.names && self.iter().eq(other.iter())
@@ -240,7 +240,7 @@ impl DoubleEndedIterator for RowsIter<'_> {
 
 impl ExactSizeIterator for RowsIter<'_> {}
 
-/// What [`Database::query_map`](crate::Database::query_map) gives: what the function makes of each row.
+/// What [`Database::query_map`](crate::Database::query_map) returns: what the function makes of each row.
 #[derive(Clone)]
 #[must_use = "the function is called as its results are asked for"]
 pub struct MappedRows<F> {
@@ -278,7 +278,7 @@ impl<T, F: FnMut(&Row<'_>) -> Result<T>> Iterator for MappedRows<F> {
 
 impl<T, F: FnMut(&Row<'_>) -> Result<T>> ExactSizeIterator for MappedRows<F> {}
 
-/// What [`Statement::query_map`](crate::Statement::query_map) gives: what the function makes of each row.
+/// What [`Statement::query_map`](crate::Statement::query_map) returns: what the function makes of each row.
 #[derive(Clone)]
 #[must_use = "the function is called as its results are asked for"]
 pub struct MappedRowsRef<'rows, F> {

@@ -24,7 +24,7 @@ impl Session {
         }
     }
 
-    /// The answer to a line with parameters, where it is no refusal. It is lent until the next call.
+    /// The answer to a line with parameters, if it is no refusal. It is lent until the next call.
     pub(crate) fn ask<P: Params>(&mut self, line: &str, params: P) -> Result<&str> {
         find_places(line, &mut self.places);
         bind(line, &self.places, params, &mut self.bound)?;
@@ -36,13 +36,13 @@ impl Session {
         accepted(&mut self.handle, &self.line, &[])
     }
 
-    /// The answer to a line with its block, where it is no refusal. It has no places for parameters.
+    /// The answer to a line with its block, if it is no refusal. It has no places for parameters.
     pub(crate) fn send(&mut self, line: &str, block: &[u8]) -> Result<&str> {
         self.handle.load(line.as_bytes(), block)?;
         accepted(&mut self.handle, line, block)
     }
 
-    /// What is told of the indexes of a table, where it is there.
+    /// The state of the indexes of a table, if it exists.
     pub(crate) fn indexes(&mut self, table: &str) -> Result<&str> {
         self.handle.indexes(table.as_bytes())?;
         // A dump is refused for the same reason.
@@ -55,7 +55,7 @@ impl Session {
     }
 }
 
-/// The answer just given to a line with its block, where it is no refusal.
+/// The answer just given to a line with its block, if it is no refusal.
 fn accepted<'a>(handle: &'a mut Handle, line: &str, block: &[u8]) -> Result<&'a str> {
     accepted_of(handle, line, line, block)
 }
@@ -73,7 +73,7 @@ fn accepted_of<'a>(handle: &'a mut Handle, line: &str, asked: &str, block: &[u8]
 /// What the answer begins with that is a refusal.
 const ERROR: &str = "error ";
 
-/// The refusal that an answer tells of a line, which was written so with its places, and the reason.
+/// The refusal in an answer to a line, which was written so with its places, and the reason.
 pub(crate) fn refused(answer: &str, line: String, written: String, reason: Option<String>) -> Error {
     let told = answer.strip_prefix(ERROR).unwrap_or_default().trim_end_matches('\n');
     let (number, text) = told.split_once(' ').unwrap_or((told, ""));

@@ -2,7 +2,7 @@
 
 use crate::value::ValueRef;
 
-/// Writes a value as it stands in a line. A text with a line feed can stand in none.
+/// Writes a value as a line spells it. A text with a line feed can't be in a line.
 pub(crate) fn push_value(line: &mut String, value: ValueRef<'_>) {
     match value {
         ValueRef::Null => line.push_str("null"),

@@ -11,8 +11,8 @@ use crate::rows::{MappedRowsRef, RowsRef};
 
 /// An insert, an update, a delete or a select that was prepared, and is executed with other values each time.
 ///
-/// It borrows its database, and is freed where it is dropped. As many may be there at once as are wanted; the calls of
-/// the database itself wait until all are gone.
+/// It borrows its database, and is freed when it is dropped. Any number may exist at once; the calls of the database
+/// itself wait until all are gone.
 ///
 /// ```
 /// use mmdb::Database;
@@ -31,7 +31,7 @@ use crate::rows::{MappedRowsRef, RowsRef};
 /// # Ok::<(), mmdb::Error>(())
 /// ```
 ///
-/// Rows aren't read once their statement is executed again:
+/// Rows can't be read once their statement is executed again:
 ///
 /// ```compile_fail,E0499
 /// # let mut db = mmdb::Database::open_in_memory()?;
@@ -43,7 +43,7 @@ use crate::rows::{MappedRowsRef, RowsRef};
 /// # Ok::<(), mmdb::Error>(())
 /// ```
 ///
-/// Nor is a statement used once it was dropped, or dropped twice:
+/// Nor can a statement be used once it was dropped, or dropped twice:
 ///
 /// ```compile_fail,E0382
 /// # let mut db = mmdb::Database::open_in_memory()?;
@@ -54,7 +54,7 @@ use crate::rows::{MappedRowsRef, RowsRef};
 /// # Ok::<(), mmdb::Error>(())
 /// ```
 ///
-/// And no table is declared while there are statements:
+/// And no table can be declared while there are statements:
 ///
 /// ```compile_fail,E0502
 /// # let mut db = mmdb::Database::open_in_memory()?;
@@ -74,7 +74,7 @@ impl<'db> Statement<'db> {
         Statement { db, kept }
     }
 
-    /// Does the insert, the update or the delete, and gives how many rows it was about.
+    /// Executes the insert, the update or the delete, and returns the number of rows.
     /// [`Error::NotAChange`](crate::Error::NotAChange) says that it is a select.
     pub fn execute<P: Params>(&mut self, params: P) -> Result<usize> {
         self.kept.change(self.db.handle(), params)
@@ -100,7 +100,7 @@ impl<'db> Statement<'db> {
         self.kept.rows(self.db.handle(), params, self.db.declared())
     }
 
-    /// What a function makes of each row of the select, one after the other.
+    /// What a function makes of each row of the select, in order.
     pub fn query_map<T, P, F>(&mut self, params: P, map: F) -> Result<MappedRowsRef<'_, F>>
     where
         P: Params,
@@ -109,7 +109,7 @@ impl<'db> Statement<'db> {
         Ok(MappedRowsRef::new(self.query(params)?, map))
     }
 
-    /// What a function makes of the first row of the select. Those behind it are passed over.
+    /// What a function makes of the first row of the select. Later ones are skipped.
     /// [`Error::NoRows`](crate::Error::NoRows) says that there is none.
     pub fn query_row<T, P, F>(&mut self, params: P, read: F) -> Result<T>
     where
@@ -119,7 +119,7 @@ impl<'db> Statement<'db> {
         self.query(params)?.first(read)
     }
 
-    /// The names of the columns that the rows of the select have, each as `table.column`. There are none of a change.
+    /// The names of the columns of the select, each as `table.column`. A change has none.
     pub fn column_names(&mut self) -> Result<&[String]> {
         self.kept.names(self.db.handle(), self.db.declared())
     }

@@ -1,4 +1,4 @@
-//! What may stand as a parameter.
+//! What may be a parameter.
 
 use std::borrow::Cow;
 use std::rc::Rc;
@@ -9,7 +9,7 @@ use crate::value::{Value, ValueRef};
 
 /// What is a value of a database, as a parameter of a line or in a row that is loaded.
 ///
-/// A type of a program's own is one by lending what it is, or by making it:
+/// Your own type is one by lending its value, or by making it:
 ///
 /// ```
 /// use mmdb::{Error, ToValue, ToValueOutput, Value};
@@ -25,7 +25,7 @@ use crate::value::{Value, ValueRef};
 /// assert_eq!(Day(1986, 5, 28).to_value(), Ok(Value::from("1986-05-28").into()));
 /// ```
 pub trait ToValue {
-    /// The value. [`Error::IntegerOutOfRange`] where it is an integer that isn't one of `i64`.
+    /// The value. [`Error::IntegerOutOfRange`] if it is an integer that isn't one of `i64`.
     fn to_value(&self) -> Result<ToValueOutput<'_>, Error>;
 }
 

@@ -22,7 +22,7 @@ pub enum Value {
 }
 
 impl Value {
-    /// The integer, where it is one.
+    /// The integer, if it is one.
     pub fn as_integer(&self) -> Option<i64> {
         match self {
             Value::Integer(integer) => Some(*integer),
@@ -30,7 +30,7 @@ impl Value {
         }
     }
 
-    /// The text, where it is one.
+    /// The text, if it is one.
     pub fn as_text(&self) -> Option<&str> {
         match self {
             Value::Text(text) => Some(text),
@@ -113,7 +113,7 @@ macro_rules! from_integers {
 macro_rules! try_from_integers {
     ($($integer:ty),*) => {
         $(
-            /// Gives [`Error::IntegerOutOfRange`] for an integer that isn't one of `i64`.
+            /// Returns [`Error::IntegerOutOfRange`] for an integer that isn't one of `i64`.
             impl TryFrom<$integer> for Value {
                 type Error = Error;
 
