@@ -68,7 +68,7 @@ class Pages(unittest.TestCase):
         self.check_none([fault for path in found for fault in long_sentences(path)])
 
     def test_the_pages_stay_within_their_lines(self):
-        self.assertLessEqual(sum(len(path.read_text().splitlines()) for path in PAGES), MOST_LINES)
+        self.check_none([*pages.too_many_lines((path.read_text() for path in PAGES), MOST_LINES)])
 
     def test_no_link_is_dead(self):
         self.check_none([f"{path.relative_to(ROOT)}, {fault}" for path in [*PAGES, *OTHERS] for fault in pages.dead_links(path)])
@@ -149,6 +149,10 @@ class WrongPages(unittest.TestCase):
         for what, page in MANUALS_IN_TROFF.items():
             with self.subTest(what):
                 self.assertEqual(len([*pages.long_sentences(pages.manual_pieces(page), MOST_WORDS)]), 1)
+
+    def test_too_many_lines_are_seen(self):
+        for most, faults in ((3, 0), (2, 1)):
+            self.assertEqual(len([*pages.too_many_lines(["first\nsecond\n", "third\n"], most)]), faults)
 
     def test_dead_links_are_seen(self):
         page = "# One\n\n## Two `x`, *three*\n\n## One\n\n[a](#one), [b](#one-1), [c\nd](b.md#there), [e](https://example.org/none), `[f](g)`\n"

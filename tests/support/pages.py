@@ -48,6 +48,13 @@ def long_sentences(pieces, most):
             yield f"line {line}: {words(sentence)} words: {sentence[:60]}"
 
 
+def too_many_lines(pages, most):
+    """What is wrong with the length of these pages together."""
+    lines = sum(len(page.splitlines()) for page in pages)
+    if lines > most:
+        yield f"{lines} lines, and {most} are allowed"
+
+
 def without(mark, line):
     """A line without a mark at its front."""
     found = mark.match(line)
