@@ -3,14 +3,11 @@ ghost use Rattle.std.specs.Prelude.{◌≡◌, ◌++◌, ◌∷◌, ◌+◌, ◌
 ghost use Rattle.plain_tables.specs.Stored.{link_number};
 ghost use Rattle.plain_tables.specs.declared.value.Value.TheVariants as value;
 ghost use Rattle.std.specs.List.{All};
-ghost use Rattle.mm_cells.specs.Parts.{values_of};
-ghost use Rattle.mm_cells.specs.Reading.{cell_value};
+ghost use Rattle.mm_cells.specs.Reading.{IsReadable, cell_value};
 
-use crate::parts::Parts;
 use no_memory::NoMemory;
 use plain_tables::{SeenValue, StoredValue, Value};
 use std::alloc::Global;
-use std::marker::Model;
 use std::mem::size_of;
 
 /// The kind of a cell that is null.
@@ -52,29 +49,20 @@ fn append_name(texts: &mut Vec<u8>, table: &str, column: &str) -> Result<(), NoM
     Ok(())
 }
 
-/// Values as cells. Contracts see the values that are read.
+/// Values as cells, and the bytes of their texts, which a program reads where they lie. Contracts see both, and so their addresses.
 #[derive(Drop)]
 pub struct Cells {
-    cells: Vec<Cell>,
-    texts: Vec<u8>,
-}
-
-impl Model for Cells {
-    ghost use Rattle.std.specs.Prelude.{List, map};
-    ghost use Rattle.std.specs.List.{All};
-    ghost use Rattle.mm_cells.specs.Reading.{Read, cell_value, IsReadable};
-
-    ghost Value = { List Read };
-
-    ghost view = { λ s. map (cell_value s.texts.items) s.cells.items };
-
-    ghost invariant = { λ s. All (IsReadable s.texts.items) s.cells.items };
+    pub cells: Vec<Cell>,
+    pub texts: Vec<u8>,
+    ghost readable: { All (IsReadable texts.items) cells.items },
 }
 
 impl Cells {
+    ghost use Rattle.mm_cells.specs.Values.{values_of};
+
     /// No values. It takes no memory.
     pub fn new(alloc: Global) -> Cells
-        ensures { result ≡ [] }
+        ensures { values_of result ≡ [] }
     {
         Cells {
             cells: Vec::new(alloc),
@@ -84,33 +72,17 @@ impl Cells {
 
     /// How many values there are.
     pub fn len(&self) -> usize
-        ensures { result ≡ length self.now }
+        ensures { result ≡ length (values_of self.now) }
     {
         self.cells.len()
-    }
-
-    /// The values that parts are.
-    pub fn from_parts(parts: Parts) -> Cells
-        ensures { result ≡ values_of parts }
-    {
-        let Parts { cells, texts } = parts;
-        Cells { cells, texts }
-    }
-
-    /// The cells, and the bytes of their texts, to be read where they lie.
-    pub fn into_parts(self) -> Parts
-        ensures { values_of result ≡ self }
-    {
-        let Cells { cells, texts } = self;
-        Parts { cells, texts }
     }
 
     // Puts a cell that is no text behind the others.
     fn put(&mut self, cell: Cell) -> Result<(), NoMemory>
         requires no_text { cell.kind < 2 }
         requires nowhere { cell.at + cell.length ≡ 0 }
-        ensures pushed { OnOk result (self.new ≡ self.old ++ cell_value [] cell ∷ []) }
-        ensures unchanged { OnErr result (self.new ≡ self.old) }
+        ensures pushed { OnOk result (values_of self.new ≡ values_of self.old ++ cell_value [] cell ∷ []) }
+        ensures unchanged { OnErr result (values_of self.new ≡ values_of self.old) }
     {
         self.cells.push(cell)?;
         Ok(())
@@ -118,8 +90,8 @@ impl Cells {
 
     /// Puts a null behind the others. Where that finds no memory, it is not put there.
     pub fn push_null(&mut self) -> Result<(), NoMemory>
-        ensures pushed { OnOk result (self.new ≡ self.old ++ value.Null ∷ []) }
-        ensures unchanged { OnErr result (self.new ≡ self.old) }
+        ensures pushed { OnOk result (values_of self.new ≡ values_of self.old ++ value.Null ∷ []) }
+        ensures unchanged { OnErr result (values_of self.new ≡ values_of self.old) }
     {
         self.put(Cell {
             integer: 0,
@@ -131,8 +103,8 @@ impl Cells {
 
     /// Puts an integer behind the others. Where that finds no memory, it is not put there.
     pub fn push_integer(&mut self, integer: i64) -> Result<(), NoMemory>
-        ensures pushed { OnOk result (self.new ≡ self.old ++ value.Int integer ∷ []) }
-        ensures unchanged { OnErr result (self.new ≡ self.old) }
+        ensures pushed { OnOk result (values_of self.new ≡ values_of self.old ++ value.Int integer ∷ []) }
+        ensures unchanged { OnErr result (values_of self.new ≡ values_of self.old) }
     {
         self.put(Cell {
             integer,
@@ -145,8 +117,8 @@ impl Cells {
     /// Puts a text behind the others. Where that finds no memory, or the text is longer than 65,535 bytes or the texts together
     /// longer than 4 GiB, it is not put there.
     pub fn push_text(&mut self, text: &str) -> Result<(), NoMemory>
-        ensures pushed { OnOk result (self.new ≡ self.old ++ value.Text text.now ∷ []) }
-        ensures unchanged { OnErr result (self.new ≡ self.old) }
+        ensures pushed { OnOk result (values_of self.new ≡ values_of self.old ++ value.Text text.now ∷ []) }
+        ensures unchanged { OnErr result (values_of self.new ≡ values_of self.old) }
     {
         let Ok(at) = u32::try_from(self.texts.len()) else {
             return Err(NoMemory);
@@ -167,8 +139,8 @@ impl Cells {
 
     /// Appends a full name as a text: a table's name, a dot and a column's. It fails as `push_text` does, and then appends nothing.
     pub fn push_name(&mut self, table: &str, column: &str) -> Result<(), NoMemory>
-        ensures pushed { OnOk result (self.new ≡ self.old ++ value.Text (table.now ++ 46 ∷ column.now) ∷ []) }
-        ensures unchanged { OnErr result (self.new ≡ self.old) }
+        ensures pushed { OnOk result (values_of self.new ≡ values_of self.old ++ value.Text (table.now ++ 46 ∷ column.now) ∷ []) }
+        ensures unchanged { OnErr result (values_of self.new ≡ values_of self.old) }
     {
         let before = self.texts.len();
         let Ok(at) = u32::try_from(before) else {
@@ -192,8 +164,8 @@ impl Cells {
     /// Puts a value of a command behind the others. Where that finds no memory, or the texts have no more room for it, it is not put
     /// there.
     pub fn push_value(&mut self, value: &Value) -> Result<(), NoMemory>
-        ensures pushed { OnOk result (self.new ≡ self.old ++ value.now ∷ []) }
-        ensures unchanged { OnErr result (self.new ≡ self.old) }
+        ensures pushed { OnOk result (values_of self.new ≡ values_of self.old ++ value.now ∷ []) }
+        ensures unchanged { OnErr result (values_of self.new ≡ values_of self.old) }
     {
         match value {
             Value::Null => self.push_null(),
@@ -205,8 +177,8 @@ impl Cells {
     /// Puts a stored value behind the others. Where that finds no memory, or the texts have no more room for it, none is put there.
     pub fn push(&mut self, value: &StoredValue) -> Result<(), NoMemory>
         requires { link_number value.now ≡ None }
-        ensures pushed { OnOk result (self.new ≡ self.old ++ value.now ∷ []) }
-        ensures unchanged { OnErr result (self.new ≡ self.old) }
+        ensures pushed { OnOk result (values_of self.new ≡ values_of self.old ++ value.now ∷ []) }
+        ensures unchanged { OnErr result (values_of self.new ≡ values_of self.old) }
     {
         match value.seen() {
             SeenValue::Null => self.push_null(),
@@ -218,7 +190,7 @@ impl Cells {
 
     /// Lets the values go, and keeps their room.
     pub fn clear(&mut self)
-        ensures { self.new ≡ [] }
+        ensures { values_of self.new ≡ [] }
     {
         self.cells.clear();
         self.texts.clear();
