@@ -42,6 +42,7 @@ impl Model for Session {
 
 impl Session {
     ghost use Rattle.mm_catalog.specs.Seen.{database_of};
+    ghost use Rattle.mm_cells.specs.Values.{values_of};
     ghost use Rattle.plain_streams.specs.Division.{IsWhole};
     ghost use Rattle.mm_session.specs.NextRequest.{AnswersLast, AnswersNext, KeepsMore};
     ghost use Rattle.mm_session.specs.Responding.{waits};
@@ -181,7 +182,7 @@ impl Session {
     /// may leave any cells there.
     pub fn select(&self, query: &Query, cells: &mut Cells) -> Result<usize, NoMemory>
         requires { IsMeant self.now.limits self.now.database (resolved.Select query.now) }
-        ensures shown { IfOk result (λ columns. ShowsValues (done self.now.limits self.now.database (resolved.Select query.now)).outcome columns cells.new) }
+        ensures shown { IfOk result (λ columns. ShowsValues (done self.now.limits self.now.database (resolved.Select query.now)).outcome columns (values_of cells.new)) }
         ensures some { IfOk result (λ columns. 0 < columns) }
     {
         self.responder.executor.select_values(query, cells)
@@ -191,7 +192,7 @@ impl Session {
     /// its values: 1 of integers, 2 of texts. A failure may leave any cells there.
     pub fn columns(&self, query: &Query, cells: &mut Cells) -> Result<(), NoMemory>
         requires { IsMeant self.now.limits self.now.database (resolved.Select query.now) }
-        ensures { OnOk result (cells.new ≡ columns_told self.now.database query.now) }
+        ensures { OnOk result (values_of cells.new ≡ columns_told self.now.database query.now) }
     {
         self.responder.executor.columns(query, cells)
     }

@@ -3,6 +3,7 @@ ghost use Rattle.std.specs.Prelude.{◌≡◌, ◌++◌, ◌<◌, Some, length, 
 ghost use Rattle.std.specs.List.{flat_map};
 ghost use Rattle.plain_tables.specs.Tables.{Table};
 ghost use Rattle.mm_catalog.specs.Seen.{database_of};
+ghost use Rattle.mm_cells.specs.Values.{values_of};
 ghost use Rattle.mm_session.specs.Columns.{kind_number};
 ghost use Rattle.mm_statements.specs.Columns.{column_of, column_placed, columns_of_query, columns_of_table, source_tables};
 
@@ -30,7 +31,7 @@ fn push_column(
     column: &Column,
 ) -> Result<(), NoMemory>
     requires { table.0 < length (database_of catalog.now) }
-    ensures { OnOk result ((t : Table) → slice_get (database_of catalog.now) table.0 ≡ Some t → cells.new ≡ cells.old ++ column_of (database_of catalog.now) t column.now) }
+    ensures { OnOk result ((t : Table) → slice_get (database_of catalog.now) table.0 ≡ Some t → values_of cells.new ≡ values_of cells.old ++ column_of (database_of catalog.now) t column.now) }
 {
     cells.push_name(catalog.table_name(table), column.name.as_str())?;
     cells.push_integer(number_of(catalog.type_of(&column.kind)))
@@ -38,7 +39,7 @@ fn push_column(
 
 // Appends all columns of a table, if it is there.
 fn push_table(cells: &mut Cells, catalog: &Catalog, table: TableNumber) -> Result<(), NoMemory>
-    ensures { OnOk result (cells.new ≡ cells.old ++ columns_of_table (database_of catalog.now) table) }
+    ensures { OnOk result (values_of cells.new ≡ values_of cells.old ++ columns_of_table (database_of catalog.now) table) }
 {
     if table.0 >= catalog.table_count() {
         return Ok(());
@@ -51,7 +52,7 @@ fn push_table(cells: &mut Cells, catalog: &Catalog, table: TableNumber) -> Resul
 
 // Appends all columns of the tables of a query.
 fn push_tables(cells: &mut Cells, catalog: &Catalog, query: &SlotQuery) -> Result<(), NoMemory>
-    ensures { OnOk result (cells.new ≡ cells.old ++ flat_map (columns_of_table (database_of catalog.now)) (source_tables query.now)) }
+    ensures { OnOk result (values_of cells.new ≡ values_of cells.old ++ flat_map (columns_of_table (database_of catalog.now)) (source_tables query.now)) }
 {
     push_table(cells, catalog, query.source.table)?;
     for join in query.joins.as_slice() {
@@ -78,7 +79,7 @@ fn push_place(
     query: &SlotQuery,
     place: Place,
 ) -> Result<(), NoMemory>
-    ensures { OnOk result (cells.new ≡ cells.old ++ column_placed (database_of catalog.now) (source_tables query.now) place) }
+    ensures { OnOk result (values_of cells.new ≡ values_of cells.old ++ column_placed (database_of catalog.now) (source_tables query.now) place) }
 {
     let Some(table) = source_table(query, place.source) else {
         return Ok(());
@@ -99,7 +100,7 @@ fn push_places(
     query: &SlotQuery,
     places: &[Place],
 ) -> Result<(), NoMemory>
-    ensures { OnOk result (cells.new ≡ cells.old ++ flat_map (column_placed (database_of catalog.now) (source_tables query.now)) places.now) }
+    ensures { OnOk result (values_of cells.new ≡ values_of cells.old ++ flat_map (column_placed (database_of catalog.now) (source_tables query.now)) places.now) }
 {
     for place in places {
         push_place(cells, catalog, query, *place)?;
@@ -109,7 +110,7 @@ fn push_places(
 
 /// Appends the columns that a query shows of the tables of a catalog. It reads no value.
 pub fn push_columns(cells: &mut Cells, catalog: &Catalog, query: &SlotQuery) -> Result<(), NoMemory>
-    ensures { OnOk result (cells.new ≡ cells.old ++ columns_of_query (database_of catalog.now) query.now) }
+    ensures { OnOk result (values_of cells.new ≡ values_of cells.old ++ columns_of_query (database_of catalog.now) query.now) }
 {
     match &query.shown {
         Shown::All => push_tables(cells, catalog, query),

@@ -5,7 +5,7 @@ use crate::faults::{ExecuteFault, PrepareFault};
 use crate::querying::command_of_line;
 use crate::reading::{count_marks, meaning, readable};
 use crate::resolving::{command_of, resolution_of, resolve};
-use mm_cells::{Cells, Parts};
+use mm_cells::Cells;
 use mm_prepared::{Cell, Commands, Declined, Lent, Statements, may_declare};
 use mm_session::{Answer, NotOneRequest, Session, SessionFault};
 use no_memory::NoMemory;
@@ -69,7 +69,7 @@ impl Database {
     ghost use Rattle.plain_tables.specs.declared.value.Value.TheVariants as value;
     ghost use Rattle.plain_streams.specs.Division.{IsWhole};
     ghost use Rattle.plain_streams.specs.Requests.{without_return};
-    ghost use Rattle.mm_cells.specs.Parts.{values_of};
+    ghost use Rattle.mm_cells.specs.Values.{values_of};
     ghost use Rattle.mm_session.specs.OneRequest.{AnswersOne, GoesBetween, StaysInStream};
     ghost use Rattle.mm_session.specs.Sessions.{BreaksOff, Feeds, Finishes, Gains, new_session};
     ghost use Rattle.mm_prepared.specs.Cells.{IsSmall, cell_value};
@@ -241,7 +241,7 @@ impl Database {
 
     /// Does what the statement of a number says with the values that are bound, beside the stream. It makes the cells the values of the
     /// rows that it shows, a row behind the other, and none where it shows none; where it fails they may be any.
-    pub fn execute(&mut self, number: usize, shown: &mut Parts) -> Result<Executed, ExecuteFault>
+    pub fn execute(&mut self, number: usize, shown: &mut Cells) -> Result<Executed, ExecuteFault>
         ensures done { IfOk result (λ given. (effect : Effect) × IsEffectOf self.old number effect × HasGiven self.new.session effect given (values_of shown.new)) }
         ensures missing { statement_at self.old number ≡ None → result ≡ Err fault.NoSuchStatement }
         ensures declined { IfErr result (IsDeclined self.old number) }
@@ -263,10 +263,7 @@ impl Database {
             Lent::Command(command) => command,
         };
         if let Resolved::Select(query) = command {
-            let mut cells = shown.take();
-            let selected = self.session.select(query, &mut cells);
-            shown.put(cells);
-            let columns = selected?;
+            let columns = self.session.select(query, shown)?;
             return Ok(Executed::Rows { columns });
         }
         let count = self.session.change(command)?;
@@ -277,7 +274,7 @@ impl Database {
     /// its table's, and then the number of the kind of its values: 1 of integers, 2 of texts. There are none where it shows no rows; after
     /// an error they may be any. It is refused only where every execution is, by what the names and the given values are refused by.
     pub fn columns(&mut self, number: usize, cells: &mut Cells) -> Result<(), ExecuteFault>
-        ensures told { OnOk result (TellsColumns self.old number cells.new) }
+        ensures told { OnOk result (TellsColumns self.old number (values_of cells.new)) }
         ensures missing { statement_at self.old number ≡ None → result ≡ Err fault.NoSuchStatement }
         ensures declined { IfErr result (IsUntold self.old number) }
         ensures unchanged { IsUnchanged self.old self.new }
@@ -302,7 +299,7 @@ impl Database {
         line: &[u8],
         cells: &mut Cells,
     ) -> Result<Executed, Refusal>
-        ensures done { IfOk result (λ given. (effect : Effect) × IsEffectOfLine self.old.session (without_return line.now) effect × HasGiven self.new.session effect given cells.new) }
+        ensures done { IfOk result (λ given. (effect : Effect) × IsEffectOfLine self.old.session (without_return line.now) effect × HasGiven self.new.session effect given (values_of cells.new)) }
         ensures refused { IfErr result (IsUnqueried self.old.session (without_return line.now)) }
         ensures unchanged { OnErr result (IsUnchanged self.old self.new) }
 

@@ -2,8 +2,8 @@
 use Rattle.std.specs.Prelude.{◌≡◌, ◌≢◌, ◌<◌, ◌≤◌, ◌/◌, ℕ, List, [], Some, None, IsSomeAnd, length, replicate, slice_get, slice_set}
 use Rattle.std.specs.Option.{option_map_or}
 use Rattle.std.specs.Vec.{vec_ptr}
-use Rattle.mm_cells.specs.Parts.{values_of}
-use Rattle.mm_cells.specs.declared.parts.Parts.{Parts}
+use Rattle.mm_cells.specs.Values.{values_of}
+use Rattle.mm_cells.specs.declared.cells.Cells.{Cells}
 use Rattle.plain_tables.specs.AnswerText.{refusal_text}
 use Rattle.plain_tables.specs.Effects.{Effect}
 use Rattle.plain_tables.specs.declared.refusal.Refusal.{Refusal}
@@ -43,7 +43,7 @@ pub record KeepsEach (old new : Database) : Type 0 where
 -- What every other statement and the line last queried have shown, and the columns last asked for, lie where they lay, and are what they
 -- were.
 pub record KeepsOthers (number : ℕ) (old new : Database) : Type 0 where
-  pub others : (other : ℕ) (parts : Parts) → other ≢ number → slice_get old.shown.items other ≡ Some parts → slice_get new.shown.items other ≡ Some parts
+  pub others : (other : ℕ) (cells : Cells) → other ≢ number → slice_get old.shown.items other ≡ Some cells → slice_get new.shown.items other ≡ Some cells
   pub queried : new.queried ≡ old.queried
   pub columns : new.columns ≡ old.columns
 
@@ -124,10 +124,10 @@ Counts values (gives.Rows columns) told = (told.changed ≡ 0) × (told.rows ≡
 
 -- What C is told of what an execution gave: how many values there are, where the cells lie that are read as these, and where the bytes
 -- of their texts.
-pub record Tells (parts : Parts) (given : Executed) (told : Rows) : Type 0 where
-  pub counts : Counts (values_of parts) given told
-  pub cells : told.cells ≡ vec_ptr parts.cells
-  pub texts : told.texts ≡ vec_ptr parts.texts
+pub record Tells (shown : Cells) (given : Executed) (told : Rows) : Type 0 where
+  pub counts : Counts (values_of shown) given told
+  pub cells : told.cells ≡ vec_ptr shown.cells
+  pub texts : told.texts ≡ vec_ptr shown.texts
 
 -- what was given, if it is rows, has columns
 abbrev pub HasColumns : Executed → Type 0
@@ -137,7 +137,7 @@ HasColumns (gives.Rows columns) = 0 < columns
 -- The effect of the statement came about, and C is told what it gave, and where what it shows lies.
 abbrev pub HasTold : ℕ → Database → Database → Rows → Type 0
 HasTold number old new told =
-    (given : Executed) × HasExecuted number old new given × IsSomeAnd (slice_get new.shown.items number) (λ parts. Tells parts given told)
+    (given : Executed) × HasExecuted number old new given × IsSomeAnd (slice_get new.shown.items number) (λ cells. Tells cells given told)
 
 -- So it is, and the answer is empty.
 pub record Executes (number : ℕ) (old new : Database) (told : Rows) : Type 0 where

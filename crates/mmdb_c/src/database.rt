@@ -3,7 +3,7 @@
 ghost use Rattle.std.specs.Prelude.{◌≡◌, ◌≤◌, ◌↔◌, IsTrue, IsErrOf, IfOk, OnOk, OnErr};
 ghost use Rattle.plain_streams.specs.Division.{IsWhole};
 
-use mm_cells::Parts;
+use mm_cells::Cells;
 use mm_reason::{reason, refusal_of};
 use mm_session::{Answer, NotOneRequest, SessionFault};
 use plain_tables::{Limits, NoMemory};
@@ -17,9 +17,9 @@ pub struct Database {
     pub inner: mm_statements::Database,
     pub answer: Answer,
     pub reason: Answer,
-    pub shown: Vec<Parts>,
-    pub columns: Parts,
-    pub queried: Parts,
+    pub shown: Vec<Cells>,
+    pub columns: Cells,
+    pub queried: Cells,
 }
 
 impl Database {
@@ -35,8 +35,8 @@ impl Database {
             answer: Answer::new(alloc)?,
             reason: Answer::new(alloc)?,
             shown: Vec::new(alloc),
-            columns: Parts::new(alloc),
-            queried: Parts::new(alloc),
+            columns: Cells::new(alloc),
+            queried: Cells::new(alloc),
         })
     }
 

@@ -3,7 +3,7 @@
 ghost use Rattle.std.specs.Prelude.{◌≡◌, ◌<◌};
 ghost use Rattle.mmdb_c.specs.StatementCalls.{HasColumns, Tells};
 
-use mm_cells::{Cell, Parts};
+use mm_cells::{Cell, Cells};
 use mm_statements::Executed;
 
 /// The cells of rows, one row behind the other, and the bytes of their texts; or how many rows were changed.
@@ -18,13 +18,13 @@ pub struct Rows {
 }
 
 impl Rows {
-    /// Tells what an execution gave, whose values these parts are, and where they lie.
-    pub fn tell(&mut self, executed: Executed, parts: &Parts)
+    /// Tells what an execution gave, whose values these cells are, and where they lie.
+    pub fn tell(&mut self, executed: Executed, cells: &Cells)
         requires { HasColumns executed }
-        ensures { Tells parts.now executed self.new }
+        ensures { Tells cells.now executed self.new }
     {
-        self.cells = parts.cells.as_ptr();
-        self.texts = parts.texts.as_ptr();
+        self.cells = cells.cells.as_ptr();
+        self.texts = cells.texts.as_ptr();
         match executed {
             Executed::Changed(count) => {
                 self.rows = 0;
@@ -32,7 +32,7 @@ impl Rows {
                 self.changed = count as u64;
             }
             Executed::Rows { columns } => {
-                self.rows = parts.cells.len() / columns;
+                self.rows = cells.cells.len() / columns;
                 self.columns = columns;
                 self.changed = 0;
             }

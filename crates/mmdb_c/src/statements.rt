@@ -1,7 +1,7 @@
 //! The calls on statements: what they are handed by C, and what they tell.
 
 ghost use Rattle.std.specs.Prelude.{◌≡◌, ◌≢◌, ◌+◌, ◌<◌, ◌≤◌, ◌⊎◌, ℕ, Err, None, Some, IfErr, IfOk, IsErrOf, OnErr, OnOk, length, slice_get};
-ghost use Rattle.mm_cells.specs.declared.parts.Parts.{Parts as PlainParts};
+ghost use Rattle.mm_cells.specs.declared.cells.Cells.{Cells as PlainCells};
 ghost use Rattle.mm_prepared.specs.Cells.{IsSmall, cell_value};
 ghost use Rattle.mm_prepared.specs.declared.declined.Declined.TheVariants as declined;
 ghost use Rattle.mmdb_c.specs.declared.statements.Unprepared.TheVariants as unprepared;
@@ -9,7 +9,7 @@ ghost use Rattle.mmdb_c.specs.declared.statements.Unexecuted.TheVariants as unex
 
 use crate::database::Database;
 use crate::rows::Rows;
-use mm_cells::Parts;
+use mm_cells::Cells;
 use mm_statements::{Cell, Declined, ExecuteFault, PrepareFault};
 use no_memory::NoMemory;
 use plain_tables::Refusal;
@@ -37,14 +37,14 @@ pub enum Unexecuted {
     Refused,
 }
 
-// Makes sure of parts for the values that the statement of a number shows.
-fn make_room(shown: &mut Vec<Parts>, number: usize) -> Result<(), NoMemory>
+// Makes sure of cells for the values that the statement of a number shows.
+fn make_room(shown: &mut Vec<Cells>, number: usize) -> Result<(), NoMemory>
     ensures room { OnOk result (number < length shown.new.items) }
-    ensures others { (k : ℕ) (parts : PlainParts) → slice_get shown.old.items k ≡ Some parts → slice_get shown.new.items k ≡ Some parts }
+    ensures others { (k : ℕ) (cells : PlainCells) → slice_get shown.old.items k ≡ Some cells → slice_get shown.new.items k ≡ Some cells }
 {
     while shown.len() <= number {
-        let parts = Parts::new(*shown.allocator());
-        shown.push(parts)?;
+        let cells = Cells::new(*shown.allocator());
+        shown.push(cells)?;
     }
     Ok(())
 }
@@ -101,8 +101,8 @@ impl Database {
         ensures declined { IfErr result (λ e. e ≡ declined.NoSuchStatement) }
     {
         self.inner.finalize(number as usize)?;
-        if let Some(parts) = self.shown.get_mut(number as usize) {
-            *parts = Parts::new(alloc);
+        if let Some(cells) = self.shown.get_mut(number as usize) {
+            *cells = Cells::new(alloc);
         }
         Ok(())
     }
@@ -167,10 +167,7 @@ impl Database {
             return Err(Unexecuted::NoSuchStatement);
         }
         self.answer.clear();
-        let mut cells = self.columns.take();
-        let found = self.inner.columns(number, &mut cells);
-        self.columns = cells.into_parts();
-        match found {
+        match self.inner.columns(number, &mut self.columns) {
             Ok(()) => Ok(()),
             Err(ExecuteFault::NoSuchStatement) => Err(Unexecuted::NoSuchStatement),
             Err(ExecuteFault::Refused(why)) => {
@@ -190,10 +187,7 @@ impl Database {
         ensures untold { OnErr result (rows.new ≡ rows.old) }
     {
         self.answer.clear();
-        let mut cells = self.queried.take();
-        let executed = self.inner.query(alloc, line, &mut cells);
-        self.queried = cells.into_parts();
-        match executed {
+        match self.inner.query(alloc, line, &mut self.queried) {
             Ok(given) => {
                 rows.tell(given, &self.queried);
                 Ok(())

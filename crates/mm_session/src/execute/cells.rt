@@ -5,6 +5,7 @@ ghost use Rattle.plain_tables.specs.Doing.{done};
 ghost use Rattle.plain_tables.specs.ResolvedLaws.{IsMeant};
 ghost use Rattle.plain_tables.specs.declared.resolved.Resolved.TheVariants as resolved;
 ghost use Rattle.mm_catalog.specs.Seen.{database_of};
+ghost use Rattle.mm_cells.specs.Values.{values_of};
 ghost use Rattle.mm_session.specs.Changing.{ShowsValues};
 
 use super::Executor;
@@ -18,7 +19,7 @@ impl Executor {
     /// may leave any cells there.
     pub fn select_values(&self, query: &Query, cells: &mut Cells) -> Result<usize, NoMemory>
         requires { IsMeant self.now.catalog.limits (database_of self.now.catalog) (resolved.Select query.now) }
-        ensures shown { IfOk result (λ columns. ShowsValues (done self.now.catalog.limits (database_of self.now.catalog) (resolved.Select query.now)).outcome columns cells.new) }
+        ensures shown { IfOk result (λ columns. ShowsValues (done self.now.catalog.limits (database_of self.now.catalog) (resolved.Select query.now)).outcome columns (values_of cells.new)) }
         ensures some { IfOk result (λ columns. 0 < columns) }
     {
         a_catalog_is_consistent(&self.catalog);

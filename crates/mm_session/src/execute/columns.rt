@@ -5,6 +5,7 @@ ghost use Rattle.std.specs.List.{All};
 ghost use Rattle.plain_tables.specs.ResolvedLaws.{IsMeant};
 ghost use Rattle.plain_tables.specs.declared.resolved.Resolved.TheVariants as resolved;
 ghost use Rattle.mm_catalog.specs.Seen.{database_of};
+ghost use Rattle.mm_cells.specs.Values.{values_of};
 ghost use Rattle.mm_csv.specs.FullNames.{full_name_text};
 ghost use Rattle.temp_list.specs.Lists.{HasPlace};
 ghost use Rattle.mm_session.specs.Columns.{kind_number, kind_at, column_told, columns_told};
@@ -67,7 +68,7 @@ fn push_column(
 ) -> Result<(), NoMemory>
     requires sources { All (λ n. n < length catalog.now.relations) (map (λ t. t.0) sources.now) }
     requires place { HasPlace catalog.now.relations (map (λ t. t.0) sources.now) place }
-    ensures { OnOk result (cells.new ≡ cells.old ++ column_told (database_of catalog.now) (tables_at catalog.now (map (λ t. t.0) sources.now)) place) }
+    ensures { OnOk result (values_of cells.new ≡ values_of cells.old ++ column_told (database_of catalog.now) (tables_at catalog.now (map (λ t. t.0) sources.now)) place) }
 {
     write_name(text, full_name(catalog, sources, place))?;
     cells.push_text(text.as_str())?;
@@ -79,7 +80,7 @@ impl Executor {
     /// its values: 1 of integers, 2 of texts. A failure may leave any cells there.
     pub fn columns(&self, query: &Query, cells: &mut Cells) -> Result<(), NoMemory>
         requires { IsMeant self.now.catalog.limits (database_of self.now.catalog) (resolved.Select query.now) }
-        ensures { OnOk result (cells.new ≡ columns_told (database_of self.now.catalog) query.now) }
+        ensures { OnOk result (values_of cells.new ≡ columns_told (database_of self.now.catalog) query.now) }
     {
         a_catalog_is_consistent(&self.catalog);
         let sources = sources_of(self.alloc, query)?;

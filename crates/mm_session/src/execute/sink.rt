@@ -33,8 +33,9 @@ pub trait RowSink<'a> {
 
 impl<'a> RowSink<'a> for Cells {
     ghost use Rattle.std.specs.List.{flat_map};
+    ghost use Rattle.mm_cells.specs.Values.{values_of};
 
-    ghost received = { λ start rows part now. now ≡ start ++ (flat_map (λ row. row) rows ++ part) };
+    ghost received = { λ start rows part now. values_of now ≡ values_of start ++ (flat_map (λ row. row) rows ++ part) };
 
     #[inline]
     fn push_value(&mut self, value: &'a StoredValue) -> Result<(), NoMemory> {

@@ -1,10 +1,10 @@
 use Rattle.std.proofs.Common.{◌≡◌, ℕ, ◌+◌, ◌-◌, Some, vec_len}
 use Rattle.std.specs.Prelude.{slice_get}
-use Rattle.mm_cells.specs.declared.parts.Parts.{Parts}
+use Rattle.mm_cells.specs.declared.cells.Cells.{Cells}
 use Rattle.mmdb_c.proofs.statements.make_room.Given as goal
 
 abbrev pub invariant-loop-shown : goal.invariant-loop-shown
-invariant-loop-shown l = (k : ℕ) (parts : Parts) → slice_get l.initial.shown.items k ≡ Some parts → slice_get l.shown.items k ≡ Some parts
+invariant-loop-shown l = (k : ℕ) (cells : Cells) → slice_get l.initial.shown.items k ≡ Some cells → slice_get l.shown.items k ≡ Some cells
 
 -- as many as are missing
 abbrev pub decreases-loop-shown : goal.decreases-loop-shown

@@ -2,8 +2,8 @@
 use Rattle.std.proofs.Common.{◌≡◌, ◌∙◌, ◌<◌, ℕ, List, [], Some, refl, ap, sym, subst, length, get_or-set_same}
 use Rattle.std.specs.Option.{option_map_or}
 use Rattle.std.specs.Prelude.{slice_get, slice_set}
-use Rattle.mm_cells.specs.Parts.{values_of}
-use Rattle.mm_cells.specs.declared.parts.Parts.{Parts}
+use Rattle.mm_cells.specs.Values.{values_of}
+use Rattle.mm_cells.specs.declared.cells.Cells.{Cells}
 use Rattle.mm_statements.specs.Executing.{HasGiven}
 use Rattle.mmdb_c.specs.StatementCalls.{Tells}
 use Rattle.mmdb_c.proofs.RowLemmas.{set-other, set-same}
@@ -18,12 +18,12 @@ returns-in_err-executed-clause-others c = record {
 
 pub returns-clause-done : goal.returns-clause-done
 returns-clause-done c =
-    let items : List Parts = c.args.self.now.shown.items in
+    let items : List Cells = c.args.self.now.shown.items in
     let n : ℕ = c.args.number in
-    let parts : Parts = c.execute.new.shown in
+    let parts : Cells = c.execute.new.shown in
     let given = c.in_ok-executed.executed in
     let done = c.in_ok-executed.ensures.done in
-    let there : slice_get (slice_set items n parts) n ≡ Some parts = set-same items n parts c.requires in
+    let there : slice_get (slice_set items n parts) n ≡ Some cells = set-same items n parts c.requires in
     let told : c.index.result.now ≡ parts = c.index.ensures ∙ get_or-set_same items n parts c.index.result.now c.requires in (
       given,
       record {
@@ -33,7 +33,7 @@ returns-clause-done c =
         stream = c.execute.ensures.stream;
         statements = c.execute.ensures.statements;
       },
-      rw there (subst (λ (p : Parts). Tells p given c.tell.new.self) told c.tell.ensures),
+      rw there (subst (λ (p : Cells). Tells p given c.tell.new.self) told c.tell.ensures),
     )
 
 pub returns-clause-others : goal.returns-clause-others

@@ -2,7 +2,7 @@
 use Rattle.std.proofs.Common.{◌∙◌, ℕ, [], refl, ap}
 use Rattle.std.specs.Option.{option_map_or}
 use Rattle.std.proofs.lemmas.Option.{slice_get_past}
-use Rattle.mm_cells.specs.Parts.{values_of}
+use Rattle.mm_cells.specs.Values.{values_of}
 use Rattle.mmdb_c.proofs.RowLemmas.{set-other, set-same}
 use Rattle.mmdb_c.proofs.database.Database.finalize.Goals as goal
 
