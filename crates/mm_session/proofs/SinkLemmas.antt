@@ -1,4 +1,6 @@
 -- What is put into a sink, one after another.
+use Rattle.mm_cells.specs.Values.{values_of}
+use Rattle.mm_cells.specs.declared.cells.Cells.{Cells}
 use Rattle.std.proofs.Common.{◌≡◌, ◌∙◌, ℕ, ◌<◌, List, [], ◌∷◌, ◌++◌, sym, ap, subst, arith, append-nil, append_assoc, length}
 use Rattle.std.proofs.KnownBytes.{Appends-nil}
 use Rattle.std.specs.List.{flat_map}
@@ -29,11 +31,11 @@ module _ {S : Type 0} (received : S → List Row → Row → S → Type 0) where
 -- ---- what the two sinks have then
 
 -- rows that came into cells that were none
-pub cells_shown : {E : Type 0} (result : Result ℕ E) (old new : List Value) (rows : List Row) (n : ℕ) → old ≡ []
-    → OnOk result (PutsRows (λ (start : List Value) rows part now. now ≡ start ++ (flat_map (λ row. row) rows ++ part)) old new rows) → IfOk result (λ k. k ≡ n)
-    → IfOk result (λ k. (k ≡ n) × (new ≡ flat_map (λ row. row) rows))
+pub cells_shown : {E : Type 0} (result : Result ℕ E) (old new : Cells) (rows : List Row) (n : ℕ) → values_of old ≡ []
+    → OnOk result (PutsRows (λ (start : Cells) rows part now. values_of now ≡ values_of start ++ (flat_map (λ row. row) rows ++ part)) old new rows) → IfOk result (λ k. k ≡ n)
+    → IfOk result (λ k. (k ≡ n) × (values_of new ≡ flat_map (λ row. row) rows))
 cells_shown (Ok k) old new rows n none puts counted =
-    (counted, puts old [] (sym (append-nil old)) ∙ ap (λ (values : List Value). values ++ (flat_map (λ row. row) rows ++ [])) none ∙ append-nil (flat_map (λ row. row) rows))
+    (counted, puts old [] (sym (append-nil (values_of old))) ∙ ap (λ (values : List Value). values ++ (flat_map (λ row. row) rows ++ [])) none ∙ append-nil (flat_map (λ row. row) rows))
 cells_shown (Err e) old new rows n none puts counted = tt
 
 -- rows that were written behind others

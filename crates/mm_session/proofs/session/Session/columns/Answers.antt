@@ -2,6 +2,7 @@ use Rattle.std.proofs.Common.{◌≡◌, sym, subst}
 use Rattle.std.specs.Prelude.{OnOk}
 use Rattle.plain_tables.specs.ResolvedLaws.{IsMeant}
 use Rattle.plain_tables.specs.declared.resolved.Resolved.TheVariants as resolved
+use Rattle.mm_cells.specs.Values.{values_of}
 use Rattle.mm_session.specs.Columns.{columns_told}
 use Rattle.mm_session.specs.Sessions.{State}
 use Rattle.mm_session.proofs.session.Session.columns.Goals as goal
@@ -10,4 +11,4 @@ pub columns-requires : goal.columns-requires
 columns-requires c = subst (λ (s : State). IsMeant s.limits s.database (resolved.Select c.args.query.now)) (sym c.self.view_is) c.requires
 
 pub returns : goal.returns
-returns c = subst (λ (s : State). OnOk c.columns.result (c.columns.new.cells ≡ columns_told s.database c.args.query.now)) c.self.view_is c.columns.ensures
+returns c = subst (λ (s : State). OnOk c.columns.result (values_of c.columns.new.cells ≡ columns_told s.database c.args.query.now)) c.self.view_is c.columns.ensures

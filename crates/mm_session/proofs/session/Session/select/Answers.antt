@@ -3,6 +3,7 @@ use Rattle.std.specs.Prelude.{IfOk}
 use Rattle.plain_tables.specs.Doing.{done}
 use Rattle.plain_tables.specs.ResolvedLaws.{IsMeant}
 use Rattle.plain_tables.specs.declared.resolved.Resolved.TheVariants as resolved
+use Rattle.mm_cells.specs.Values.{values_of}
 use Rattle.mm_session.specs.Changing.{ShowsValues}
 use Rattle.mm_session.specs.Sessions.{State}
 use Rattle.mm_session.proofs.session.Session.select.Goals as goal
@@ -12,5 +13,5 @@ select_values-requires c = subst (λ (s : State). IsMeant s.limits s.database (r
 
 pub returns-clause-shown : goal.returns-clause-shown
 returns-clause-shown c =
-    subst (λ (s : State). IfOk c.select_values.result (λ columns. ShowsValues (done s.limits s.database (resolved.Select c.args.query.now)).outcome columns c.select_values.new.cells)) c.self.view_is
+    subst (λ (s : State). IfOk c.select_values.result (λ columns. ShowsValues (done s.limits s.database (resolved.Select c.args.query.now)).outcome columns (values_of c.select_values.new.cells))) c.self.view_is
     c.select_values.ensures.shown

@@ -3,6 +3,7 @@ use Rattle.std.proofs.lemmas.Result.{err_from_is_err_and}
 use Rattle.plain_tables.specs.Databases.{Database}
 use Rattle.plain_tables.specs.declared.value.Value.{Value}
 use Rattle.mm_catalog.specs.Seen.{database_of}
+use Rattle.mm_cells.specs.Values.{values_of}
 use Rattle.mm_statements.specs.Columns.{columns_of_query, columns_of_template}
 use Rattle.mm_statements.specs.declared.faults.ExecuteFault.TheVariants as fault
 use Rattle.mm_statements.proofs.ColumnLemmas.{known-told, none-told, unresolved-untold}
@@ -40,7 +41,7 @@ returns-in_default-clause-told c =
     let s = c.self.inside.session in
     let template = c.resolution_of-resolution.result.now.template in
     rw (← c.self.view_is)
-    (known-told s c.self.inside.statements c.resolve.new.statements c.args.number c.resolution_of-resolution.result.now c.clear.new.self c.in_ok-resolve.ensures.known
+    (known-told s c.self.inside.statements c.resolve.new.statements c.args.number c.resolution_of-resolution.result.now (values_of c.clear.new.self) c.in_ok-resolve.ensures.known
     c.resolve.ensures.right c.resolve.ensures.same c.resolution_of-resolution.ensures (c.clear.ensures ∙ sym (none-told s.database template c.in_default.not-Select)))
 
 pub returns-in_default-clause-unchanged : goal.returns-in_default-clause-unchanged
@@ -52,13 +53,13 @@ pub returns-clause-told : goal.returns-clause-told
 returns-clause-told c =
     let s = c.self.inside.session in
     let query = c.in-Select.query in
-    let told : c.push_columns.new.cells ≡ columns_of_template s.database c.resolution_of-resolution.result.now.template =
+    let told : values_of c.push_columns.new.cells ≡ columns_of_template s.database c.resolution_of-resolution.result.now.template =
     c.in_ok-push_columns.ensures
     ∙ ap (λ (vs : List Value). vs ++ columns_of_query (database_of c.catalog.result.now) query) c.clear.ensures
     ∙ ap (λ (tables : Database). columns_of_query tables query) c.catalog.ensures.tables
     ∙ sym (ap (columns_of_template s.database) c.in-Select.is) in
     rw (← c.self.view_is)
-    (known-told s c.self.inside.statements c.resolve.new.statements c.args.number c.resolution_of-resolution.result.now c.push_columns.new.cells c.in_ok-resolve.ensures.known
+    (known-told s c.self.inside.statements c.resolve.new.statements c.args.number c.resolution_of-resolution.result.now (values_of c.push_columns.new.cells) c.in_ok-resolve.ensures.known
     c.resolve.ensures.right c.resolve.ensures.same c.resolution_of-resolution.ensures told)
 
 pub returns-clause-unchanged : goal.returns-clause-unchanged

@@ -3,7 +3,6 @@ use Rattle.std.proofs.lemmas.Result.{err_from_is_err_and}
 use Rattle.plain_tables.specs.Doing.{done}
 use Rattle.plain_tables.specs.ResolvedLaws.{IsMeant}
 use Rattle.plain_tables.specs.declared.resolved.Resolved.TheVariants as resolved
-use Rattle.mm_session.specs.Changing.{ShowsValues}
 use Rattle.mm_statements.specs.Resolving.{IsFinished, IsOfRows}
 use Rattle.mm_statements.specs.declared.faults.ExecuteFault.TheVariants as fault
 use Rattle.mm_statements.proofs.ExecuteLemmas.{change-declined, changed-right, effect-of, on-err, same-finished, same-unfinished, unchanged, unfinished-declined, unresolved-unfinished}
@@ -107,8 +106,8 @@ returns-in-Insert-clause-statements c =
     rw (← c.self.view_is)
     (same-seen c.self.inside.session c.insert.new.self c.self.inside.statements c.resolve.new.statements c.resolve.ensures.same)
 
-pub select-selected-requires : goal.select-selected-requires
-select-selected-requires c =
+pub select-requires : goal.select-requires
+select-requires c =
     let s = c.self.inside.session in
     let meant : IsMeant s.limits s.database c.in-Command.command.now =
     rw c.in-Command.is at (c.in_ok-lent.ensures.meant s.limits s.database c.resolve.ensures.right) in
@@ -138,7 +137,7 @@ returns-in-Select-clause-done c =
       effect-of s old c.args.number (Ok command) (same-finished s.database old c.resolve.new.statements c.args.number (Ok command) c.resolve.ensures.same finished),
       (
         refl,
-        subst (ShowsValues (done s.limits s.database command).outcome c.in_ok-columns.columns) (sym c.put.ensures) c.in_ok-columns.ensures.shown,
+        c.in_ok-columns.ensures.shown,
         c.in_ok-columns.ensures.some,
       ),
     )
