@@ -1,7 +1,7 @@
 -- What becomes of a node where balance comes back: its children turn about it, items fill the node that rises, and heights are stated anew.
 use Rattle.std.specs.Prelude.{◌≡◌, ℕ, ◌+◌, ◌-◌, ◌<◌, ◌≤◌, min, length, true, false, ◌⊎◌}
-use Rattle.ttree_node.specs.Tree.{Tree, empty, node, Label, Zipper, plug, size, height, is_node, has_left, has_right, left_of, right_of, items_of, new_height, height_over, rotated_left, rotated_right}
-use Rattle.ttree_node.specs.Seen.{child, opposite, giver, taker, slid}
+use Rattle.ttree_node.specs.Tree.{Tree, empty, node, Label, Zipper, plug, size, height, is_node, has_left, has_right, left_of, right_of, items_of, new_height, height_over}
+use Rattle.ttree_node.specs.Seen.{child, opposite, raised, giver, taker, slid}
 use Rattle.ttree_node.specs.declared.node.Side.{Side}
 use Rattle.ttree_node.specs.declared.node.Side.TheVariants.{Root, Left, Right}
 use Rattle.ttree_node.specs.declared.node.Way.{Way}
@@ -9,12 +9,6 @@ use Rattle.ttree.specs.Shape.{IsTTree}
 use Rattle.ttree.specs.Mending.{IsMendable, is_internal}
 
 module _ {X : Type 0} where
-  -- the child on that side takes the node's place
-  abbrev pub raised : Side → Tree X → Tree X
-  raised Root t = t
-  raised Left t = rotated_right t
-  raised Right t = rotated_left t
-
   -- the node with another tree on that side
   abbrev pub with_child : Side → Tree X → Tree X → Tree X
   with_child side u empty = empty

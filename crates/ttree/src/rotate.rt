@@ -21,7 +21,7 @@ ghost use Rattle.ttree.specs.Shape.{IsTTree, greatest_height};
 ghost use Rattle.ttree.specs.Rising.{IsFilled, IsInnerFilled, Leans, IsMendedTo, with_child, outer_turned, inner_raised, inner_turned, all_restated};
 ghost use Rattle.ttree.specs.Fullness.{IsGrown, IsGrowing};
 
-use crate::steps::{child_len, enter, fill, other_side, raise, restate, restate_child};
+use crate::steps::{child_len, enter, fill, raise, restate, restate_child};
 use ttree_node::{Editor, Side, Way};
 
 // Fills the node that is to rise from its only child, where it holds fewer than `MIN`.
@@ -117,7 +117,7 @@ fn fill_inner_below<const MIN: usize, const MAX: usize>(editor: &mut Editor<'_, 
     ensures spares { spares_at editor.new ≡ spares_at editor.old }
 {
     enter(editor, side);
-    fill_inner::<MIN, MAX>(editor, other_side(side));
+    fill_inner::<MIN, MAX>(editor, side.opposite());
     editor.up();
 }
 
@@ -151,7 +151,7 @@ fn turn_outer<const MAX: usize>(editor: &mut Editor<'_, MAX>, side: Side)
     ensures spares { spares_at editor.new ≡ spares_at editor.old }
 {
     raise(editor, side);
-    restate_child(editor, other_side(side));
+    restate_child(editor, side.opposite());
     restate(editor);
 }
 
@@ -167,7 +167,7 @@ fn raise_inner<const MAX: usize>(editor: &mut Editor<'_, MAX>, side: Side)
     ensures spares { spares_at editor.new ≡ spares_at editor.old }
 {
     enter(editor, side);
-    raise(editor, other_side(side));
+    raise(editor, side.opposite());
     editor.up();
 }
 

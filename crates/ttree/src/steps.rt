@@ -2,21 +2,10 @@
 ghost use Rattle.std.specs.Prelude.{◌≡◌, ◌<◌, ◌≤◌, true, false, length};
 ghost use Rattle.ttree_node.specs.Tree.{list, whole, is_node, items_of, with_tree};
 ghost use Rattle.ttree_node.specs.Editor.{position, tree_at, spares_at};
-ghost use Rattle.ttree_node.specs.Seen.{child, opposite, on_side, giver, taker};
-ghost use Rattle.ttree.specs.Rising.{raised, restated, restated_child, filled};
+ghost use Rattle.ttree_node.specs.Seen.{child, opposite, on_side, raised, giver, taker};
+ghost use Rattle.ttree.specs.Rising.{restated, restated_child, filled};
 
 use ttree_node::{Editor, Side, Way};
-
-// The other side of a node.
-pub(crate) fn other_side(side: Side) -> Side
-    ensures { result ≡ opposite side }
-{
-    match side {
-        Side::Root => Side::Root,
-        Side::Left => Side::Right,
-        Side::Right => Side::Left,
-    }
-}
 
 // Goes down to the child on that side.
 pub(crate) fn enter<const MAX: usize>(editor: &mut Editor<'_, MAX>, side: Side)
@@ -43,11 +32,7 @@ pub(crate) fn raise<const MAX: usize>(editor: &mut Editor<'_, MAX>, side: Side)
     ensures list { list (tree_at editor.new) ≡ list (tree_at editor.old) }
     ensures spares { spares_at editor.new ≡ spares_at editor.old }
 {
-    match side {
-        Side::Root => unreachable!(),
-        Side::Left => editor.rotate_right(),
-        Side::Right => editor.rotate_left(),
-    }
+    editor.raise(side);
 }
 
 // States the node's height anew.

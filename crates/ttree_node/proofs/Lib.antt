@@ -15,6 +15,7 @@ pub mod Shape
 pub mod Sizes
 pub mod Spares
 pub mod Splits
+pub mod Forks
 pub mod Turns
 pub mod TurnSteps
 pub mod Visit

@@ -1,10 +1,10 @@
 -- A subtree hangs on another node.
-use Rattle.std.proofs.Common.{◌≡◌, ℕ, ◌+◌, ◌<◌, ◌≤◌, List, length, refl, sym, subst, arith}
-use Rattle.std.specs.Prelude.{Option, IsSome}
+use Rattle.std.proofs.Common.{◌≡◌, ℕ, ◌+◌, ◌<◌, ◌≤◌, true, false, cond, List, [], ◌∷◌, length, refl, sym, subst, arith}
+use Rattle.std.specs.Prelude.{Option, Some, None, IsSome}
 use denote.RawPtr.{Ptr}
-use Rattle.ttree_node.specs.Held.{node_at, update}
+use Rattle.ttree_node.specs.Held.{same_place, node_at, update}
 use Rattle.ttree_node.specs.Tree.{Tree, empty, node}
-use Rattle.ttree_node.specs.Linked.{Spot, there, root_of, occurs, Stands, Present, with_parent, linked_up}
+use Rattle.ttree_node.specs.Linked.{Spot, there, root_of, occurs, Stands, Present, with_link, with_parent, linked_down, linked_up, hung}
 use Rattle.ttree_node.specs.declared.nodes.NodePlace.{NodePlace}
 use Rattle.ttree_node.specs.declared.node.Node.{Node}
 use Rattle.ttree_node.specs.declared.node.Side.{Side}
@@ -12,7 +12,27 @@ use Rattle.ttree_node.specs.declared.node.Side.TheVariants.{Left, Right}
 use Rattle.ttree_node.proofs.Maps.{update_same, update_other, update_length}
 use Rattle.ttree_node.proofs.Shape.{differs, still_stands}
 
+kept_update : {X : Type 0} (p q : Ptr) (f : X → X) (m : List (Ptr × X)) → IsSome (node_at p m) → IsSome (node_at p (update q f m))
+kept_update p q f [] h = h
+kept_update p q f (e ∷ m) h = (elim (same_place q e.0) as (λ s. IsSome (node_at p (cond s ((e.0, f e.1) ∷ m) (e ∷ update q f m)))) [
+  | true ↦ (elim (same_place p e.0) as (λ t. IsSome (cond t (Some e.1) (node_at p m)) → IsSome (cond t (Some (f e.1)) (node_at p m))) [ true ↦ λ _. refl | false ↦ λ r. r ]) h
+  | false ↦ (elim (same_place p e.0) as (λ t. IsSome (cond t (Some e.1) (node_at p m)) → IsSome (cond t (Some e.1) (node_at p (update q f m)))) [ true ↦ λ r. r | false ↦ λ r. kept_update p q f m r ]) h
+])
+
 module _ {MAX : ℕ} where
+  up_present : (m : List (Ptr × Node MAX)) (q par : Option NodePlace) (s : Side) (o : Option NodePlace) → Present m o → Present (linked_up q par s m) o
+  up_present m None par s o h = h
+  up_present m (Some q) par s None h = tt
+  up_present m (Some q) par s (Some p) h = kept_update p.at q.at (with_parent par s) m h
+
+  pub down_present : (m : List (Ptr × Node MAX)) (par : Option NodePlace) (s : Side) (q o : Option NodePlace) → Present m o → Present (linked_down par s q m) o
+  down_present m None s q o h = h
+  down_present m (Some p) s q None h = tt
+  down_present m (Some p) s q (Some r) h = kept_update r.at p.at (with_link s q) m h
+
+  pub hung_present : (m : List (Ptr × Node MAX)) (q par : Option NodePlace) (s : Side) (o : Option NodePlace) → Present m o → Present (hung q par s m) o
+  hung_present m q par s o h = up_present (linked_down par s q m) q par s o (down_present m par s q o h)
+
   pub stands_present : (m : List (Ptr × Node MAX)) (par : Option NodePlace) (s : Side) (t : Tree Spot) → Stands m par s t → Present m (root_of t)
   stands_present m par s empty h = tt
   stands_present m par s (node l x r) h = subst (λ o. IsSome o) (sym h.0) refl

@@ -7,17 +7,17 @@ use Rattle.ttree_node.specs.declared.node.Way.{Way}
 use Rattle.ttree_node.specs.declared.node.Way.TheVariants.{Up, Down}
 use Rattle.ttree_node.specs.declared.node.Side.{Side}
 use Rattle.ttree_node.specs.declared.node.Side.TheVariants.{Root, Left, Right}
-use Rattle.ttree_node.specs.Seen.{child, opposite, merged, slid}
+use Rattle.ttree_node.specs.Seen.{child, opposite, raised, merged, slid}
 
 module _ {I : Type 0} where
   -- a rotation keeps the list
-  pub list-rotated_left : (t : Tree (Label I)) → list (rotated_left t) ≡ list t
+  list-rotated_left : (t : Tree (Label I)) → list (rotated_left t) ≡ list t
   list-rotated_left empty = refl
   list-rotated_left (node l x empty) = refl
   list-rotated_left (node l x (node m y r)) =
       append_assoc (list l) (x.items ++ list m) (y.items ++ list r) ∙ ap (λ zs. list l ++ zs) (append_assoc x.items (list m) (y.items ++ list r))
 
-  pub list-rotated_right : (t : Tree (Label I)) → list (rotated_right t) ≡ list t
+  list-rotated_right : (t : Tree (Label I)) → list (rotated_right t) ≡ list t
   list-rotated_right empty = refl
   list-rotated_right (node empty x r) = refl
   list-rotated_right (node (node l y m) x r) =
@@ -29,12 +29,14 @@ module _ {I : Type 0} where
   list-plug (went_left x r ∷ c) t u e = list-plug c (node t x r) (node u x r) (ap (λ zs. zs ++ (x.items ++ list r)) e)
   list-plug (went_right l x ∷ c) t u e = list-plug c (node l x t) (node l x u) (ap (λ zs. list l ++ (x.items ++ zs)) e)
 
-  -- so a rotation keeps the whole list
-  pub list-whole-rotated_left : (z : Zipper (Label I)) → list (whole (with_tree rotated_left z)) ≡ list (whole z)
-  list-whole-rotated_left z = list-plug z.above (rotated_left z.here) z.here (list-rotated_left z.here)
+  list-raised : (side : Side) (t : Tree (Label I)) → list (raised side t) ≡ list t
+  list-raised Root t = refl
+  list-raised Left t = list-rotated_right t
+  list-raised Right t = list-rotated_left t
 
-  pub list-whole-rotated_right : (z : Zipper (Label I)) → list (whole (with_tree rotated_right z)) ≡ list (whole z)
-  list-whole-rotated_right z = list-plug z.above (rotated_right z.here) z.here (list-rotated_right z.here)
+  -- so a rotation keeps the whole list
+  pub list-whole-raised : (side : Side) (z : Zipper (Label I)) → list (whole (with_tree (raised side) z)) ≡ list (whole z)
+  list-whole-raised side z = list-plug z.above (raised side z.here) z.here (list-raised side z.here)
 
   -- a merge with a leaf keeps the list
   pub list-merged_right : (t : Tree (Label I)) → is_leaf (right_of t) → list (merged_right t) ≡ list t

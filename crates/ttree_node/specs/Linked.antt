@@ -94,6 +94,10 @@ module _ {MAX : ℕ} where
   linked_up None q s m = m
   linked_up (Some p) q s m = update p.at (with_parent q s) m
 
+  -- the set where the node at one place, if there is one, hangs on that side of the node at the other, if there is one
+  abbrev pub hung : Option NodePlace → Option NodePlace → Side → List (Ptr × Node MAX) → List (Ptr × Node MAX)
+  hung child parent s m = linked_up child parent s (linked_down parent s child m)
+
   module _ (m : List (Ptr × Node MAX)) where
     -- each node of the tree lies at its place, with true links
     abbrev pub Stands : Option NodePlace → Side → Tree Spot → Type 0

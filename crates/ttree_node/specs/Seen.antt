@@ -1,7 +1,7 @@
 -- What a caller sees of linked nodes: a tree of item lists with stated heights, the number of spare nodes, and a place in the tree. No pointer occurs here.
 use Rattle.std.specs.Prelude.{ℕ, Option, Bool, true, false}
 use Rattle.part_raw.specs.declared.tuple_ref.TupleRef.{TupleRef}
-use Rattle.ttree_node.specs.Tree.{Tree, empty, Zipper, Label, relabel, relabel_zipper, down_left, down_right, left_of, right_of, merged_left, merged_right, items_of, up_from_left, up_from_right, down_to_left, down_to_right}
+use Rattle.ttree_node.specs.Tree.{Tree, empty, Zipper, Label, relabel, relabel_zipper, down_left, down_right, left_of, right_of, merged_left, merged_right, rotated_left, rotated_right, items_of, up_from_left, up_from_right, down_to_left, down_to_right}
 use Rattle.ttree_node.specs.declared.node.Side.{Side}
 use Rattle.ttree_node.specs.declared.node.Side.TheVariants.{Root, Left, Right}
 use Rattle.ttree_node.specs.declared.node.Way.{Way}
@@ -49,6 +49,12 @@ abbrev pub opposite : Side → Side
 opposite Root = Root
 opposite Left = Right
 opposite Right = Left
+
+-- the child on that side takes the node's place
+abbrev pub raised : {X : Type 0} → Side → Tree X → Tree X
+raised Root t = t
+raised Left t = rotated_right t
+raised Right t = rotated_left t
 
 -- the node has all items of its child on that side, a leaf, which is gone
 abbrev pub merged : {I : Type 0} → Side → Tree (Label I) → Tree (Label I)

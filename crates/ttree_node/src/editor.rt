@@ -17,8 +17,8 @@ pub struct Editor<'a, const MAX: usize> {
 }
 
 impl<'a, const MAX: usize> Editor<'a, MAX> {
-    ghost use Rattle.ttree_node.specs.Tree.{whole, list, is_node, is_leaf, is_root, has_left, has_right, left_of, right_of, down_left, down_right, up, to_root, items_of, stated, with_items, with_height, height_over, with_leaf, without_leaf, with_tree, rotated_left, rotated_right};
-    ghost use Rattle.ttree_node.specs.Seen.{on_side, child, opposite, hangs_on_node, merged, giver, taker, slid};
+    ghost use Rattle.ttree_node.specs.Tree.{whole, list, is_node, is_leaf, is_root, has_left, has_right, left_of, right_of, down_left, down_right, up, to_root, items_of, stated, with_items, with_height, height_over, with_leaf, without_leaf, with_tree};
+    ghost use Rattle.ttree_node.specs.Seen.{on_side, child, opposite, hangs_on_node, raised, merged, giver, taker, slid};
     ghost use Rattle.ttree_node.specs.Seen.{position_at};
     ghost use Rattle.ttree_node.specs.Look.{position as look_position};
     ghost use Rattle.ttree_node.specs.Editor.{position, tree_at, spares_at};
@@ -233,27 +233,15 @@ impl<'a, const MAX: usize> Editor<'a, MAX> {
         self.at = self.nodes.merge(self.at, side);
     }
 
-    /// The right child takes the node's place, and the node becomes its left child.
-    pub fn rotate_left(&mut self)
-        requires { has_right (position self.old).here ≡ true }
+    /// The child on that side takes the node's place, and the node becomes that child's child on the other side.
+    pub fn raise(&mut self, side: Side)
+        requires { is_node (child side (position self.old).here) ≡ true }
         ensures same_reference { self.new.nodes.ghost_name ≡ self.old.nodes.ghost_name }
-        ensures turned { position self.new ≡ with_tree rotated_left (position self.old) }
+        ensures turned { position self.new ≡ with_tree (raised side) (position self.old) }
         ensures list { list (tree_at self.new) ≡ list (whole (position self.old)) }
         ensures tree { tree_at self.new ≡ whole (position self.new) }
         ensures spares { spares_at self.new ≡ spares_at self.old }
     {
-        self.at = self.nodes.rotate_left(self.at);
-    }
-
-    /// The left child takes the node's place, and the node becomes its right child.
-    pub fn rotate_right(&mut self)
-        requires { has_left (position self.old).here ≡ true }
-        ensures same_reference { self.new.nodes.ghost_name ≡ self.old.nodes.ghost_name }
-        ensures turned { position self.new ≡ with_tree rotated_right (position self.old) }
-        ensures list { list (tree_at self.new) ≡ list (whole (position self.old)) }
-        ensures tree { tree_at self.new ≡ whole (position self.new) }
-        ensures spares { spares_at self.new ≡ spares_at self.old }
-    {
-        self.at = self.nodes.rotate_right(self.at);
+        self.at = self.nodes.raise(self.at, side);
     }
 }

@@ -1,6 +1,6 @@
 //! One node: what it holds, and what it links.
 ghost use Rattle.std.specs.Prelude.{◌≡◌, IfSome};
-ghost use Rattle.ttree_node.specs.Link.{link as link_so};
+ghost use Rattle.ttree_node.specs.Link.{link as link_so, child_link};
 
 use crate::nodes::NodePlace;
 use arrayvec::ArrayVec;
@@ -16,6 +16,22 @@ pub enum Side {
     Left,
     /// On the right of its parent.
     Right,
+}
+
+impl Side {
+    ghost use Rattle.ttree_node.specs.Seen.{opposite};
+
+    /// The other side of a node.
+    #[inline]
+    pub fn opposite(self) -> Side
+        ensures { result ≡ opposite self }
+    {
+        match self {
+            Side::Root => Side::Root,
+            Side::Left => Side::Right,
+            Side::Right => Side::Left,
+        }
+    }
 }
 
 /// Which way items go between a node and its child.
@@ -35,6 +51,20 @@ pub struct HeadFields {
     pub(crate) left: Option<NodePlace>,
     pub(crate) right: Option<NodePlace>,
     pub(crate) parent: Option<NodePlace>,
+}
+
+impl HeadFields {
+    // The child on that side.
+    #[inline]
+    pub(crate) fn child(&self, side: Side) -> Option<NodePlace>
+        ensures { result ≡ child_link side self.now }
+    {
+        match side {
+            Side::Root => None,
+            Side::Left => self.left,
+            Side::Right => self.right,
+        }
+    }
 }
 
 // The same in 32 bytes. An `Option` of a place takes two words. So the places lie side by side, and beside them stands of each whether

@@ -27,7 +27,7 @@ impl<const MAX: usize> Parts<MAX> {
     ghost use Rattle.ttree_node.specs.Tree.{Tree, size};
     ghost use Rattle.ttree_node.specs.declared.node.Side.TheVariants.{Root};
     ghost use Rattle.ttree_node.specs.declared.node.Node.{Node};
-    ghost use Rattle.ttree_node.specs.Linked.{Spot, Linked, Sound, located, node_limit, Present, linked_down, linked_up, rooted, node_for, label_of, head_of};
+    ghost use Rattle.ttree_node.specs.Linked.{Spot, Linked, Sound, located, node_limit, Present, linked_down, linked_up, hung, rooted, node_for, head_of};
 
     pub(crate) fn new(alloc: Global) -> Parts<MAX>
         ensures { (result.nodes.held ≡ []) × (result.root ≡ None) × (result.free ≡ None) × (result.spares ≡ 0) }
@@ -115,25 +115,6 @@ impl<const MAX: usize> Parts<MAX> {
         }
     }
 
-    // Sets all links of a node.
-    pub(crate) fn set_links(
-        &mut self,
-        place: NodePlace,
-        parent: Option<NodePlace>,
-        side: Side,
-        left: Option<NodePlace>,
-        right: Option<NodePlace>,
-    )
-        requires { IsSome (node_at place.at self.old.nodes.held) }
-        ensures held { (v : Node MAX) → node_at place.at self.old.nodes.held ≡ Some v → self.new.nodes.held ≡ set_node place.at (node_for (label_of v) parent side left right) self.old.nodes.held }
-        ensures rest { (self.new.root ≡ self.old.root) × (self.new.free ≡ self.old.free) × (self.new.spares ≡ self.old.spares) }
-    {
-        let node = self.nodes.get_mut(place);
-        node.head.set_parent(parent, side);
-        node.head.set_left(left);
-        node.head.set_right(right);
-    }
-
     // Hangs `child`, if it is a node, on that side of `parent`. The parent's link is left as it is.
     pub(crate) fn set_parent(
         &mut self,
@@ -149,6 +130,18 @@ impl<const MAX: usize> Parts<MAX> {
             let node = self.nodes.get_mut(below);
             node.head.set_parent(parent, side);
         }
+    }
+
+    // Hangs `child`, if it is a node, on that side of `parent`, or makes it the root where there is no parent.
+    pub(crate) fn hang(&mut self, child: Option<NodePlace>, parent: Option<NodePlace>, side: Side)
+        requires child { Present self.old.nodes.held child }
+        requires parent { Present self.old.nodes.held parent }
+        ensures held { self.new.nodes.held ≡ hung child parent side self.old.nodes.held }
+        ensures root { self.new.root ≡ rooted parent child self.old.root }
+        ensures rest { (self.new.free ≡ self.old.free) × (self.new.spares ≡ self.old.spares) }
+    {
+        self.set_child(parent, side, child);
+        self.set_parent(child, parent, side);
     }
 
     // Takes memory for one more spare node.

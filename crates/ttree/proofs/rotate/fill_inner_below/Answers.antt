@@ -17,4 +17,4 @@ pub returns-clause-filled : goal.returns-clause-filled
 returns-clause-filled g c =
     let b = came_back c.args.side (position c.args.editor.now) (position c.enter.new.editor) (position c.fill_inner.new.editor) (position c.up.new.self) c.requires.child c.enter.ensures.moved c.fill_inner.ensures.above c.up.ensures.moved in
     subst (λ t. IsInnerFilled (opposite c.args.side) g.row.MIN g.row.MAX t (child c.args.side (position c.up.new.self).here)) b.3
-    (subst (λ u. IsInnerFilled (opposite c.args.side) g.row.MIN g.row.MAX (position c.enter.new.editor).here u) (sym b.2) (subst (λ s. IsInnerFilled s g.row.MIN g.row.MAX (position c.enter.new.editor).here (position c.fill_inner.new.editor).here) c.other_side.ensures c.fill_inner.ensures.filled))
+    (subst (λ u. IsInnerFilled (opposite c.args.side) g.row.MIN g.row.MAX (position c.enter.new.editor).here u) (sym b.2) (subst (λ s. IsInnerFilled s g.row.MIN g.row.MAX (position c.enter.new.editor).here (position c.fill_inner.new.editor).here) c.opposite.ensures c.fill_inner.ensures.filled))

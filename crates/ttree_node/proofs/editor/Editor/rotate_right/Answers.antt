@@ -1,9 +1,0 @@
-use Rattle.std.proofs.Common.{◌∙◌, ap}
-use Rattle.ttree_node.specs.Laws.{list-whole-rotated_right}
-use Rattle.ttree_node.specs.Tree.{list, whole}
-use Rattle.ttree_node.specs.Seen.{position_at}
-use Rattle.ttree_node.proofs.editor.Editor.rotate_right.Goals as goal
-
-pub returns-clause-list : goal.returns-clause-list
-returns-clause-list g c =
-    ap (λ t. list t) c.rotate_right-self.ensures.tree ∙ (λ i. list (whole (c.rotate_right-self.ensures.turned i))) ∙ list-whole-rotated_right (position_at c.args.self.now.nodes.now c.args.self.now.at)
