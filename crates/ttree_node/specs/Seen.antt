@@ -1,7 +1,7 @@
 -- What a caller sees of linked nodes: a tree of item lists with stated heights, the number of spare nodes, and a place in the tree. No pointer occurs here.
-use Rattle.std.specs.Prelude.{ℕ, Option, Bool, true, false}
+use Rattle.std.specs.Prelude.{ℕ, ◌-◌, Option, Bool, true, false, List, ◌++◌, length, take, drop}
 use Rattle.part_raw.specs.declared.tuple_ref.TupleRef.{TupleRef}
-use Rattle.ttree_node.specs.Tree.{Tree, empty, Zipper, Label, relabel, relabel_zipper, down_left, down_right, left_of, right_of, merged_left, merged_right, rotated_left, rotated_right, items_of, up_from_left, up_from_right, down_to_left, down_to_right}
+use Rattle.ttree_node.specs.Tree.{Tree, empty, Zipper, Label, relabel, relabel_zipper, down_left, down_right, left_of, right_of, merged_left, merged_right, rotated_left, rotated_right, items_of, dealt_left, dealt_right}
 use Rattle.ttree_node.specs.declared.node.Side.{Side}
 use Rattle.ttree_node.specs.declared.node.Side.TheVariants.{Root, Left, Right}
 use Rattle.ttree_node.specs.declared.node.Way.{Way}
@@ -71,10 +71,30 @@ abbrev pub taker : {X : Type 0} → Way → Side → Tree X → Tree X
 taker Up side t = t
 taker Down side t = child side t
 
+-- one list beside another, on that side of it
+abbrev pub beside : {I : Type 0} → Side → List I → List I → List I
+beside Root xs ys = xs ++ ys
+beside Left xs ys = xs ++ ys
+beside Right xs ys = ys ++ xs
+
+-- the last items on that side of a list, and the others
+abbrev pub end_of : {I : Type 0} → Side → ℕ → List I → List I
+end_of Root n xs = take n xs
+end_of Left n xs = take n xs
+end_of Right n xs = drop (length xs - n) xs
+
+abbrev pub without_end : {I : Type 0} → Side → ℕ → List I → List I
+without_end Root n xs = drop n xs
+without_end Left n xs = drop n xs
+without_end Right n xs = take (length xs - n) xs
+
+-- the node with other items, and its child on that side too
+abbrev pub dealt : {I : Type 0} → Side → List I → List I → Tree (Label I) → Tree (Label I)
+dealt Root xs ys t = t
+dealt Left xs ys t = dealt_left xs ys t
+dealt Right xs ys t = dealt_right xs ys t
+
 -- so many items go that way between the node and its child on that side, nearest first
 abbrev pub slid : {I : Type 0} → Side → Way → ℕ → Tree (Label I) → Tree (Label I)
-slid Root way n t = t
-slid Left Up n t = up_from_left n (items_of t) (items_of (left_of t)) t
-slid Left Down n t = down_to_left n (items_of t) (items_of (left_of t)) t
-slid Right Up n t = up_from_right n (items_of t) (items_of (right_of t)) t
-slid Right Down n t = down_to_right n (items_of t) (items_of (right_of t)) t
+slid side Up n t = dealt side (beside side (end_of (opposite side) n (items_of (child side t))) (items_of t)) (without_end (opposite side) n (items_of (child side t))) t
+slid side Down n t = dealt side (without_end side n (items_of t)) (beside (opposite side) (end_of side n (items_of t)) (items_of (child side t))) t

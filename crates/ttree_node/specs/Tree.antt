@@ -1,5 +1,5 @@
 -- Trees with a label at each node, and a place in a tree.
-use Rattle.std.specs.Prelude.{◌≡◌, ℕ, ◌+◌, ◌-◌, length, take, drop, max, min, Bool, true, false, List, [], ◌∷◌, ◌++◌}
+use Rattle.std.specs.Prelude.{◌≡◌, ℕ, ◌+◌, take, drop, max, min, Bool, true, false, List, [], ◌∷◌, ◌++◌}
 
 -- empty, or a left tree, a label and a right tree
 pub data Tree (X : Type 0) : Type 0 where
@@ -204,19 +204,6 @@ module _ {I : Type 0} where
   abbrev pub dealt_left : List I → List I → Tree (Label I) → Tree (Label I)
   dealt_left xs ys empty = empty
   dealt_left xs ys (node l x r) = node (new_items ys l) (record { items = xs; height = x.height }) r
-
-  -- so many items go up from the child to the node, or down from the node to the child, nearest first
-  abbrev pub up_from_right : ℕ → List I → List I → Tree (Label I) → Tree (Label I)
-  up_from_right n xs ys t = dealt_right (xs ++ take n ys) (drop n ys) t
-
-  abbrev pub up_from_left : ℕ → List I → List I → Tree (Label I) → Tree (Label I)
-  up_from_left n xs ys t = dealt_left (drop (length ys - n) ys ++ xs) (take (length ys - n) ys) t
-
-  abbrev pub down_to_right : ℕ → List I → List I → Tree (Label I) → Tree (Label I)
-  down_to_right n xs ys t = dealt_right (take (length xs - n) xs) (drop (length xs - n) xs ++ ys) t
-
-  abbrev pub down_to_left : ℕ → List I → List I → Tree (Label I) → Tree (Label I)
-  down_to_left n xs ys t = dealt_left (drop n xs) (ys ++ take n xs) t
 
 -- ---- the list from a place on, and up to it
 module _ {I : Type 0} where

@@ -2,6 +2,7 @@
 ghost use Rattle.std.specs.Prelude.{◌≡◌, ◌≤◌, true, false, length, slice_get, []};
 
 use crate::linked_nodes::LinkedNodes;
+use crate::node::Side;
 use crate::nodes::NodePlace;
 use crate::parts::MOST_ITEMS;
 use part_raw::TupleRef;
@@ -9,7 +10,7 @@ use part_raw::TupleRef;
 impl<const MAX: usize> LinkedNodes<MAX> {
     ghost use Rattle.ttree_node.specs.Tree.{at, whole, is_root, has_left, has_right, left_of, right_of, down_left, down_right, up, items_of, stated, is_node};
     ghost use Rattle.ttree_node.specs.Linked.{located, IsPlaceIn};
-    ghost use Rattle.ttree_node.specs.Seen.{tree_of, position_at};
+    ghost use Rattle.ttree_node.specs.Seen.{tree_of, position_at, child, on_side};
     ghost use Rattle.std.specs.Prelude.{Option};
     ghost use Rattle.std.specs.Option.{is_some};
     ghost use Rattle.ttree_node.specs.declared.nodes.NodePlace.{NodePlace};
@@ -47,6 +48,20 @@ impl<const MAX: usize> LinkedNodes<MAX> {
         ensures moved { position_at self.now result ≡ down_right (position_at self.now place) }
     {
         self.parts.nodes.get(place.unwrap()).head.right()
+    }
+
+    // The child on that side.
+    pub(crate) fn child_of(&self, place: Option<NodePlace>, side: Side) -> Option<NodePlace>
+        requires placed { IsPlaceIn (located self.now) place }
+        requires child { is_node (child side (position_at self.now place).here) ≡ true }
+        ensures placed { IsPlaceIn (located self.now) result }
+        ensures moved { position_at self.now result ≡ on_side side (position_at self.now place) }
+    {
+        match side {
+            Side::Root => place,
+            Side::Left => self.left_of(place),
+            Side::Right => self.right_of(place),
+        }
     }
 
     pub(crate) fn parent_of(&self, place: Option<NodePlace>) -> Option<NodePlace>
