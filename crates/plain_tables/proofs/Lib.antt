@@ -42,5 +42,6 @@ pub mod Uniqueness
 pub mod Utf8Parts
 pub mod ValueLemmas
 pub mod Weights
+pub mod EachSymbol
 pub mod WellFormed
 pub mod WrittenLemmas

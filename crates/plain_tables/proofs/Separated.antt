@@ -19,15 +19,15 @@ pub all-each : {X : Type 0} (P Q : X → Type 0) → ((x : X) → P x → Q x) �
 all-each P Q each [] all = tt
 all-each P Q each (x ∷ xs) all = (each x all.0, all-each P Q each xs all.1)
 
--- Where each item's symbols are so, and the symbol between two of them, all are.
-pub separated-all : {X : Type 0} (P : Symbol → Type 0) (between : Symbol) → P between → (symbols : X → List Symbol) (Q : X → Type 0)
-    → ((x : X) → Q x → AllByRecursion P (symbols x)) → (xs : List X) → AllByRecursion Q xs
+-- Where each item's symbols are so, and the symbol between two of them, all are. What is asked of an item may rest on a premise.
+pub separated-all : {X : Type 0} (P : Symbol → Type 0) (G : Type 0) (between : Symbol) → P between → (symbols : X → List Symbol) (Q : X → Type 0)
+    → ((x : X) → (G → Q x) → AllByRecursion P (symbols x)) → (xs : List X) → (G → AllByRecursion Q xs)
     → AllByRecursion P (separated_by between (map symbols xs))
-separated-all P between is symbols Q each [] all = tt
-separated-all P between is symbols Q each (x ∷ []) all = each x all.0
-separated-all P between is symbols Q each (x ∷ y ∷ xs) all =
-    all-append P (symbols x) (between ∷ separated_by between (map symbols (y ∷ xs))) (each x all.0)
-    (is, separated-all P between is symbols Q each (y ∷ xs) all.1)
+separated-all P G between is symbols Q each [] all = tt
+separated-all P G between is symbols Q each (x ∷ []) all = each x (λ g. (all g).0)
+separated-all P G between is symbols Q each (x ∷ y ∷ xs) all =
+    all-append P (symbols x) (between ∷ separated_by between (map symbols (y ∷ xs))) (each x (λ g. (all g).0))
+    (is, separated-all P G between is symbols Q each (y ∷ xs) (λ g. (all g).1))
 
 -- Where all are so, each item's symbols are.
 pub separated-each : {X : Type 0} (P : Symbol → Type 0) (between : Symbol) (symbols : X → List Symbol) (Q : X → Type 0)

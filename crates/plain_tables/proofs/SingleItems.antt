@@ -18,7 +18,7 @@ use Rattle.plain_tables.specs.declared.command.JoinSide.{JoinSide}
 use Rattle.plain_tables.proofs.Lexemes.{IsWellFormed, lexeme-of_made}
 use Rattle.plain_tables.proofs.Integers.{Literal-only}
 use Rattle.plain_tables.proofs.FirstWords.{different}
-use Rattle.plain_tables.proofs.WellFormed.{index_word-word}
+use Rattle.plain_tables.proofs.EachSymbol.{index_word-word}
 use Rattle.plain_tables.proofs.Lists.{NeverBegins, HaveOneRest, EndsItem, fixed-ends_item, IsOneItem, sign-fixed}
 
 -- ---- operators

@@ -2,7 +2,7 @@
 use Rattle.std.proofs.Common.{◌≡◌, List, [], ◌∷◌, ◌++◌, IsTrue, length, refl, drop}
 use Rattle.std.specs.Prelude.{slice_index_or}
 use Rattle.plain_tables.specs.Databases.{Database}
-use Rattle.plain_tables.specs.Transactions.{Transactional, Step, Changes, Begins, Commits, RollsBack, after, after_step, begun, committed, ends_its_own, rolled_back}
+use Rattle.plain_tables.specs.Transactions.{Transactional, Step, Changes, Begins, Commits, RollsBack, after, begun, committed, ends_its_own, rolled_back}
 
 -- the databases that the steps' own transactions saved stand before those of the others, which stay
 pub others_stay : (steps : List Step) (own others : List Database) (database : Database) → IsTrue (ends_its_own (length own) steps)
