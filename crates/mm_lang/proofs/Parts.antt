@@ -8,6 +8,7 @@ use lib.Chars.{codes}
 use Rattle.plain_tables.specs.Spelling.{Symbol, Keyword, Name, Sign, Open, Close, Comma, Operator, separated_by, name_symbols, distinct_symbols, items_symbols, join_symbols}
 use Rattle.plain_tables.specs.declared.condition.Op.TheVariants as op
 use Rattle.plain_tables.proofs.Lexemes.{IsWellFormed}
+use Rattle.plain_tables.proofs.EachSymbol.{name-each, items-each, distinct-each, joins-each}
 use Rattle.plain_tables.proofs.Separated.{all-append}
 use Rattle.plain_statements.specs.declared.statement.Slot.{Slot}
 use Rattle.plain_statements.specs.declared.statement.SlotSetting.{SlotSetting}
@@ -17,7 +18,7 @@ use Rattle.plain_statements.specs.declared.statement.Statement.TheVariants as st
 use Rattle.plain_statements.specs.StatementSpelling.{slots_of}
 use Rattle.mm_lang.specs.Parsing.{where_of}
 use Rattle.mm_lang.specs.Statements.{slot_by, setting_by, condition_by, word_of, behind_by}
-use Rattle.mm_lang.proofs.Spelled.{AreWellFormed, whole-well, items-well, distinct-well, joins-well}
+use Rattle.mm_lang.proofs.Spelled.{AreWellFormed, each-well}
 
 -- a symbol, or a slot
 pub data Part : Type 0 where
@@ -97,7 +98,7 @@ setting-parts s = word-parts (Name s.column) tt _ _ (word-parts (Sign (Operator 
 
 condition-parts : (c : SlotCond) → HasParts (λ f. condition_by f c) (c.slot ∷ [])
 condition-parts c =
-    append-parts (λ f. name_symbols c.column) _ [] _ (plain-parts (name_symbols c.column) (whole-well c.column.table c.column.column))
+    append-parts (λ f. name_symbols c.column) _ [] _ (plain-parts (name_symbols c.column) (name-each IsWellFormed ⊥ each-well c.column (λ none. absurd none)))
     (word-parts (Sign (Operator c.op)) tt _ _ (slot-parts c.slot))
 
 where-parts : (conditions : List SlotCond) → HasParts (λ f. where_of (condition_by f) conditions) (map (λ c. c.slot) conditions)
@@ -120,11 +121,11 @@ behind-parts (statement.Delete table conditions) =
     word-parts (Name table) tt _ _ (where-parts conditions)
 behind-parts (statement.Select distinct items table joins conditions) =
     let slots : List Slot = map (λ c. c.slot) conditions in
-    append-parts (λ f. distinct_symbols distinct) _ [] slots (plain-parts (distinct_symbols distinct) (distinct-well distinct))
-    (append-parts (λ f. items_symbols items) _ [] slots (plain-parts (items_symbols items) (items-well items))
+    append-parts (λ f. distinct_symbols distinct) _ [] slots (plain-parts (distinct_symbols distinct) (distinct-each IsWellFormed ⊥ each-well distinct))
+    (append-parts (λ f. items_symbols items) _ [] slots (plain-parts (items_symbols items) (items-each IsWellFormed ⊥ each-well items (λ none. absurd none)))
     (word-parts (Keyword (codes "from")) refl _ slots (word-parts (Name table) tt _ slots
     (append-parts (λ f. flat_map join_symbols joins) (λ f. where_of (condition_by f) conditions) [] slots
-    (plain-parts (flat_map join_symbols joins) (joins-well joins)) (where-parts conditions)))))
+    (plain-parts (flat_map join_symbols joins) (joins-each IsWellFormed ⊥ each-well joins (λ none. absurd none))) (where-parts conditions)))))
 
 word-well : (s : Statement) → IsWellFormed (Keyword (word_of s))
 word-well (statement.Insert table slots) = refl

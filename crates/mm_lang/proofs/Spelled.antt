@@ -1,23 +1,13 @@
 -- Spelled: a line spells a command where its lexemes are the command's symbols.
-use Rattle.std.proofs.Common.{◌≡◌, ◌≢◌, ℕ, List, [], ◌∷◌, ◌++◌, map, Bool, true, false, Option, Some, None, refl, sym, ◌∙◌, ap, subst}
-use Rattle.std.specs.List.{AllByRecursion, Contains, flat_map}
-use lib.Chars.{codes}
-use Rattle.plain_tables.specs.Spelling.{Symbol, Keyword, Name, Literal, Sign, Open, Close, Comma, Operator, separated_by, symbols_of, kind_symbols, column_symbols, index_symbols, value_symbols, name_symbols, setting_symbols, condition_symbols, distinct_symbols, items_symbols, join_symbols, where_symbols, IsMadeOf, Spells}
+use Rattle.std.proofs.Common.{◌≡◌, ◌≢◌, ℕ, List, [], ◌∷◌, refl, sym, ◌∙◌, ap, subst}
+use Rattle.std.specs.List.{AllByRecursion, Contains}
+use Rattle.plain_tables.specs.Spelling.{Symbol, Keyword, symbols_of, IsMadeOf, Spells}
 use Rattle.plain_tables.specs.Reading.{lexeme, after_lexeme}
-use Rattle.plain_tables.specs.declared.schema.ColKind.{ColKind}
-use Rattle.plain_tables.specs.declared.schema.ColKind.TheVariants as kind
-use Rattle.plain_tables.specs.declared.schema.IndexKind.{IndexKind}
-use Rattle.plain_tables.specs.declared.condition.Cond.{Cond}
-use Rattle.plain_tables.specs.declared.command.Join.{Join}
-use Rattle.plain_tables.specs.declared.command.Items.{Items}
-use Rattle.plain_tables.specs.declared.command.Items.TheVariants as items
 use Rattle.plain_tables.specs.declared.command.Command.{Command}
 use Rattle.plain_tables.specs.declared.command.Command.TheVariants.{Table, DropTable, Index, DropIndex, Insert, Update, Delete, Select, Load, Dump, Tables}
 use Rattle.plain_tables.proofs.Lexemes.{IsWellFormed, lexeme-of_made, made-from_lexeme, blanks-no_lexeme, no_lexeme-blanks}
-use Rattle.plain_tables.proofs.Separated.{all-append}
 use Rattle.plain_tables.proofs.FirstWords.{first_word, behind_word, split-word}
-use Rattle.plain_tables.proofs.SingleItems.{whole_name}
-use Rattle.plain_tables.proofs.WellFormed.{index_word-word}
+use Rattle.plain_tables.proofs.EachSymbol.{HoldsOfSymbols, command-each}
 use Rattle.mm_lang.specs.declared.parser.CommandWord.{CommandWord}
 use Rattle.mm_lang.specs.declared.parser.CommandWord.TheVariants as word
 use Rattle.mm_lang.specs.Parsing.{IsWhole, Completes}
@@ -28,73 +18,11 @@ use Rattle.mm_lang.specs.Words.{letters}
 abbrev pub AreWellFormed : List Symbol → Type 0
 AreWellFormed symbols = AllByRecursion IsWellFormed symbols
 
-kind-well : (k : ColKind) → AreWellFormed (kind_symbols k)
-kind-well kind.Int = (refl, tt)
-kind-well kind.Text = (refl, tt)
-kind-well (kind.Ref table) = (refl, (tt, tt))
-kind-well (kind.RefOrNull table) = (refl, (tt, (refl, tt)))
-
-index-well : (table column : List ℕ) (k : IndexKind) → AreWellFormed (index_symbols table column k)
-index-well table column k = (tt, (tt, (index_word-word k, tt)))
-
-pub whole-well : (table : Option (List ℕ)) (column : List ℕ) → AreWellFormed (whole_name table column)
-whole-well None column = (tt, tt)
-whole-well (Some t) column = (tt, (tt, (tt, tt)))
-
-condition-well : (condition : Cond) → AreWellFormed (condition_symbols condition)
-condition-well condition =
-    all-append IsWellFormed (name_symbols condition.column) (Sign (Operator condition.op) ∷ Literal condition.value ∷ [])
-    (whole-well condition.column.table condition.column.column) (tt, (tt, tt))
-
-separated-well : {X : Type 0} (symbols : X → List Symbol) (between : Symbol) → IsWellFormed between → ((x : X) → AreWellFormed (symbols x))
-    → (xs : List X) → AreWellFormed (separated_by between (map symbols xs))
-separated-well symbols between well each [] = tt
-separated-well symbols between well each (x ∷ []) = each x
-separated-well symbols between well each (x ∷ y ∷ xs) =
-    all-append IsWellFormed (symbols x) (between ∷ separated_by between (map symbols (y ∷ xs))) (each x)
-    (well, separated-well symbols between well each (y ∷ xs))
-
-where-well : (conditions : List Cond) → AreWellFormed (where_symbols conditions)
-where-well [] = tt
-where-well (x ∷ xs) = (refl, separated-well condition_symbols (Keyword (codes "and")) refl condition-well (x ∷ xs))
-
-pub items-well : (items : Items) → AreWellFormed (items_symbols items)
-items-well items.All = (tt, tt)
-items-well (items.Named names) = separated-well name_symbols (Sign Comma) tt (λ name. whole-well name.table name.column) names
-
-pub distinct-well : (distinct : Bool) → AreWellFormed (distinct_symbols distinct)
-distinct-well true = (refl, tt)
-distinct-well false = tt
-
-pub joins-well : (joins : List Join) → AreWellFormed (flat_map join_symbols joins)
-joins-well [] = tt
-joins-well (join ∷ joins) =
-    all-append IsWellFormed (join_symbols join) (flat_map join_symbols joins)
-    (refl, (tt, (refl, (tt, (tt, (tt, (tt, (tt, (tt, (tt, tt)))))))))) (joins-well joins)
-
-listed-well : {X : Type 0} (symbols : X → List Symbol) → ((x : X) → AreWellFormed (symbols x)) → (name : List ℕ) (xs : List X)
-    → AreWellFormed (Name name ∷ Sign Open ∷ separated_by (Sign Comma) (map symbols xs) ++ Sign Close ∷ [])
-listed-well symbols each name xs =
-    (tt, (tt, all-append IsWellFormed _ (Sign Close ∷ []) (separated-well symbols (Sign Comma) tt each xs) (tt, tt)))
+pub each-well : HoldsOfSymbols IsWellFormed ⊥
+each-well = record { word = λ w is. is; sign = λ mark. tt; name = λ n is. tt; literal = λ v is. tt; count = λ n is. tt }
 
 command-well : (command : Command) → AreWellFormed (symbols_of command)
-command-well (Table name schema) = (refl, listed-well column_symbols (λ column. (tt, kind-well column.kind)) name schema.columns)
-command-well (DropTable table) = (refl, (refl, (tt, tt)))
-command-well (Index table column k) = (refl, index-well table column k)
-command-well (DropIndex table column k) = (refl, (refl, index-well table column k))
-command-well (Insert table values) = (refl, listed-well value_symbols (λ v. (tt, tt)) table values)
-command-well (Update table settings conditions) =
-    let list = separated-well setting_symbols (Sign Comma) tt (λ setting. (tt, (tt, (tt, tt)))) settings in
-    (refl, (tt, (refl, all-append IsWellFormed _ (where_symbols conditions) list (where-well conditions))))
-command-well (Delete table conditions) = (refl, (tt, where-well conditions))
-command-well (Select distinct items table joins conditions) =
-    let tail = all-append IsWellFormed (flat_map join_symbols joins) _ (joins-well joins) (where-well conditions) in
-    let behind = all-append IsWellFormed (items_symbols items) _ (items-well items) (refl, (tt, tail)) in
-    subst AreWellFormed (sym (split-word (Select distinct items table joins conditions)).0)
-    (refl, all-append IsWellFormed (distinct_symbols distinct) _ (distinct-well distinct) behind)
-command-well (Load table bytes) = (refl, (tt, (tt, tt)))
-command-well (Dump table) = (refl, (tt, tt))
-command-well Tables = (refl, tt)
+command-well command = command-each IsWellFormed ⊥ each-well command (λ none. absurd none)
 
 -- ---- the line by its lexemes
 
