@@ -7,6 +7,7 @@ use Rattle.ttree.specs.Rising.{IsMendableHere, IsMendedTo, StandsMended, HasRise
 use Rattle.ttree.proofs.EachNode.{each_here}
 use Rattle.ttree.proofs.Fitness.{in_numbers, high_node, no_node_low, stated-height}
 use Rattle.ttree.proofs.Replacing.{fit-replaced}
+use Rattle.ttree.proofs.Swapped.{fit-swapped, mends-swapped}
 use Rattle.std.proofs.lemmas.Bool.{cases_lt}
 
 module _ {I : Type 0} (least most : ℕ) where
@@ -82,32 +83,7 @@ module _ {I : Type 0} (least most : ℕ) where
       )
 
   joined_right : (was t : Tree (Label I)) (x : Label I) (l : Tree (Label I)) → IsTTree least most (node l x was) → StandsMended least most was t → IsMendable least most l x t × StandsFor (node l x was) l x t
-  joined_right was t x l (lf, f, _) s =
-      let n = in_numbers least most l x was f in let node_was = high_node was s.was_some in let node_t = high_node t s.some in (
-        record {
-          left_fit = lf;
-          right_fit = s.fit;
-          left_high = omega (arith, n, s);
-          right_high = omega (arith, n, s);
-          items = f.items;
-          internal = λ a b. f.occupied.internal a node_was;
-          left_half = λ a b. absurd (omega (arith, s, no_node_low t b));
-          right_half = λ a b. omega (arith, f.occupied.right_half a node_was, s.leaf (omega (arith, n, s, no_node_low l a)) b);
-          left_only = λ a b. absurd (omega (arith, s, no_node_low t a));
-          right_only = λ b (i, j). elim (s.one_child (omega (arith, n, s, no_node_low l b))) [ inl e ↦ absurd (let e' : true ≡ false = sym i ∙ e in cc) | inr e ↦ absurd (let e' : true ≡ false = sym j ∙ e in cc) ];
-        },
-        record {
-          some = omega arith;
-          not_higher = omega (arith, n, s);
-          not_lower = omega (arith, n, s);
-          turned = elim (cases_lt (1 + height t) (height l)) [
-            | inl h ↦ inr (omega (arith, n, s, h))
-            | inr h ↦ elim (cases_lt (1 + height l) (height t)) [ inl k ↦ inr (omega (arith, n, s, k)) | inr k ↦ inl (h, k) ]
-          ];
-          leaf = λ a b. absurd (omega (arith, a, s));
-          one_child = λ a. absurd (omega (arith, a, s));
-        },
-      )
+  joined_right was t x l f s = mends-swapped least most was x l t x l (joined_left was t x l (fit-swapped least most l x was f) s)
 
   can_rise_at : (c : List (Frame (Label I))) (t : Tree (Label I)) → is_root c ≡ false → (was : Tree (Label I)) → IsTTree least most (plug c was) → StandsMended least most was t → CanRise least most (up (at c t))
   can_rise_at [] t e was f s = cc

@@ -9,6 +9,7 @@ use Rattle.ttree_node.specs.declared.node.Way.TheVariants.{Up, Down}
 use Rattle.ttree.specs.Shape.{IsTTree}
 use Rattle.ttree.specs.Rising.{IsFilled, IsInnerFilled, filled, fill_count, with_child}
 use Rattle.ttree.proofs.Fitness.{high_node, low_no_node, in_numbers, from_numbers}
+use Rattle.ttree.proofs.Swapped.{fit-swapped}
 
 -- a T-tree of the same shape, after n items went that way
 record IsSlid {I : Type 0} (least most n : ℕ) (side : Side) (way : Way) (t u : Tree (Label I)) : Type 0 where
@@ -59,21 +60,9 @@ module _ {I : Type 0} (least most : ℕ) where
 
   left_refilled : (xs ys : List I) (x : Label I) (a : Tree (Label I)) (y : Label I) (b : Tree (Label I)) → IsTTree least most (node (node a y b) x empty) → 0 < length xs → length xs ≤ most → 0 < length ys → length ys ≤ most
       → length xs + length ys ≡ length x.items + length y.items → IsTTree least most (node (node a (record { items = ys; height = y.height }) b) (record { items = xs; height = x.height }) empty)
-  left_refilled xs ys x a y b (cf, f, ef) some_x room_x some_y room_y sum =
-      let g = in_numbers least most (node a y b) x empty f in (
-        leaf_refilled ys a y b cf g.left_near some_y room_y,
-        from_numbers least most (node a (record { items = ys; height = y.height }) b) (record { items = xs; height = x.height }) empty (record {
-          left_near = g.left_near;
-          right_near = g.right_near;
-          true_height = g.true_height;
-          some = some_x;
-          room = room_x;
-          internal = λ h k. absurd (omega (arith, k));
-          left_half = λ h k. omega (arith, g.left_half h k, sum);
-          right_half = λ h k. absurd (omega (arith, k));
-        }),
-        tt,
-      )
+  left_refilled xs ys x a y b f some_x room_x some_y room_y sum =
+      fit-swapped least most empty (record { items = xs; height = x.height }) (node a (record { items = ys; height = y.height }) b)
+      (right_refilled xs ys x a y b (fit-swapped least most (node a y b) x empty f) some_x room_x some_y room_y sum)
 
   slid-is : (side : Side) (way : Way) (n : ℕ) (t : Tree (Label I)) → IsTTree least most t → is_node (child side t) ≡ true → is_node (child (opposite side) t) ≡ false
       → n < length (items_of (giver way side t)) → length (items_of (taker way side t)) + n ≤ most → IsSlid least most n side way t (slid side way n t)
@@ -165,12 +154,8 @@ module _ {I : Type 0} (least most : ℕ) where
         leaf_filled = λ leaf less more. omega (arith, s.taken, h.4, more);
       }
 
-  -- the child is no leaf, and was filled from its own child
-  pub inner-filled_below : (side : Side) (t u : Tree (Label I)) → IsTTree least most t → 1 < height (child side t) → height (child (opposite side) t) < height (child side t)
-      → IsFilled least most (child side t) u → IsInnerFilled side least most t (with_child side u t)
-  inner-filled_below Root t u f high low k = absurd (omega (arith, high))
-  inner-filled_below Left empty u f high low k = absurd (omega (arith, high))
-  inner-filled_below Left (node l x r) u f high low k =
+  left_filled_below : (l : Tree (Label I)) (x : Label I) (r u : Tree (Label I)) → IsTTree least most (node l x r) → 1 < height l → height r < height l → IsFilled least most l u → IsInnerFilled Left least most (node l x r) (node u x r)
+  left_filled_below l x r u f high low k =
       let g = in_numbers least most l x r f.1 in
       record {
         fit = (
@@ -195,29 +180,23 @@ module _ {I : Type 0} (least most : ℕ) where
         kept = λ many. ap (λ w. node w x r) (k.kept many);
         leaf_filled = λ leaf less more. absurd (omega (arith, high, leaf));
       }
+
+  -- the child is no leaf, and was filled from its own child
+  pub inner-filled_below : (side : Side) (t u : Tree (Label I)) → IsTTree least most t → 1 < height (child side t) → height (child (opposite side) t) < height (child side t)
+      → IsFilled least most (child side t) u → IsInnerFilled side least most t (with_child side u t)
+  inner-filled_below Root t u f high low k = absurd (omega (arith, high))
+  inner-filled_below Left empty u f high low k = absurd (omega (arith, high))
+  inner-filled_below Left (node l x r) u f high low k = left_filled_below l x r u f high low k
   inner-filled_below Right empty u f high low k = absurd (omega (arith, high))
   inner-filled_below Right (node l x r) u f high low k =
-      let g = in_numbers least most l x r f.1 in
+      let i = left_filled_below r x l u (fit-swapped least most l x r f) high low k in
       record {
-        fit = (
-          f.0,
-          from_numbers least most l x u (record {
-            left_near = omega (arith, g, k.same);
-            right_near = omega (arith, g, k.same);
-            true_height = omega (arith, g, k.same);
-            some = g.some;
-            room = g.room;
-            internal = λ a b. g.internal a (omega (arith, k.same, b));
-            left_half = λ a b. absurd (omega (arith, k.same, high, b));
-            right_half = λ a b. absurd (omega (arith, g, high, a));
-          }),
-          k.fit,
-        );
+        fit = fit-swapped least most u x l i.fit;
         left = refl;
         right = k.same;
         same = omega (arith, k.same);
-        enough = k.enough high;
+        enough = i.enough;
         nodes = omega (arith, k.nodes);
         kept = λ many. ap (λ w. node l x w) (k.kept many);
-        leaf_filled = λ leaf less more. absurd (omega (arith, high, leaf));
+        leaf_filled = i.leaf_filled;
       }

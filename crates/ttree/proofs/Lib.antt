@@ -8,6 +8,7 @@ pub mod EachNode
 pub mod Ends
 pub mod Filling
 pub mod Fitness
+pub mod Swapped
 pub mod FullTurns
 pub mod Fullness
 pub mod HeightBound

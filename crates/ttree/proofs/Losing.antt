@@ -9,6 +9,7 @@ use Rattle.ttree.proofs.EachNode.{each_here}
 use Rattle.ttree.proofs.Refits.{items_at, height-new_items}
 use Rattle.ttree.proofs.Places.{size-plug_one}
 use Rattle.ttree.proofs.Replacing.{fit-new_items, kept-internal, size_merged}
+use Rattle.ttree.proofs.Swapped.{fit-swapped, mends-swapped}
 use Rattle.ttree_node.specs.Laws.{list-plug}
 use Rattle.ttree_node.specs.Seen.{child, merged}
 use Rattle.ttree_node.specs.declared.node.Side.{Side}
@@ -165,29 +166,7 @@ module _ {I : Type 0} (least most : ℕ) where
       )
 
   dropped_right : (was : Tree (Label I)) (x : Label I) (l : Tree (Label I)) → 1 ≤ least → IsTTree least most (node l x was) → height was ≡ 1 → IsMendableTree least most (node l x was) (node l x empty)
-  dropped_right was x l some (lf, f, _) leaf =
-      let g = in_numbers least most l x was f in (
-        record {
-          left_fit = lf;
-          right_fit = tt;
-          left_high = omega (arith, g, leaf);
-          right_high = omega arith;
-          items = f.items;
-          internal = λ a b. cc;
-          left_half = λ a b. omega (arith, g.internal (omega (arith, a)) (omega (arith, leaf)), some_items least most l lf (omega (arith, a)));
-          right_half = λ a b. absurd (omega (arith, b));
-          left_only = λ a (i, j). f.occupied.internal (internal_node l i) (high_node was (omega (arith, leaf)));
-          right_only = λ a (i, j). cc;
-        },
-        record {
-          some = omega arith;
-          not_higher = omega (arith, leaf);
-          not_lower = omega (arith, leaf);
-          turned = elim (low_or_high l) [ inl e ↦ inl (omega (arith, e), omega arith) | inr e ↦ inr (omega (arith, leaf, e)) ];
-          leaf = λ a b. absurd (omega (arith, a, leaf));
-          one_child = λ a. inr refl;
-        },
-      )
+  dropped_right was x l some f leaf = mends-swapped least most was x l empty x l (dropped_left was x l some (fit-swapped least most l x was f) leaf)
 
   leaf_one : (t : Tree (Label I)) → is_leaf t → height t ≡ 1
   leaf_one empty (h, _, _) = cc

@@ -11,6 +11,7 @@ use Rattle.ttree.specs.Rising.{IsNearTree}
 use Rattle.ttree.proofs.Refits.{height-new_items}
 use Rattle.ttree.proofs.Fitness.{low_no_node, no_node_low, in_numbers, from_numbers}
 use Rattle.ttree.proofs.EachNode.{each_here}
+use Rattle.ttree.proofs.Swapped.{fit-swapped}
 
 module _ {I : Type 0} (least most : ℕ) where
   in_left : (t u : Tree (Label I)) (x : Label I) (r : Tree (Label I)) → IsTTree least most (node t x r) → IsTTree least most u → height u ≡ height t → (height t ≡ 1 → length (items_of t) ≤ length (items_of u)) → IsTTree least most (node u x r)
@@ -31,21 +32,7 @@ module _ {I : Type 0} (least most : ℕ) where
       )
 
   in_right : (t u : Tree (Label I)) (x : Label I) (l : Tree (Label I)) → IsTTree least most (node l x t) → IsTTree least most u → height u ≡ height t → (height t ≡ 1 → length (items_of t) ≤ length (items_of u)) → IsTTree least most (node l x u)
-  in_right t u x l (lf, f, _) uf e more =
-      let g = in_numbers least most l x t f in (
-        lf,
-        from_numbers least most l x u (record {
-          left_near = omega (arith, g, e);
-          right_near = omega (arith, g, e);
-          true_height = omega (arith, g, e);
-          some = g.some;
-          room = g.room;
-          internal = λ a b. g.internal a (omega (arith, b, e));
-          left_half = λ a b. g.left_half a (omega (arith, b, e));
-          right_half = λ a b. omega (arith, g.right_half a (omega (arith, b, e)), more (omega (arith, g, a, b, e)));
-        }),
-        uf,
-      )
+  in_right t u x l f uf e more = fit-swapped least most u x l (in_left t u x l (fit-swapped least most l x t f) uf e more)
 
   -- a T-tree as high may stand there, and where it is a leaf it holds no less
   pub fit-replaced : (c : List (Frame (Label I))) (t u : Tree (Label I)) → IsTTree least most (plug c t) → IsTTree least most u → height u ≡ height t → (height t ≡ 1 → length (items_of t) ≤ length (items_of u)) → IsTTree least most (plug c u)
