@@ -6,9 +6,9 @@ use Rattle.mm_index.specs.Bag.{with_hash}
 use Rattle.part_raw.specs.declared.tuple_ref.TupleRef.{TupleRef}
 use Rattle.lin_hash.specs.declared.node.NodeLink.{NodeLink}
 use Rattle.lin_hash.specs.declared.node.Node.{Node}
-use Rattle.lin_hash.specs.Nodes.{leads_to, node_at, next_at, entry_of, list_at, entries_from}
+use Rattle.lin_hash.specs.Nodes.{leads_to, node_at, next_at, entry_of, list_at, walk_from, entries_from}
 use Rattle.lin_hash.specs.Chains.{Placed, place_of, entry_in, IsChain}
-use Rattle.lin_hash.specs.Walks.{EndsWithin}
+use Rattle.lin_hash.specs.Walks.{EndsIn, EndsWithin}
 
 -- where there are no more nodes on a chain than that
 pub EndsWithin-from_chain : (n : ℕ) (nodes : List Node) (l : NodeLink) (es : List Placed) → IsChain nodes l es → length es ≤ n → EndsWithin n nodes l
@@ -47,54 +47,56 @@ module _ (n : ℕ) (nodes : List Node) where
         IsChain-front (next_at nodes (place_of e)) es (subst (λ (m : Node). IsChain (take n nodes) m.next es) same h.2),
       )
 
--- a step more changes nothing
-pub EndsWithin-more : (n : ℕ) (nodes : List Node) (l : NodeLink) → EndsWithin n nodes l → EndsWithin (suc n) nodes l
-EndsWithin-more zero nodes l h =
-    elim (leads_to l) as (λ o. MatchOption o (Unit {0}) (λ _. ⊥) → MatchOption o (Unit {0}) (λ p. (p < length nodes) × EndsWithin zero nodes (next_at nodes p))) [ None ↦ λ k. tt | Some p ↦ λ k. absurd k ] h
-EndsWithin-more (suc n) nodes l h =
-    elim (leads_to l) as (λ o. MatchOption o (Unit {0}) (λ p. (p < length nodes) × EndsWithin n nodes (next_at nodes p)) → MatchOption o (Unit {0}) (λ p. (p < length nodes) × EndsWithin (suc n) nodes (next_at nodes p))) [
-      | None ↦ λ k. tt
-      | Some p ↦ λ k. (k.0, EndsWithin-more n nodes (next_at nodes p) k.1)
-    ] h
+-- nodes of either kind, by their links and entries
+module _ (size : ℕ) (next : ℕ → NodeLink) where
+  -- a step more changes nothing
+  ends-more : (n : ℕ) (l : NodeLink) → EndsIn size next n l → EndsIn size next (suc n) l
+  ends-more zero l h =
+      elim (leads_to l) as (λ o. MatchOption o (Unit {0}) (λ _. ⊥) → MatchOption o (Unit {0}) (λ p. (p < size) × EndsIn size next zero (next p))) [ None ↦ λ k. tt | Some p ↦ λ k. absurd k ] h
+  ends-more (suc n) l h =
+      elim (leads_to l) as (λ o. MatchOption o (Unit {0}) (λ p. (p < size) × EndsIn size next n (next p)) → MatchOption o (Unit {0}) (λ p. (p < size) × EndsIn size next (suc n) (next p))) [
+        | None ↦ λ k. tt
+        | Some p ↦ λ k. (k.0, ends-more n (next p) k.1)
+      ] h
 
-pub entries_from-more : (n : ℕ) (nodes : List Node) (l : NodeLink) → EndsWithin n nodes l → entries_from (suc n) nodes l ≡ entries_from n nodes l
-entries_from-more zero nodes l h =
-    elim (leads_to l) as (λ o. MatchOption o (Unit {0}) (λ _. ⊥) → list_at (λ p. entry_of (node_at nodes p) ∷ []) o ≡ []) [ None ↦ λ k. refl | Some p ↦ λ k. absurd k ] h
-entries_from-more (suc n) nodes l h =
-    elim (leads_to l) as (λ o. MatchOption o (Unit {0}) (λ p. (p < length nodes) × EndsWithin n nodes (next_at nodes p)) → list_at (λ p. entry_of (node_at nodes p) ∷ entries_from (suc n) nodes (next_at nodes p)) o ≡ list_at (λ p. entry_of (node_at nodes p) ∷ entries_from n nodes (next_at nodes p)) o) [
-      | None ↦ λ k. refl
-      | Some p ↦ λ k. ap (λ r. entry_of (node_at nodes p) ∷ r) (entries_from-more n nodes (next_at nodes p) k.1)
-    ] h
+  -- one step along a chain that ends within as many nodes
+  pub ends-step : (n : ℕ) (l : NodeLink) (p : ℕ) → leads_to l ≡ Some p → EndsIn size next n l → (p < size) × EndsIn size next n (next p)
+  ends-step zero l p is h = absurd (rw is at h)
+  ends-step (suc n) l p is h =
+      let k : (p < size) × EndsIn size next n (next p) = rw is at h in
+      (k.0, ends-more n (next p) k.1)
 
--- one step along a chain that ends within as many nodes
-pub EndsWithin-step : (n : ℕ) (nodes : List Node) (l : NodeLink) (p : ℕ) → leads_to l ≡ Some p → EndsWithin n nodes l → (p < length nodes) × EndsWithin n nodes (next_at nodes p)
-EndsWithin-step zero nodes l p is h = absurd (rw is at h)
-EndsWithin-step (suc n) nodes l p is h =
-    let k : (p < length nodes) × EndsWithin n nodes (next_at nodes p) = rw is at h in
-    (k.0, EndsWithin-more n nodes (next_at nodes p) k.1)
+  module _ (entry : ℕ → ℕ × TupleRef) where
+    walk-more : (n : ℕ) (l : NodeLink) → EndsIn size next n l → walk_from next entry (suc n) l ≡ walk_from next entry n l
+    walk-more zero l h =
+        elim (leads_to l) as (λ o. MatchOption o (Unit {0}) (λ _. ⊥) → list_at (λ p. entry p ∷ []) o ≡ []) [ None ↦ λ k. refl | Some p ↦ λ k. absurd k ] h
+    walk-more (suc n) l h =
+        elim (leads_to l) as (λ o. MatchOption o (Unit {0}) (λ p. (p < size) × EndsIn size next n (next p)) → list_at (λ p. entry p ∷ walk_from next entry (suc n) (next p)) o ≡ list_at (λ p. entry p ∷ walk_from next entry n (next p)) o) [
+          | None ↦ λ k. refl
+          | Some p ↦ λ k. ap (λ r. entry p ∷ r) (walk-more n (next p) k.1)
+        ] h
 
-pub entries_from-step : (n : ℕ) (nodes : List Node) (l : NodeLink) (p : ℕ) → leads_to l ≡ Some p → EndsWithin n nodes l → entries_from n nodes l ≡ entry_of (node_at nodes p) ∷ entries_from n nodes (next_at nodes p)
-entries_from-step zero nodes l p is h = absurd (rw is at h)
-entries_from-step (suc n) nodes l p is h =
-    let k : (p < length nodes) × EndsWithin n nodes (next_at nodes p) = rw is at h in
-    ap (list_at (λ q. entry_of (node_at nodes q) ∷ entries_from n nodes (next_at nodes q))) is
-    ∙ ap (λ r. entry_of (node_at nodes p) ∷ r) (sym (entries_from-more n nodes (next_at nodes p) k.1))
+    pub walk-step : (n : ℕ) (l : NodeLink) (p : ℕ) → leads_to l ≡ Some p → EndsIn size next n l → walk_from next entry n l ≡ entry p ∷ walk_from next entry n (next p)
+    walk-step zero l p is h = absurd (rw is at h)
+    walk-step (suc n) l p is h =
+        let k : (p < size) × EndsIn size next n (next p) = rw is at h in
+        ap (list_at (λ q. entry q ∷ walk_from next entry n (next q))) is ∙ ap (λ r. entry p ∷ r) (sym (walk-more n (next p) k.1))
 
-pub entries_from-smaller : (n : ℕ) (nodes : List Node) (l : NodeLink) (p : ℕ) → leads_to l ≡ Some p → EndsWithin n nodes l → length (entries_from n nodes (next_at nodes p)) < length (entries_from n nodes l)
-entries_from-smaller n nodes l p is h = let e = ap length (entries_from-step n nodes l p is h) in omega (arith, e)
+    pub walk-smaller : (n : ℕ) (l : NodeLink) (p : ℕ) → leads_to l ≡ Some p → EndsIn size next n l → length (walk_from next entry n (next p)) < length (walk_from next entry n l)
+    walk-smaller n l p is h = let e = ap length (walk-step n l p is h) in omega (arith, e)
 
 -- no more nodes than it may
-pub entries_from-short : (n : ℕ) (nodes : List Node) (l : NodeLink) → length (entries_from n nodes l) ≤ n
-entries_from-short zero nodes l = omega arith
-entries_from-short (suc n) nodes l =
-    elim (leads_to l) as (λ o. length (list_at (λ p. entry_of (node_at nodes p) ∷ entries_from n nodes (next_at nodes p)) o) ≤ suc n) [
+pub walk-short : (next : ℕ → NodeLink) (entry : ℕ → ℕ × TupleRef) (n : ℕ) (l : NodeLink) → length (walk_from next entry n l) ≤ n
+walk-short next entry zero l = omega arith
+walk-short next entry (suc n) l =
+    elim (leads_to l) as (λ o. length (list_at (λ p. entry p ∷ walk_from next entry n (next p)) o) ≤ suc n) [
       | None ↦ omega arith
-      | Some p ↦ let rest = entries_from-short n nodes (next_at nodes p) in omega (arith, rest)
+      | Some p ↦ let rest = walk-short next entry n (next p) in omega (arith, rest)
     ]
 
 -- an entry of the hash, and one of another
-pub with_hash-hit : (hash : ℕ) (n : Node) (es : List (ℕ × TupleRef)) → n.hash ≡ hash → with_hash hash (entry_of n ∷ es) ≡ n.reference ∷ with_hash hash es
-with_hash-hit hash n es e = rw (eq-eqb n.hash hash e) refl
+pub with_hash-hit : (hash own : ℕ) (r : TupleRef) (es : List (ℕ × TupleRef)) → own ≡ hash → with_hash hash ((own, r) ∷ es) ≡ r ∷ with_hash hash es
+with_hash-hit hash own r es e = rw (eq-eqb own hash e) refl
 
-pub with_hash-miss : (hash : ℕ) (n : Node) (es : List (ℕ × TupleRef)) → n.hash ≢ hash → with_hash hash (entry_of n ∷ es) ≡ with_hash hash es
-with_hash-miss hash n es ne = rw (ne_eqb n.hash hash ne) refl
+pub with_hash-miss : (hash own : ℕ) (r : TupleRef) (es : List (ℕ × TupleRef)) → own ≢ hash → with_hash hash ((own, r) ∷ es) ≡ with_hash hash es
+with_hash-miss hash own r es ne = rw (ne_eqb own hash ne) refl

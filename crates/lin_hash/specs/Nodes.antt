@@ -55,6 +55,12 @@ list_at f None = []
 list_at f (Some place) = f place
 
 -- the entries of so many nodes at most, from a link on
+abbrev pub walk_from : (ℕ → NodeLink) → (ℕ → ℕ × TupleRef) → ℕ → NodeLink → List (ℕ × TupleRef)
+walk_from next entry zero l = []
+walk_from next entry (suc n) l = list_at (λ place. entry place ∷ walk_from next entry n (next place)) (leads_to l)
+
+abbrev pub entry_at : List Node → ℕ → ℕ × TupleRef
+entry_at nodes place = entry_of (node_at nodes place)
+
 abbrev pub entries_from : ℕ → List Node → NodeLink → List (ℕ × TupleRef)
-entries_from zero nodes l = []
-entries_from (suc n) nodes l = list_at (λ place. entry_of (node_at nodes place) ∷ entries_from n nodes (next_at nodes place)) (leads_to l)
+entries_from n nodes l = walk_from (next_at nodes) (entry_at nodes) n l

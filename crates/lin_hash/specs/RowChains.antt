@@ -1,12 +1,11 @@
 -- Chains of the nodes of rows, linked both ways, and which rows hang on them.
-use Rattle.std.specs.Prelude.{◌≡◌, ◌≢◌, ◌<◌, ℕ, zero, suc, [], ◌∷◌, List, Some, None, length, MatchOption}
-use Rattle.std.specs.Option.{MatchOption-prop}
-use Rattle.std.specs.Coded.{×_prop, Unit-prop, le_prop}
+use Rattle.std.specs.Prelude.{◌≡◌, ◌≢◌, ◌<◌, ℕ, [], ◌∷◌, List, Some, None, length}
 use Rattle.part_raw.specs.declared.tuple_ref.TupleRef.{TupleRef}
 use Rattle.lin_hash.specs.declared.node.NodeLink.{NodeLink}
 use Rattle.lin_hash.specs.declared.row_node.RowNode.{RowNode}
 use Rattle.lin_hash.specs.Chains.{AreHungBy}
-use Rattle.lin_hash.specs.Nodes.{leads_to, no_link, unused_link, list_at}
+use Rattle.lin_hash.specs.Nodes.{leads_to, no_link, unused_link, walk_from}
+use Rattle.lin_hash.specs.Walks.{EndsIn, EndsIn-prop}
 use Rattle.lin_hash.specs.RowNodes.{row_at, row_node_at, rows_of}
 
 abbrev pub row_next_at : List RowNode → ℕ → NodeLink
@@ -39,14 +38,10 @@ AreLoose level mark nodes heads first =
 
 -- from the link on there are at most so many nodes
 abbrev pub RowsEndWithin : ℕ → List RowNode → NodeLink → Type 0
-RowsEndWithin zero nodes l = MatchOption (leads_to l) (Unit {0}) (λ _. ⊥)
-RowsEndWithin (suc n) nodes l = MatchOption (leads_to l) (Unit {0}) (λ place. (place < length nodes) × RowsEndWithin n nodes (row_next_at nodes place))
+RowsEndWithin n nodes l = EndsIn (length nodes) (row_next_at nodes) n l
 
 pub RowsEndWithin-prop : (n : ℕ) (nodes : List RowNode) (l : NodeLink) → IsProp (RowsEndWithin n nodes l)
-RowsEndWithin-prop zero nodes l = MatchOption-prop (leads_to l) (Unit {0}) (λ _. ⊥) Unit-prop (λ _ h. absurd h)
-RowsEndWithin-prop (suc n) nodes l =
-    MatchOption-prop (leads_to l) (Unit {0}) (λ place. (place < length nodes) × RowsEndWithin n nodes (row_next_at nodes place)) Unit-prop
-    (λ place. ×_prop le_prop (RowsEndWithin-prop n nodes (row_next_at nodes place)))
+RowsEndWithin-prop n nodes l = EndsIn-prop (length nodes) (row_next_at nodes) n l
 
 -- the entry of a node at a place
 abbrev pub row_entry_at : List RowNode → ℕ → ℕ × TupleRef
@@ -54,8 +49,7 @@ row_entry_at nodes place = ((row_node_at nodes place).hash, row_at place)
 
 -- the entries of so many nodes at most, from a link on
 abbrev pub row_entries_from : ℕ → List RowNode → NodeLink → List (ℕ × TupleRef)
-row_entries_from zero nodes l = []
-row_entries_from (suc n) nodes l = list_at (λ place. row_entry_at nodes place ∷ row_entries_from n nodes (row_next_at nodes place)) (leads_to l)
+row_entries_from n nodes l = walk_from (row_next_at nodes) (row_entry_at nodes) n l
 
 -- how many nodes there are from the link on, of all
 abbrev pub rows_walked_from : List RowNode → NodeLink → ℕ

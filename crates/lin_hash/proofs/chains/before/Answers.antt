@@ -1,12 +1,12 @@
 use Rattle.std.proofs.Common.{◌≡◌, ◌≢◌, ◌<◌, [], ◌∷◌, ◌++◌, List, length, None, Some, sym, subst, ap, ◌∙◌, refl, arith}
 use Rattle.std.specs.List.{Contains}
 use Rattle.std.proofs.lemmas.List.{append_assoc}
-use Rattle.lin_hash.specs.Nodes.{leads_to}
+use Rattle.lin_hash.specs.Nodes.{leads_to, next_at, entry_at}
 use Rattle.lin_hash.specs.Chains.{Placed, place_of, placed_at, IsChain, Visits}
 use Rattle.lin_hash.proofs.ChainLemmas.{IsChain-unique}
 use Rattle.lin_hash.proofs.Hung.{IsChain-first}
 use Rattle.lin_hash.proofs.Linking.{last_place-push, Contains-behind}
-use Rattle.lin_hash.proofs.Walks.{EndsWithin-from_chain, entries_from-smaller}
+use Rattle.lin_hash.proofs.Walks.{EndsWithin-from_chain, walk-smaller}
 use Rattle.lin_hash.proofs.chains.before.Goals as goal
 
 pub loop-place-init : goal.loop-place-init
@@ -35,7 +35,7 @@ loop-place-smaller c =
     let nodes = c.args.nodes.now.items in
     let i = c.loop-place.invariant in
     let is : leads_to c.loop-place.at ≡ Some c.in-Some.place = sym c.place.ensures ∙ c.in-Some.is in
-    rw c.get.ensures (entries_from-smaller (length nodes) nodes c.loop-place.at c.in-Some.place is (EndsWithin-from_chain (length nodes) nodes c.loop-place.at i.1 i.3 i.4))
+    rw c.get.ensures (walk-smaller (length nodes) (next_at nodes) (entry_at nodes) (length nodes) c.loop-place.at c.in-Some.place is (EndsWithin-from_chain (length nodes) nodes c.loop-place.at i.1 i.3 i.4))
 
 pub loop-place-preserved : goal.loop-place-preserved
 loop-place-preserved c =

@@ -1,12 +1,12 @@
 use Rattle.std.proofs.Common.{◌≡◌, ◌≢◌, ◌<◌, [], ◌∷◌, ◌++◌, List, length, map, None, Some, sym, subst, ap, ◌∙◌, refl, arith, rules}
 use Rattle.std.specs.List.{Contains}
 use Rattle.std.proofs.lemmas.List.{append_assoc}
-use Rattle.lin_hash.specs.Nodes.{leads_to, node_at}
+use Rattle.lin_hash.specs.Nodes.{leads_to, node_at, next_at, entry_at}
 use Rattle.lin_hash.specs.Chains.{Placed, entry_in, placed_at, IsChain, HoldsEntry}
 use Rattle.lin_hash.proofs.ChainLemmas.{IsChain-unique}
 use Rattle.lin_hash.proofs.Hung.{IsChain-first}
 use Rattle.lin_hash.proofs.Linking.{last_place-push, Contains-behind}
-use Rattle.lin_hash.proofs.Walks.{EndsWithin-from_chain, entries_from-smaller}
+use Rattle.lin_hash.proofs.Walks.{EndsWithin-from_chain, walk-smaller}
 use Rattle.lin_hash.proofs.chains.find.Goals as goal
 use Rattle.lin_hash.proofs.chains.find.Goals.{else-node-hash-via-then-node-hash+else-eq, else-node-hash-via-else-node-hash}
 
@@ -39,7 +39,7 @@ loop-place-smaller c =
     let nodes = c.args.nodes.now.items in
     let i = c.loop-place.invariant in
     let is : leads_to c.loop-place.at ≡ Some c.in-Some.place = sym c.place.ensures ∙ c.in-Some.is in
-    rw c.get-node.ensures (entries_from-smaller (length nodes) nodes c.loop-place.at c.in-Some.place is (EndsWithin-from_chain (length nodes) nodes c.loop-place.at i.1 i.3 i.4))
+    rw c.get-node.ensures (walk-smaller (length nodes) (next_at nodes) (entry_at nodes) (length nodes) c.loop-place.at c.in-Some.place is (EndsWithin-from_chain (length nodes) nodes c.loop-place.at i.1 i.3 i.4))
 
 pub loop-place-preserved : goal.loop-place-preserved
 loop-place-preserved c =
