@@ -1,11 +1,14 @@
 -- All buckets joined: what one bucket that changes does to the bag of all entries.
-use Rattle.std.proofs.Common.{◌≡◌, ℕ, ◌+◌, ◌<◌, Bool, List, [], ◌∷◌, ◌++◌, length, get_or, refl, sym, ap, ◌∙◌, arith, set, suc, zero, ◌≢◌, false}
+use Rattle.std.proofs.Common.{◌≡◌, ℕ, ◌+◌, ◌<◌, ◌≤◌, Bool, true, List, [], ◌∷◌, ◌++◌, length, get_or, refl, sym, ap, ◌∙◌, arith, set, suc, zero, ◌≢◌, false}
 use Rattle.std.specs.List.{count_by, sum_by, flat_map, filter, All}
 use Rattle.std.proofs.lemmas.List.Elements.{filter-append}
 use Rattle.std.proofs.lemmas.List.{append-nil}
 use Rattle.common_lemmas.proofs.Filters.{filter_none}
-use Rattle.std.proofs.lemmas.List.Sums.{sum_by-cons, sum_by-append, sum_by-set}
+use Rattle.std.proofs.lemmas.List.Sums.{sum_by-cons, sum_by-append, sum_by-set, get_or-le-sum_by}
+use Rattle.common_lemmas.proofs.Counts.{count_by-true}
 use Rattle.mm_index.specs.Bag.{IsSameBag}
+use Rattle.lin_hash.specs.declared.node.NodeLink.{NodeLink}
+use Rattle.lin_hash.specs.Chains.{AreHungBy}
 use Rattle.lin_hash.proofs.Moves.{count_by-append, count_by-cons}
 
 abbrev pub joined : {A : Type 0} → List (List A) → List A
@@ -61,3 +64,11 @@ filter-joined test (b ∷ bs) (suc i) inside h =
     let front = filter_none test b (h 0 (omega arith) (λ e. cc)) in
     let rest = filter-joined test bs i (omega arith) (λ k l ne. h (suc k) (omega arith) (λ e. ne (omega arith))) in
     filter-append test b (joined bs) ∙ rw front rest
+
+-- no chain has more entries than hang on all
+pub chain_length-all : {A : Type 0} (is_chain : NodeLink → List (ℕ × A) → Type 0) (level mark : ℕ) (heads : List NodeLink) (loose all : List (ℕ × A)) (h : AreHungBy is_chain level mark heads loose all)
+    → (b : ℕ) → b < length h.chains → length (get_or h.chains b []) ≤ length all
+chain_length-all is_chain level mark heads loose all h b inside =
+    let one = get_or-le-sum_by (count_by (λ e. true)) h.chains b [] inside in
+    let parts = count_by-append (λ e. true) loose (joined h.chains) in
+    omega (arith, one, count_by-joined (λ e. true) h.chains, h.held.count (λ e. true), parts, count_by-true all, count_by-true (get_or h.chains b []))

@@ -3,8 +3,8 @@ use Rattle.std.proofs.Common.{◌≡◌, ◌≢◌, ℕ, zero, suc, ◌<◌, ◌
 use Rattle.std.specs.List.{count_by, sum_by, filter, Contains}
 use Rattle.std.proofs.lemmas.Bool.{eq-eqb, eqb-true}
 use Rattle.std.proofs.lemmas.List.{length-set, get_or-set_other}
-use Rattle.std.proofs.lemmas.List.Sums.{get_or-le-sum_by, count_by-le-length}
-use Rattle.common_lemmas.proofs.Counts.{count_by-true, count_by-member, member-from_count_by}
+use Rattle.std.proofs.lemmas.List.Sums.{get_or-le-sum_by}
+use Rattle.common_lemmas.proofs.Counts.{count_by-member, member-from_count_by}
 use Rattle.part_raw.specs.declared.tuple_ref.TupleRef.{TupleRef}
 use Rattle.mm_index.specs.Bag.{IsSameBag, with_hash}
 use Rattle.mm_index.proofs.Bags.{IsSameBag-map, IsSameBag-trans, IsSameBag-sym, IsSameBag-from_same, IsSameBag-with_hash, Contains-with_hash, Contains-from_with_hash}
@@ -14,7 +14,7 @@ use Rattle.lin_hash.specs.declared.node.NodeLink.{NodeLink}
 use Rattle.lin_hash.specs.declared.node.Node.{Node}
 use Rattle.lin_hash.specs.Nodes.{head_at, node_at, next_at, entries_of}
 use Rattle.lin_hash.specs.Chains.{Placed, place_of, placed_at, entry_in, all_placed, Stands, IsChain, AreHung, HoldsEntry, Visits}
-use Rattle.lin_hash.proofs.Joined.{joined, count_by-joined, count_by-set}
+use Rattle.lin_hash.proofs.Joined.{joined, count_by-joined, count_by-set, chain_length-all}
 use Rattle.lin_hash.proofs.Placed.{times_at, times_at-once, entries-placed, length-placed, placed-there}
 use Rattle.lin_hash.proofs.Levels.{bucket_of-inside, with_hash-bucket}
 
@@ -51,15 +51,7 @@ module _ (level mark : ℕ) (nodes : List Node) (heads : List NodeLink) (h : Are
 
   -- no chain is longer than there are nodes
   pub hung-short : (b : ℕ) → b < length h.chains → length (get_or h.chains b []) ≤ length nodes
-  hung-short b inside =
-      let one : count_by (λ e. true) (get_or h.chains b []) ≤ sum_by (count_by (λ e. true)) h.chains =
-      get_or-le-sum_by (count_by (λ e. true)) h.chains b [] inside in
-      let all = count_by-joined (λ e. true) h.chains in
-      let held = h.held.count (λ e. true) in
-      let most = count_by-le-length (λ e. true) (all_placed nodes) in
-      let some = length-placed 0 nodes in
-      let each = count_by-true (get_or h.chains b []) in
-      omega (arith, one, all, held, most, some, each)
+  hung-short b inside = let some = length-placed 0 nodes in let most = chain_length-all (IsChain nodes) level mark heads [] (all_placed nodes) h b inside in omega (arith, most, some)
 
   -- the bucket of a hash
   module _ (hash b : ℕ) (at : b ≡ bucket_of level mark hash) where

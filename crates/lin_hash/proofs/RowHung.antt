@@ -1,12 +1,11 @@
 -- Rows that hang on the chains of their buckets, and those that are loose.
 use Rattle.std.proofs.Common.{◌≡◌, ◌≢◌, ℕ, suc, zero, ◌+◌, ◌-◌, ◌^◌, ◌<◌, ◌≤◌, ◌==◌, true, false, Option, List, [], ◌∷◌, ◌++◌, length, get_or, set, take, drop, None, Some, IfSome, refl, sym, ap, ◌∙◌, arith, inl, inr, subst}
-use Rattle.std.specs.List.{count_by, sum_by, Contains}
+use Rattle.std.specs.List.{sum_by, Contains}
 use Rattle.std.proofs.lemmas.List.{length-set, get_or-set_same, get_or-set_other, set-get_or, take-append-drop}
 use Rattle.std.proofs.lemmas.List.Sums.{get_or-le-sum_by}
 use Rattle.std.proofs.Math.Seq.{drop-cons}
 use Rattle.std.proofs.lemmas.Bool.{ne_eqb}
 use Rattle.std.proofs.lemmas.Bool.Decides.{eqb_tells}
-use Rattle.common_lemmas.proofs.Counts.{count_by-true}
 use Rattle.part_raw.specs.declared.tuple_ref.TupleRef.{TupleRef}
 use Rattle.mm_index.specs.Bag.{IsSameBag, with_hash}
 use Rattle.mm_index.proofs.Bags.{IsSameBag-from_same, IsSameBag-middle, IsSameBag-sym, IsSameBag-with_hash, Contains-with_hash, Contains-from_with_hash}
@@ -21,7 +20,7 @@ use Rattle.lin_hash.specs.RowNodes.{front_node, headed_at, is_used, leading_at, 
 use Rattle.lin_hash.specs.RowChains.{AreLoose, AreRowsHung, row_entry_at, IsLinked, IsRowChain, row_next_at}
 use Rattle.lin_hash.proofs.Hanging.{AreHungBy-link, AreHungBy-without}
 use Rattle.lin_hash.proofs.InRowBlocks.{used-inside}
-use Rattle.lin_hash.proofs.Joined.{joined, count_by-joined, count_by-set}
+use Rattle.lin_hash.proofs.Joined.{joined, count_by-joined, count_by-set, chain_length-all}
 use Rattle.lin_hash.proofs.Levels.{bucket_of-inside, with_hash-bucket}
 use Rattle.lin_hash.proofs.Moves.{count_by-append, count_by-cons}
 use Rattle.lin_hash.proofs.RowLinks.{AreOnce, after-chain, IsLinked-kept, IsLinked-set, IsLinked-trailed_other, IsLinked-unheaded, IsLinked-unlinked, IsOfChain, IsOfChain-leads, IsRowChain-front, StandsBehind-used, last_number, last_number-some, prev-last, stands-behind, times_at-first, times_at-last, times_at-less}
@@ -64,15 +63,7 @@ module _ (level mark : ℕ) (nodes : List RowNode) (heads : List NodeLink) (loos
 
   -- no chain is longer than there are nodes
   pub hung-short : (b : ℕ) → b < length h.chains → length (get_or h.chains b []) ≤ length nodes
-  hung-short b inside =
-      let one : count_by (λ e. true) (get_or h.chains b []) ≤ sum_by (count_by (λ e. true)) h.chains = get_or-le-sum_by (count_by (λ e. true)) h.chains b [] inside in
-      let all = count_by-joined (λ e. true) h.chains in
-      let held = h.held.count (λ e. true) in
-      let parts = count_by-append (λ e. true) loose (joined h.chains) in
-      let rows = count_by-true (rows_of nodes) in
-      let most = length-rows 0 nodes in
-      let each = count_by-true (get_or h.chains b []) in
-      omega (arith, one, all, held, parts, rows, most, each)
+  hung-short b inside = let some = length-rows 0 nodes in let most = chain_length-all (IsRowChain nodes) level mark heads loose (rows_of nodes) h b inside in omega (arith, most, some)
 
   -- the bucket of a hash is there
   pub hung-inside : (hash b : ℕ) → b ≡ bucket_of level mark hash → b < length heads

@@ -1,12 +1,9 @@
 pub mod Asked
 pub mod Bags
 pub mod Distinct
-pub mod Filtered
 pub mod Halving
 pub mod Listed
 pub mod Listings
-pub mod Members
-pub mod Pairs
 pub mod Placed
 pub mod Ranged
 pub mod Refs
