@@ -13,3 +13,9 @@ abbrev pub child_link : Side → HeadFields → Option NodePlace
 child_link Root h = None
 child_link Left h = h.left
 child_link Right h = h.right
+
+-- another link to the child on that side
+abbrev pub relinked : Side → Option NodePlace → HeadFields → HeadFields
+relinked Root q h = h
+relinked Left q h = record h { left = q }
+relinked Right q h = record h { right = q }

@@ -3,6 +3,7 @@ use Rattle.std.specs.Prelude.{◌≡◌, ℕ, zero, suc, ◌+◌, ◌<◌, ◌�
 use denote.RawPtr.{Ptr}
 use Rattle.part_raw.specs.declared.tuple_ref.TupleRef.{TupleRef}
 use Rattle.ttree_node.specs.Held.{same_place, node_at, update}
+use Rattle.ttree_node.specs.Link.{relinked}
 use Rattle.ttree_node.specs.Tree.{Tree, empty, node, Frame, went_left, went_right, Zipper, Label, at, size, is_node}
 use Rattle.ttree_node.specs.declared.nodes.NodePlace.{NodePlace}
 use Rattle.ttree_node.specs.declared.node.Node.{Node}
@@ -76,9 +77,7 @@ module _ {MAX : ℕ} where
 
   -- the node with another child on that side
   abbrev pub with_link : Side → Option NodePlace → Node MAX → Node MAX
-  with_link Root q n = n
-  with_link Left q n = record n { head = record n.head { left = q } }
-  with_link Right q n = record n { head = record n.head { right = q } }
+  with_link s q n = record n { head = relinked s q n.head }
 
   -- the set where the node at the place, if there is one, has another child on that side
   abbrev pub linked_down : Option NodePlace → Side → Option NodePlace → List (Ptr × Node MAX) → List (Ptr × Node MAX)

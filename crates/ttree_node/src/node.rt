@@ -1,6 +1,6 @@
 //! One node: what it holds, and what it links.
 ghost use Rattle.std.specs.Prelude.{◌≡◌, IfSome};
-ghost use Rattle.ttree_node.specs.Link.{link as link_so, child_link};
+ghost use Rattle.ttree_node.specs.Link.{link as link_so, child_link, relinked};
 
 use crate::nodes::NodePlace;
 use arrayvec::ArrayVec;
@@ -110,6 +110,19 @@ fn place_of(link: Option<NodePlace>) -> NodePlace
 }
 
 impl Head {
+    // The head of a spare node, which links the next one.
+    pub(crate) fn spare(next: Option<NodePlace>) -> Head
+        ensures { result ≡ record { height = 0; side = Side.Root; left = next; right = None; parent = None } }
+    {
+        Head::of(HeadFields {
+            height: 0,
+            side: Side::Root,
+            left: next,
+            right: None,
+            parent: None,
+        })
+    }
+
     // The head with these fields.
     pub(crate) fn of(head: HeadFields) -> Head
         ensures { result ≡ head }
@@ -188,7 +201,7 @@ impl Head {
     }
 
     // Hangs a tree on the left, or none.
-    pub(crate) fn set_left(&mut self, child: Option<NodePlace>)
+    fn set_left(&mut self, child: Option<NodePlace>)
         ensures { self.new ≡ record self.old { left = child } }
     {
         self.has_left = child.is_some();
@@ -196,11 +209,22 @@ impl Head {
     }
 
     // Hangs a tree on the right, or none.
-    pub(crate) fn set_right(&mut self, child: Option<NodePlace>)
+    fn set_right(&mut self, child: Option<NodePlace>)
         ensures { self.new ≡ record self.old { right = child } }
     {
         self.has_right = child.is_some();
         self.right = place_of(child);
+    }
+
+    // Hangs a tree on that side, or none.
+    pub(crate) fn set_child(&mut self, side: Side, child: Option<NodePlace>)
+        ensures { self.new ≡ relinked side child self.old }
+    {
+        match side {
+            Side::Root => {}
+            Side::Left => self.set_left(child),
+            Side::Right => self.set_right(child),
+        }
     }
 
     // Hangs the node on that side of a node above, or makes it a root.

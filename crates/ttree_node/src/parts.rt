@@ -60,9 +60,13 @@ impl<const MAX: usize> Parts<MAX> {
         let place = self.free.unwrap();
         let node = self.nodes.get_mut(place);
         let next = node.head.left();
-        node.head.set_height(1);
-        node.head.set_left(None);
-        node.head.set_parent(parent, side);
+        node.head = Head::of(HeadFields {
+            height: 1,
+            side,
+            left: None,
+            right: None,
+            parent,
+        });
         node.items.push(item);
         self.free = next;
         self.spares -= 1;
@@ -79,12 +83,9 @@ impl<const MAX: usize> Parts<MAX> {
         ensures free { self.new.free ≡ Some place }
         ensures spares { self.new.spares ≡ self.old.spares + 1 }
     {
-        let next = self.free;
+        let head = Head::spare(self.free);
         let node = self.nodes.get_mut(place);
-        node.head.set_height(0);
-        node.head.set_left(next);
-        node.head.set_right(None);
-        node.head.set_parent(None, Side::Root);
+        node.head = head;
         node.items.clear();
         self.free = Some(place);
         self.spares += 1;
@@ -106,11 +107,7 @@ impl<const MAX: usize> Parts<MAX> {
             None => self.root = child,
             Some(above) => {
                 let node = self.nodes.get_mut(above);
-                match side {
-                    Side::Left => node.head.set_left(child),
-                    Side::Right => node.head.set_right(child),
-                    Side::Root => {}
-                }
+                node.head.set_child(side, child);
             }
         }
     }
@@ -155,15 +152,8 @@ impl<const MAX: usize> Parts<MAX> {
     {
         // A node takes 4 bytes for each item, and less than as many more.
         check_size::<u64>(MAX)?;
-        let head = Head::of(HeadFields {
-            height: 0,
-            side: Side::Root,
-            left: self.free,
-            right: None,
-            parent: None,
-        });
         let node = Node {
-            head,
+            head: Head::spare(self.free),
             items: ArrayVec::new(),
         };
         let block = RawBox::new(self.alloc, node)?;

@@ -20,7 +20,7 @@ linked g c =
     let more : length p.nodes.held + 1 < node_limit = omega (arith, c.requires.room, ap size (located_is p s.0 s.1 s.2), s.2.spares, s.2.total) in
     added p _ s.0 s.1 c.take_in-place.result.at s.2 c.take_in-place.ensures.fresh more (narrow g.row.MAX c.in_ok-check_size.ensures)
     (c.take_in-place.ensures.held ∙ (λ i. (c.take_in-place.result.at, c.in_ok-block.ensures i) ∷ p.nodes.held)
-    ∙ (λ i. (c.take_in-place.result.at, record { head = c.of-head.ensures i; items = c.new.result }) ∷ p.nodes.held)
+    ∙ (λ i. (c.take_in-place.result.at, record { head = c.spare.ensures i; items = c.new.result }) ∷ p.nodes.held)
     ∙ (λ i. (c.take_in-place.result.at, record (blank p.free) { items = record { items = c.new.ensures i } }) ∷ p.nodes.held)) refl refl refl
 
 pub returns-clause-sound : goal.returns-clause-sound
