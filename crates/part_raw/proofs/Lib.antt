@@ -8,14 +8,12 @@ pub mod SlotSteps
 pub mod RunSteps
 pub mod Lookup
 pub mod Rows
-pub mod WithCounts
-pub mod Shelves
-pub mod Beside
+pub mod Numbers
+pub mod RowSteps
 pub mod OwnCounts
 pub mod Stocked
 pub mod Filled
 pub mod Dropped
-pub mod Uncounted
 pub mod Slots
 pub mod Bitmaps
 pub mod Sound

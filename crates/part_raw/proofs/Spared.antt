@@ -1,79 +1,85 @@
 -- The memory of the partitions that hold no tuple is given back.
 use Rattle.std.proofs.Common.{◌≡◌, ◌≢◌, ℕ, suc, ◌+◌, ◌-◌, ◌*◌, ◌<◌, ◌≤◌, Bool, true, false, List, [], ◌∷◌, ◌++◌, map, length, get_or, set, Option, None, is_some, IsSome, refl, sym, ap, ◌∙◌, inl, inr, arith, subst, sum_by}
 use Rattle.std.proofs.lemmas.Bool.{cases_eq, true≢false, lt-ltb, ltb-true}
-use Rattle.std.proofs.lemmas.List.{length-map, length_push, map-append, map-set, get_or_past}
+use Rattle.std.proofs.lemmas.List.{length-map, length_push, map-append, map-set, get_or-set_same, get_or_past}
 use Rattle.std.proofs.lemmas.List.Sums.{sum_by-cons, sum_by-append, sum_by-set}
 use Rattle.std.proofs.Math.ListN.{replicate}
 use Rattle.std.specs.FinMap.{get, len}
 use Rattle.part_raw.specs.declared.store.Occupancy.{Occupancy}
-use Rattle.part_raw.specs.Rows.{rows_of}
-use Rattle.part_raw.specs.Counted.{Shelf, shelf, counted, tuples_in}
-use Rattle.part_raw.specs.TupleRefs.{ref_to, slot_of}
+use Rattle.part_raw.specs.declared.tuple_ref.TupleRef.{TupleRef}
+use Rattle.part_raw.specs.Rows.{rows_in, rows_of}
+use Rattle.part_raw.specs.Store.{Tuples}
+use Rattle.part_raw.specs.TupleRefs.{ref_to, part_of, slot_of}
 use Rattle.part_raw.specs.Layout.{is_set, tuples_of, vacancies, IsVacant, IsPlace}
 use Rattle.part_raw.specs.Open.{words_at, has_block_at, slots_at, next_at, open_at, tables, below, IsOpenList, HaveBitmaps, AreKept, IsTable, HoldsWhereBlock}
 use Rattle.part_raw.proofs.Bitmaps.{mapped-read, mapped-push_same, mapped-push_other, mapped-set_same, mapped-set_other, bits_at, told_at, HaveBitmaps-set}
+use Rattle.part_raw.proofs.Dropped.{last_none, front_laid, front_mapped}
 use Rattle.part_raw.proofs.Lookup.{held_in, get-tuples_of}
 use Rattle.part_raw.proofs.Parts.{Blocks, tuples-push, tuples-vacant}
 use Rattle.part_raw.proofs.Refs.{part_of-to, slot_of-to}
 use Rattle.part_raw.proofs.Relinked.{below-all}
-use Rattle.part_raw.proofs.Shelves.{shown-some, empty-shown, no_places}
+use Rattle.part_raw.proofs.Rows.{rows_in-some, empty-laid}
 use Rattle.part_raw.proofs.Slots.{all_vacant, vacant_of_bits, partition_of, no_vacancy_of_none, vacancies_fewer}
-use Rattle.part_raw.proofs.Tables.{small_tables, length-tables, rows_read, laid-set, last_told, front_laid, front_mapped}
+use Rattle.part_raw.proofs.Tables.{small_tables, length-tables, rows_read, laid-set, bare_holds_none}
 
 -- ---- a partition with no places
 
 -- it has no slots
-no_slots_of : {T : Type 0} (width : ℕ) (its : List ℕ) → tuples_in {T = T} width (shelf [] its) ≡ []
-unfolding rows_of counted
-no_slots_of width its = refl
+no_slots_of : {T : Type 0} (width : ℕ) → rows_in {T = T} width [] ≡ []
+unfolding rows_of
+no_slots_of width = refl
 
 -- a partition that holds no tuple gives its block back
-module _ {T : Type 0} (width : ℕ) (wide : 0 < width) (shelves : List (Shelf T)) (occupancies : List Occupancy) (kept : AreKept width shelves occupancies) (part : ℕ) (within : part < length shelves) (o o' : Occupancy)
-    (read : o ≡ get_or occupancies part o) (there : o.has_block ≡ true) (clear : (slot : ℕ) → slot < 256 → is_set o.held.words slot ≡ false) (its : Shelf T) (its_read : its ≡ get_or shelves part its) (left : List ℕ) where
-  abbrev bare : Shelf T
-  bare = shelf [] left
+module _ {T : Type 0} (width : ℕ) (wide : 0 < width) (blocks : List (List (Option T))) (occupancies : List Occupancy) (kept : AreKept width blocks occupancies) (part : ℕ) (within : part < length blocks) (o o' : Occupancy)
+    (read : o ≡ get_or occupancies part o) (there : o.has_block ≡ true) (clear : (slot : ℕ) → slot < 256 → is_set o.held.words slot ≡ false) (its : List (Option T)) (its_read : its ≡ get_or blocks part its) where
+  among : part < length (tables width blocks)
+  among = omega (arith, within, length-tables width blocks)
 
-  among : part < length (tables width shelves)
-  among = omega (arith, within, length-tables width shelves)
+  shown_read : rows_in width its ≡ get_or (tables width blocks) part (rows_in width its)
+  shown_read = rows_read width blocks part its within its_read
 
-  shown_read : tuples_in width its ≡ get_or (tables width shelves) part (tuples_in width its)
-  shown_read = rows_read width shelves part its within its_read
+  some_slots : 0 < length (rows_in width its)
+  some_slots = ltb-true 0 (length (rows_in width its)) (sym (told_at (tables width blocks) occupancies (rows_in width its) o part kept.mapped among shown_read read) ∙ there)
 
-  some_slots : 0 < length (tuples_in width its)
-  some_slots = ltb-true 0 (length (tuples_in width its)) (sym (told_at (tables width shelves) occupancies (tuples_in width its) o part kept.mapped among shown_read read) ∙ there)
+  spare-vacant : IsVacant (rows_in width its)
+  spare-vacant = vacant_of_bits _ _ (partition_of _ _ (bits_at (tables width blocks) occupancies (rows_in width its) o part kept.mapped among shown_read read) some_slots) clear
 
-  spare-vacant : IsVacant (tuples_in width its)
-  spare-vacant = vacant_of_bits _ _ (partition_of _ _ (bits_at (tables width shelves) occupancies (tuples_in width its) o part kept.mapped among shown_read read) some_slots) clear
+  pub spare-empty : its ≡ replicate (256 * width) None
+  spare-empty = empty-laid width its wide (kept.laid part its within its_read (rows_in-some width its some_slots)) spare-vacant
 
-  pub spare-empty : its.block ≡ replicate (256 * width) None
-  spare-empty = empty-shown width its.block its.counts wide (kept.laid part its within its_read (shown-some width its.block its.counts some_slots)) spare-vacant
+  as_set : tables width (set blocks part []) ≡ set (tables width blocks) part []
+  as_set = map-set (rows_in width) blocks part [] ∙ ap (set (tables width blocks) part) (no_slots_of width)
 
-  as_set : tables width (set shelves part bare) ≡ set (tables width shelves) part []
-  as_set = map-set (tuples_in width) shelves part bare ∙ ap (set (tables width shelves) part) (no_slots_of width left)
+  was_here : get_or (tables width blocks) part [] ≡ rows_in width its
+  was_here = mapped-read (rows_in width) blocks part its [] within its_read
 
-  was_here : get_or (tables width shelves) part [] ≡ tuples_in width its
-  was_here = mapped-read (tuples_in width) shelves part its [] within its_read
-
-  pub released_kept : o'.held.words ≡ o.held.words → o'.has_block ≡ false → AreKept width (set shelves part bare) (set occupancies part o')
+  pub released_kept : o'.held.words ≡ o.held.words → o'.has_block ≡ false → AreKept width (set blocks part []) (set occupancies part o')
   released_kept words gone = record {
-    laid = laid-set width shelves bare part within (λ some. absurd (omega (arith, some))) kept.laid;
+    laid = laid-set width blocks [] part within (λ some. absurd (omega (arith, some))) kept.laid;
     mapped = subst (λ (t : Blocks _). HaveBitmaps t (set occupancies part o')) (sym as_set)
-        (HaveBitmaps-set (tables width shelves) occupancies [] o' part kept.mapped among
+        (HaveBitmaps-set (tables width blocks) occupancies [] o' part kept.mapped among
         (record { count = λ some. absurd (omega (arith, some)); bits = λ slot in_range. ap (λ w. is_set w slot) words ∙ clear slot in_range }) gone);
   }
 
-  pub released_tuples : tuples_of (tables width (set shelves part bare)) ≡ tuples_of (tables width shelves)
+  pub released_tuples : tuples_of (tables width (set blocks part [])) ≡ tuples_of (tables width blocks)
   released_tuples =
-      ap tuples_of as_set ∙ tuples-vacant (tables width shelves) part [] among (small_tables width shelves) (omega arith) (λ slot. refl)
+      ap tuples_of as_set ∙ tuples-vacant (tables width blocks) part [] among (small_tables width blocks) (omega arith) (λ slot. refl)
       (λ slot. ap (λ l. get_or l slot None) was_here ∙ spare-vacant.empty slot)
 
-  pub released_free : sum_by vacancies (tables width (set shelves part bare)) + 256 ≡ sum_by vacancies (tables width shelves)
-  released_free =
-      let free : vacancies (tuples_in width its) ≡ 256 = all_vacant (tuples_in width its) spare-vacant.empty ∙ spare-vacant.count in
-      omega (arith, ap (sum_by vacancies) as_set, sum_by-set vacancies (tables width shelves) part [] [] among, ap vacancies was_here, free)
+  -- what is held now was held, and elsewhere
+  pub released_held : (r : TupleRef) → IsSome (get (tuples_of (tables width (set blocks part []))) r) → IsSome (get (tuples_of (tables width blocks)) r) × (part_of r ≢ part)
+  released_held r held = (
+    subst (λ (tuples : Tuples (List T)). IsSome (get tuples r)) released_tuples held,
+    bare_holds_none width (set blocks part []) part (get_or-set_same blocks part [] [] within) r held,
+  )
 
-  pub released_slots : sum_by length (tables width (set shelves part bare)) + 256 ≡ sum_by length (tables width shelves)
-  released_slots = omega (arith, ap (sum_by length) as_set, sum_by-set length (tables width shelves) part [] [] among, ap length was_here, spare-vacant.count)
+  pub released_free : sum_by vacancies (tables width (set blocks part [])) + 256 ≡ sum_by vacancies (tables width blocks)
+  released_free =
+      let free : vacancies (rows_in width its) ≡ 256 = all_vacant (rows_in width its) spare-vacant.empty ∙ spare-vacant.count in
+      omega (arith, ap (sum_by vacancies) as_set, sum_by-set vacancies (tables width blocks) part [] [] among, ap vacancies was_here, free)
+
+  pub released_slots : sum_by length (tables width (set blocks part [])) + 256 ≡ sum_by length (tables width blocks)
+  released_slots = omega (arith, ap (sum_by length) as_set, sum_by-set length (tables width blocks) part [] [] among, ap length was_here, spare-vacant.count)
 
 -- ---- which partitions hold a tuple
 
@@ -103,48 +109,44 @@ holds_front occupancies o part within held there =
 
 -- ---- the last partition has no block
 
-module _ {T : Type 0} (width : ℕ) (shelves : List (Shelf T)) (its : Shelf T) (occupancies : List Occupancy) (o : Occupancy)
-    (kept : AreKept width (shelves ++ its ∷ []) (occupancies ++ o ∷ []))
+module _ {T : Type 0} (width : ℕ) (blocks : List (List (Option T))) (its : List (Option T)) (occupancies : List Occupancy) (o : Occupancy)
+    (kept : AreKept width (blocks ++ its ∷ []) (occupancies ++ o ∷ []))
     (bare : has_block_at (occupancies ++ o ∷ []) (length (occupancies ++ o ∷ []) - 1) ≡ false) where
   no_block : o.has_block ≡ false
   no_block =
       let at : length (occupancies ++ o ∷ []) - 1 ≡ length occupancies = omega (arith, length_push occupancies o) in
       sym (ap (has_block_at (occupancies ++ o ∷ [])) at ∙ mapped-push_same (λ (x : Occupancy). x.has_block) occupancies (length occupancies) o false refl) ∙ bare
 
-  none_there : length (tuples_in width its) ≡ 0
-  none_there = elim (cases_eq (length (tuples_in width its)) 0) [
-    | inl none ↦ none
-    | inr some ↦
-        absurd (true≢false (sym (lt-ltb 0 (length (tuples_in width its)) (omega (arith, some))) ∙ sym (last_told width shelves its occupancies o kept.laid kept.mapped) ∙ no_block))
-  ]
+  pub last-bare : its ≡ []
+  last-bare = last_none width blocks its occupancies o kept.laid kept.mapped no_block
 
-  pub last-bare : its.block ≡ []
-  last-bare = no_places width its.block its.counts none_there
+  none_there : length (rows_in width its) ≡ 0
+  none_there = ap length (ap (rows_in width) last-bare ∙ no_slots_of width)
 
-  pub front_kept : AreKept width shelves occupancies
+  pub front_kept : AreKept width blocks occupancies
   front_kept = record {
-    laid = front_laid width shelves its occupancies o kept.laid kept.mapped;
-    mapped = front_mapped width shelves its occupancies o kept.laid kept.mapped;
+    laid = front_laid width blocks its occupancies o kept.laid kept.mapped;
+    mapped = front_mapped width blocks its occupancies o kept.laid kept.mapped;
   }
 
-  as_tables : tables width (shelves ++ its ∷ []) ≡ tables width shelves ++ tuples_in width its ∷ []
-  as_tables = map-append (tuples_in width) shelves (its ∷ [])
+  as_tables : tables width (blocks ++ its ∷ []) ≡ tables width blocks ++ rows_in width its ∷ []
+  as_tables = map-append (rows_in width) blocks (its ∷ [])
 
-  pub front_tuples : tuples_of (tables width shelves) ≡ tuples_of (tables width (shelves ++ its ∷ []))
+  pub front_tuples : tuples_of (tables width blocks) ≡ tuples_of (tables width (blocks ++ its ∷ []))
   front_tuples =
-      sym (ap tuples_of as_tables ∙ tuples-push (tables width shelves) (tuples_in width its) (small_tables width shelves) (omega (arith, none_there)) (λ slot. get_or_past (tuples_in width its) slot None (omega (arith, none_there))))
+      sym (ap tuples_of as_tables ∙ tuples-push (tables width blocks) (rows_in width its) (small_tables width blocks) (omega (arith, none_there)) (λ slot. get_or_past (rows_in width its) slot None (omega (arith, none_there))))
 
-  pub front_free : sum_by vacancies (tables width shelves) ≡ sum_by vacancies (tables width (shelves ++ its ∷ []))
+  pub front_free : sum_by vacancies (tables width blocks) ≡ sum_by vacancies (tables width (blocks ++ its ∷ []))
   front_free =
-      omega (arith, no_vacancy_of_none (tuples_in width its) none_there, ap (sum_by vacancies) as_tables, sum_by-append vacancies (tables width shelves) (tuples_in width its ∷ []), sum_by-cons vacancies (tuples_in width its) [])
+      omega (arith, no_vacancy_of_none (rows_in width its) none_there, ap (sum_by vacancies) as_tables, sum_by-append vacancies (tables width blocks) (rows_in width its ∷ []), sum_by-cons vacancies (rows_in width its) [])
 
-  pub front_slots : sum_by length (tables width shelves) ≡ sum_by length (tables width (shelves ++ its ∷ []))
-  front_slots = omega (arith, none_there, ap (sum_by length) as_tables, sum_by-append length (tables width shelves) (tuples_in width its ∷ []), sum_by-cons length (tuples_in width its) [])
+  pub front_slots : sum_by length (tables width blocks) ≡ sum_by length (tables width (blocks ++ its ∷ []))
+  front_slots = omega (arith, none_there, ap (sum_by length) as_tables, sum_by-append length (tables width blocks) (rows_in width its ∷ []), sum_by-cons length (rows_in width its) [])
 
 -- ---- a store that gave back what is spare, and whose list was made anew
 
 -- what was left of each partition, before the list was made anew and after
-pub record IsReleased {T : Type 0} (width : ℕ) (blocks blocks' : List (Shelf T)) (occupancies occupancies' popped : List Occupancy) (free : ℕ) (first : Option ℕ) (given : ℕ) : Type 0 where
+pub record IsReleased {T : Type 0} (width : ℕ) (blocks blocks' : List (List (Option T))) (occupancies occupancies' popped : List Occupancy) (free : ℕ) (first : Option ℕ) (given : ℕ) : Type 0 where
   pub is : IsTable width blocks occupancies free first
   pub kept : AreKept width blocks' popped
   pub tuples : tuples_of (tables width blocks') ≡ tuples_of (tables width blocks)
@@ -155,7 +157,7 @@ pub record IsReleased {T : Type 0} (width : ℕ) (blocks blocks' : List (Shelf T
   pub flags : map (λ (o : Occupancy). o.has_block) occupancies' ≡ map (λ (o : Occupancy). o.has_block) popped
   pub held : (part : ℕ) → part < length popped → HoldsWhereBlock popped part
 
-module _ {T : Type 0} {width : ℕ} {blocks blocks' : List (Shelf T)} {occupancies occupancies' popped : List Occupancy} {free : ℕ} {first : Option ℕ} {given : ℕ} (r : IsReleased width blocks blocks' occupancies occupancies' popped free first given) where
+module _ {T : Type 0} {width : ℕ} {blocks blocks' : List (List (Option T))} {occupancies occupancies' popped : List Occupancy} {free : ℕ} {first : Option ℕ} {given : ℕ} (r : IsReleased width blocks blocks' occupancies occupancies' popped free first given) where
   bitmaps_kept : HaveBitmaps (tables width blocks') occupancies'
   bitmaps_kept = record {
     as_many = sym (length-map occupancies' (λ (o : Occupancy). o.held.words)) ∙ ap length r.words ∙ length-map popped (λ (o : Occupancy). o.held.words) ∙ r.kept.mapped.as_many;

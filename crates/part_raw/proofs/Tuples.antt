@@ -85,6 +85,13 @@ module _ {T : Type 0} where
         | false ↦ λ e. get-insert ref_cmp_total (remove tuples r) r tuple q ∙ ap (λ b. cond b (Some tuple) (get (remove tuples r) q)) e ∙ get-remove ref_cmp_total tuples r q ∙ ap (λ b. cond b None (get tuples q)) e
       ] refl
 
+  -- and to take what was put is to undo the put
+  pub remove-insert : (tuples : Tuples T) (r : TupleRef) (tuple : T) → get tuples r ≡ None → remove (insert tuples r tuple) r ≡ tuples
+  remove-insert tuples r tuple fresh = same_tuples _ _ (λ q. elim (same_ref q r) as (λ b. same_ref q r ≡ b → get (remove (insert tuples r tuple) r) q ≡ get tuples q) [
+    | true ↦ λ e. let same = same_ref_true q r e in ap (get (remove (insert tuples r tuple) r)) same ∙ get-remove_same (insert tuples r tuple) r ∙ sym fresh ∙ ap (get tuples) (sym same)
+    | false ↦ λ e. get-remove ref_cmp_total (insert tuples r tuple) r q ∙ ap (λ b. cond b None (get (insert tuples r tuple) q)) e ∙ get-insert ref_cmp_total tuples r tuple q ∙ ap (λ b. cond b (Some tuple) (get tuples q)) e
+  ] refl)
+
   -- what is held under a reference
   pub held_tuple : (tuples : Tuples T) (r : TupleRef) → IsSome (get tuples r) → (tuple : T) × (get tuples r ≡ Some tuple)
   held_tuple tuples r held = is_some-Some (get tuples r) held
@@ -94,3 +101,18 @@ module _ {T : Type 0} where
   len-remove_held tuples r held =
       let found = held_tuple tuples r held in
       sym (len-insert_fresh (remove tuples r) r found.0 (get-remove_same tuples r)) ∙ ap len (insert-remove tuples r found.0 found.1)
+
+  -- what is put in the place of another stays alone
+  pub insert-twice : (tuples : Tuples T) (r : TupleRef) (x y : T) → insert (insert tuples r x) r y ≡ insert tuples r y
+  insert-twice tuples r x y = same_tuples _ _ (λ q. elim (same_ref q r) as (λ b. same_ref q r ≡ b → get (insert (insert tuples r x) r y) q ≡ get (insert tuples r y) q) [
+    | true ↦ λ e. let same = same_ref_true q r e in ap (get (insert (insert tuples r x) r y)) same ∙ get-insert_same (insert tuples r x) r y ∙ sym (get-insert_same tuples r y) ∙ ap (get (insert tuples r y)) (sym same)
+    | false ↦ λ e. get-insert ref_cmp_total (insert tuples r x) r y q ∙ ap (λ b. cond b (Some y) (get (insert tuples r x) q)) e ∙ get-insert ref_cmp_total tuples r x q ∙ ap (λ b. cond b (Some x) (get tuples q)) e
+        ∙ sym (get-insert ref_cmp_total tuples r y q ∙ ap (λ b. cond b (Some y) (get tuples q)) e)
+  ] refl)
+
+  -- to put what is there changes nothing
+  pub insert-itself : (tuples : Tuples T) (r : TupleRef) (x : T) → get tuples r ≡ Some x → insert tuples r x ≡ tuples
+  insert-itself tuples r x found = same_tuples _ _ (λ q. elim (same_ref q r) as (λ b. same_ref q r ≡ b → get (insert tuples r x) q ≡ get tuples q) [
+    | true ↦ λ e. let same = same_ref_true q r e in ap (get (insert tuples r x)) same ∙ get-insert_same tuples r x ∙ sym found ∙ ap (get tuples) (sym same)
+    | false ↦ λ e. get-insert ref_cmp_total tuples r x q ∙ ap (λ b. cond b (Some x) (get tuples q)) e
+  ] refl)

@@ -1,38 +1,24 @@
--- The tuples of a partition: each slot's row with its count.
-use Rattle.std.specs.Prelude.{ℕ, Bool, if◌then◌else◌, List, [], ◌∷◌, replicate, Option, Some, None}
+-- The counts of a store: a number for each slot of each partition, where counts are kept.
+use Rattle.std.specs.Prelude.{ℕ, Bool, if◌then◌else◌, List, [], replicate, slice_index, slice_index_or}
 use Rattle.part_raw.specs.declared.TheConstants.{SLOTS}
-use Rattle.part_raw.specs.Store.{Tuple}
-use Rattle.part_raw.specs.Rows.{rows_in}
+use Rattle.part_raw.specs.declared.tuple_ref.TupleRef.{TupleRef}
+use Rattle.part_raw.specs.TupleRefs.{part_of, slot_of}
+use Rattle.part_raw.specs.Mapped.{mapped}
+use Rattle.part_raw.specs.Store.{Store, Tuples, store}
 
 -- a count of 0 for each slot of a partition, which has slots or none
 abbrev pub zeros : Bool → List ℕ
 zeros has_slots = if has_slots then replicate SLOTS 0 else []
 
--- what a partition has of its tuples: its places, and the counts of its slots, of which none is kept where there are none
-pub record Shelf (T : Type 0) : Type 0 where
-  pub block : List (Option T)
-  pub counts : List ℕ
+-- the number that is kept for the slot of a reference, or 0
+abbrev pub number_of : List (List ℕ) → TupleRef → ℕ
+number_of counts r = slice_index (slice_index_or counts (part_of r) []) (slot_of r)
 
 module _ {T : Type 0} where
-  abbrev pub shelf : List (Option T) → List ℕ → Shelf T
-  shelf block counts = record { block = block; counts = counts }
+  -- each reference to a tuple, with the number of its slot
+  abbrev pub counts_of : List (List ℕ) → Tuples (List T) → Tuples ℕ
+  counts_of counts tuples = mapped (λ r cells. number_of counts r) tuples
 
-  -- the blocks, each with the counts that stand at its place, or with none
-  unfoldable pub shelves_of : List (List (Option T)) → List (List ℕ) → List (Shelf T)
-  shelves_of [] counts = []
-  shelves_of (block ∷ blocks) [] = shelf block [] ∷ shelves_of blocks []
-  shelves_of (block ∷ blocks) (its ∷ counts) = shelf block its ∷ shelves_of blocks counts
-
-  abbrev pub with_count : Option (List T) → ℕ → Option (Tuple T)
-  with_count None n = None
-  with_count (Some cells) n = Some (record { cells = cells; count = n })
-
-  -- each row with the count beside it, or with 0
-  unfoldable pub counted : List (Option (List T)) → List ℕ → List (Option (Tuple T))
-  counted [] counts = []
-  counted (row ∷ rows) [] = with_count row 0 ∷ counted rows []
-  counted (row ∷ rows) (n ∷ counts) = with_count row n ∷ counted rows counts
-
-  -- the tuples of a partition's slots
-  abbrev pub tuples_in : ℕ → Shelf T → List (Option (Tuple T))
-  tuples_in width shelf = counted (rows_in width shelf.block) shelf.counts
+  -- the store of these tuples and numbers
+  abbrev pub seen : ℕ → Tuples (List T) → List (List ℕ) → ℕ → Bool → Store T
+  seen width tuples counts free counted = store width tuples (counts_of counts tuples) free counted

@@ -3,9 +3,7 @@
 use Rattle.std.specs.Prelude.{◌≡◌, ℕ, zero, suc, ◌+◌, ◌^◌, ◌<◌, ◌≤◌, ◌↔◌, Bool, true, false, cond, if◌then◌else◌, List, [], map, length, Option, Some, None, count_by, sum_by, slice_index_or, nat_lt}
 use Rattle.std.specs.FinMap.{len}
 use Rattle.part_raw.specs.declared.TheConstants.{SLOTS, MAX_WIDTH}
-use Rattle.part_raw.specs.Rows.{IsLaid, slots_of}
-use Rattle.part_raw.specs.Store.{Tuple}
-use Rattle.part_raw.specs.Counted.{Shelf, shelves_of, tuples_in}
+use Rattle.part_raw.specs.Rows.{IsLaid, rows_in, slots_of}
 use Rattle.part_raw.specs.Layout.{is_set, IsPlace, vacancies, tuples_of}
 use Rattle.part_raw.specs.declared.store.Occupancy.{Occupancy}
 
@@ -76,32 +74,36 @@ module _ {T : Type 0} where
     pub numbered : length blocks < 2 ^ 24
 
 module _ {T : Type 0} where
-  -- what each slot of each shelf holds
-  abbrev pub tables : ℕ → List (Shelf T) → List (List (Option (Tuple T)))
-  tables width shelves = map (tuples_in width) shelves
+  -- the row that each slot of each block holds
+  abbrev pub tables : ℕ → List (List (Option T)) → List (List (Option (List T)))
+  tables width blocks = map (rows_in width) blocks
 
-  -- each shelf that has places is laid for this width
-  abbrev pub AreLaid : ℕ → List (Shelf T) → Type 0
-  AreLaid width shelves = (part : ℕ) (shelf : Shelf T) → part < length shelves → shelf ≡ slice_index_or shelves part shelf → 0 < length shelf.block → IsLaid width shelf.block
+  -- each block that has places is laid for this width
+  abbrev pub AreLaid : ℕ → List (List (Option T)) → Type 0
+  AreLaid width blocks = (part : ℕ) (block : List (Option T)) → part < length blocks → block ≡ slice_index_or blocks part block → 0 < length block → IsLaid width block
 
-  -- each shelf that has places is laid for this width, and each has its bitmap
-  pub record AreKept (width : ℕ) (shelves : List (Shelf T)) (occupancies : List Occupancy) : Type 0 where
-    pub laid : AreLaid width shelves
-    pub mapped : HaveBitmaps (tables width shelves) occupancies
+  -- each block that has places is laid for this width, and each has its bitmap
+  pub record AreKept (width : ℕ) (blocks : List (List (Option T))) (occupancies : List Occupancy) : Type 0 where
+    pub laid : AreLaid width blocks
+    pub mapped : HaveBitmaps (tables width blocks) occupancies
 
-  -- the shelves' places are the slots of a store whose tuples have this width
-  pub record IsTable (width : ℕ) (shelves : List (Shelf T)) (occupancies : List Occupancy) (free : ℕ) (first_open : Option ℕ) : Type 0 where
+  -- the blocks' places are the slots of a store whose tuples have this width
+  pub record IsTable (width : ℕ) (blocks : List (List (Option T))) (occupancies : List Occupancy) (free : ℕ) (first_open : Option ℕ) : Type 0 where
     pub wide : 0 < width
     pub fits : width ≤ MAX_WIDTH
-    pub laid : AreLaid width shelves
-    pub store : IsStore (tables width shelves) occupancies free first_open
+    pub laid : AreLaid width blocks
+    pub store : IsStore (tables width blocks) occupancies free first_open
 
   -- the counts of a partition are as many as its slots
   abbrev pub HaveCounts : List (List (Option T)) → List (List ℕ) → Type 0
   HaveCounts blocks counts = (part : ℕ) → part < length counts → length (slice_index_or counts part []) ≡ slots_of (slice_index_or blocks part [])
 
-  -- the blocks with the counts beside them: of each where counts are kept, and else of none
+  -- there are as many counts as blocks where counts are kept, and else none
+  abbrev pub AreBeside : Bool → List (List (Option T)) → List (List ℕ) → Type 0
+  AreBeside counted blocks counts = length counts ≡ (if counted then length blocks else 0)
+
+  -- the blocks are a table, and the counts are beside them
   pub record IsStocked (counted : Bool) (width : ℕ) (blocks : List (List (Option T))) (counts : List (List ℕ)) (occupancies : List Occupancy) (free : ℕ) (first_open : Option ℕ) : Type 0 where
-    pub beside : length counts ≡ (if counted then length blocks else 0)
+    pub beside : AreBeside counted blocks counts
     pub own : HaveCounts blocks counts
-    pub table : IsTable width (shelves_of blocks counts) occupancies free first_open
+    pub table : IsTable width blocks occupancies free first_open

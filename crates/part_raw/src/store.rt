@@ -4,8 +4,8 @@ ghost use Rattle.std.specs.Prelude.{◌≡◌, ◌↔◌, ℕ, Bool, ◌+◌, �
 ghost use Rattle.std.specs.Borrow.{sem};
 ghost use Rattle.std.specs.FinMap as finite;
 ghost use Rattle.std.specs.Vec.{vec_len, vec_capacity};
-ghost use Rattle.part_raw.specs.Store.{store, tuple, tuple_at, with_tuple, IsHeld, HasNoCounts, EndsHeld, free_reserved};
-ghost use Rattle.part_raw.specs.Counted.{shelves_of, zeros};
+ghost use Rattle.part_raw.specs.Store.{store, count_of, tuple_at, with_cells, with_count, IsHeld, HasNoCounts, EndsHeld, free_reserved};
+ghost use Rattle.part_raw.specs.Counted.{number_of, zeros};
 ghost use Rattle.part_raw.specs.Layout.{is_set, tuples_of, vacancies};
 ghost use Rattle.part_raw.specs.Open.{AreKept, HaveCounts, HoldsWhereBlock, IsOpenList, Tells, below, has_block_at, next_at, tables};
 
@@ -76,7 +76,7 @@ pub struct Partitions<T> {
 }
 
 impl<T> Model for Partitions<T> {
-    ghost use Rattle.part_raw.specs.Store.{Store, store_code, store};
+    ghost use Rattle.part_raw.specs.Store.{Store, store_code};
 
     ghost Value = { Store T };
 
@@ -84,13 +84,13 @@ impl<T> Model for Partitions<T> {
 
     ghost use Rattle.std.specs.Prelude.{◌≡◌, length, sum_by};
     ghost use Rattle.part_raw.specs.Layout.{tuples_of};
-    ghost use Rattle.part_raw.specs.Counted.{shelves_of};
+    ghost use Rattle.part_raw.specs.Counted.{seen};
     ghost use Rattle.part_raw.specs.Open.{tables, IsStocked};
 
-    ghost view = { λ s. store s.width (tuples_of (tables s.width (shelves_of s.blocks.items s.counts.items))) s.free s.counted };
+    ghost view = { λ s. seen s.width (tuples_of (tables s.width s.blocks.items)) s.counts.items s.free s.counted };
 
     ghost invariant = { λ s. IsStocked s.counted s.width s.blocks.items s.counts.items s.occupancies.items s.free s.first_open
-        × (s.slots ≡ sum_by length (tables s.width (shelves_of s.blocks.items s.counts.items))) };
+        × (s.slots ≡ sum_by length (tables s.width s.blocks.items)) };
 }
 
 /// Each tuple that is held is dropped, and each block is freed.
@@ -126,7 +126,7 @@ impl<T> Partitions<T> {
     /// An empty store of tuples of so many cells, which keeps no counts. It takes no memory.
     pub fn new(alloc: Global, width: usize) -> Partitions<T>
         requires { (0 < width) × (width ≤ MAX_WIDTH) }
-        ensures { result ≡ store width finite.empty 0 false }
+        ensures { result ≡ store width finite.empty finite.empty 0 false }
     {
         Partitions {
             alloc,
@@ -229,8 +229,10 @@ impl<T> Partitions<T> {
         requires room { 0 < self.old.free }
         requires width { length cells.old.items ≡ self.old.width }
         ensures fresh { tuple_at self.old result ≡ None }
+        ensures uncounted { finite.get self.old.counts result ≡ None }
         ensures numbered { result.number < MAX_TUPLES }
-        ensures tuples { self.new.tuples ≡ finite.insert self.old.tuples result (tuple cells.old.items 0) }
+        ensures tuples { self.new.tuples ≡ finite.insert self.old.tuples result cells.old.items }
+        ensures counts { self.new.counts ≡ finite.insert self.old.counts result 0 }
         ensures free { self.new.free + 1 ≡ self.old.free }
         ensures width { self.new.width ≡ self.old.width }
         ensures counted { self.new.counted ≡ self.old.counted }
@@ -265,7 +267,7 @@ impl<T> Partitions<T> {
     /// The cells of the tuple under this reference.
     pub fn get(&self, r: TupleRef) -> &[T]
         requires { IsHeld self.now r }
-        ensures tuple { IfSome (tuple_at self.now r) (λ t. t.cells ≡ result.now) }
+        ensures tuple { tuple_at self.now r ≡ Some result.now }
         ensures width { length result.now ≡ self.now.width }
     {
         let part = r.part();
@@ -277,7 +279,7 @@ impl<T> Partitions<T> {
     pub fn get_mut(&mut self, r: TupleRef) -> &mut [T]
         requires { IsHeld self.old r }
         ensures* writes_back { sem 𝓛 (LendsCells T.row self.entry r result) }
-        ensures tuple { IfSome (tuple_at self.old r) (λ t. t.cells ≡ result.now) }
+        ensures tuple { tuple_at self.old r ≡ Some result.now }
         ensures width { length result.now ≡ self.old.width }
     {
         let part = r.part();
@@ -320,7 +322,7 @@ impl<T> Partitions<T> {
     /// The count of the tuple under this reference. It is read where it is asked for.
     pub fn count(&self, r: TupleRef) -> &u64
         requires { IsHeld self.now r }
-        ensures { IfSome (tuple_at self.now r) (λ t. t.count ≡ result.now) }
+        ensures { result.now ≡ count_of self.now r }
     {
         count_at(&self.counts, r.part(), r.slot())
     }
@@ -329,7 +331,7 @@ impl<T> Partitions<T> {
     pub fn set_count(&mut self, r: TupleRef, n: u64)
         requires held { IsHeld self.old r }
         requires counted { IsTrue self.old.counted }
-        ensures { IfSome (tuple_at self.old r) (λ t. self.new ≡ with_tuple self.old r (tuple t.cells n)) }
+        ensures { self.new ≡ with_count self.old r n }
     {
         set_count_at(&mut self.counts, r.part(), r.slot(), n);
     }
@@ -338,8 +340,8 @@ impl<T> Partitions<T> {
     pub fn replace(&mut self, r: TupleRef, column: usize, value: T) -> T
         requires held { IsHeld self.old r }
         requires column { column < self.old.width }
-        ensures value { IfSome (tuple_at self.old r) (λ t. result ≡ slice_index_or t.cells column result) }
-        ensures tuples { IfSome (tuple_at self.old r) (λ t. self.new ≡ with_tuple self.old r (tuple (slice_set t.cells column value) t.count)) }
+        ensures value { IfSome (tuple_at self.old r) (λ cells. result ≡ slice_index_or cells column result) }
+        ensures tuples { IfSome (tuple_at self.old r) (λ cells. self.new ≡ with_cells self.old r (slice_set cells column value)) }
     {
         let part = r.part();
         let slot = r.slot();
@@ -358,8 +360,10 @@ impl<T> Partitions<T> {
         requires held { IsHeld self.old r }
         requires empty { cells.old.items ≡ [] }
         requires room { self.old.width ≤ vec_capacity cells.old }
-        ensures tuple { tuple_at self.old r ≡ Some (tuple cells.new.items result) }
+        ensures tuple { tuple_at self.old r ≡ Some cells.new.items }
+        ensures count { result ≡ count_of self.old r }
         ensures tuples { self.new.tuples ≡ finite.remove self.old.tuples r }
+        ensures counts { self.new.counts ≡ finite.remove self.old.counts r }
         ensures free { self.new.free ≡ self.old.free + 1 }
         ensures width { self.new.width ≡ self.old.width }
         ensures counted { self.new.counted ≡ self.old.counted }
@@ -387,6 +391,7 @@ impl<T> Partitions<T> {
         T: Drop,
         requires { IsHeld self.old r }
         ensures tuples { self.new.tuples ≡ finite.remove self.old.tuples r }
+        ensures counts { self.new.counts ≡ finite.remove self.old.counts r }
         ensures free { self.new.free ≡ self.old.free + 1 }
         ensures width { self.new.width ≡ self.old.width }
         ensures counted { self.new.counted ≡ self.old.counted }
@@ -409,6 +414,7 @@ impl<T> Partitions<T> {
     /// memory, and looks at each partition's bits.
     pub fn release_spares(&mut self)
         ensures tuples { self.new.tuples ≡ self.old.tuples }
+        ensures counts { self.new.counts ≡ self.old.counts }
         ensures width { self.new.width ≡ self.old.width }
         ensures free { self.new.free ≤ self.old.free }
         ensures counted { self.new.counted ≡ self.old.counted }
@@ -438,6 +444,7 @@ impl<T> Partitions<T> {
     /// quarter as many as there are tuples. It takes no memory, and else looks at no partition.
     pub fn shed_spares(&mut self, few: u64)
         ensures tuples { self.new.tuples ≡ self.old.tuples }
+        ensures counts { self.new.counts ≡ self.old.counts }
         ensures width { self.new.width ≡ self.old.width }
         ensures free { self.new.free ≤ self.old.free }
         ensures counted { self.new.counted ≡ self.old.counted }
@@ -536,14 +543,15 @@ fn release_empty<T>(
 ) -> u64
     requires wide { (0 < width) × (width ≤ MAX_WIDTH) }
     requires few { length blocks.old.items ≤ MAX_PARTITIONS }
-    requires kept { AreKept width (shelves_of blocks.old.items counts.old.items) occupancies.old.items }
-    ensures kept { AreKept width (shelves_of blocks.new.items counts.new.items) occupancies.new.items }
+    requires kept { AreKept width blocks.old.items occupancies.old.items }
+    ensures kept { AreKept width blocks.new.items occupancies.new.items }
     ensures as_many { length blocks.new.items ≡ length blocks.old.items }
     ensures counts { length counts.new.items ≡ length counts.old.items }
     ensures own { HaveCounts blocks.old.items counts.old.items → HaveCounts blocks.new.items counts.new.items }
-    ensures tuples { tuples_of (tables width (shelves_of blocks.new.items counts.new.items)) ≡ tuples_of (tables width (shelves_of blocks.old.items counts.old.items)) }
-    ensures free { sum_by vacancies (tables width (shelves_of blocks.new.items counts.new.items)) + result ≡ sum_by vacancies (tables width (shelves_of blocks.old.items counts.old.items)) }
-    ensures slots { sum_by length (tables width (shelves_of blocks.new.items counts.new.items)) + result ≡ sum_by length (tables width (shelves_of blocks.old.items counts.old.items)) }
+    ensures tuples { tuples_of (tables width blocks.new.items) ≡ tuples_of (tables width blocks.old.items) }
+    ensures numbers { (r : TupleRef) → IsSome (finite.get (tuples_of (tables width blocks.new.items)) r) → number_of counts.new.items r ≡ number_of counts.old.items r }
+    ensures free { sum_by vacancies (tables width blocks.new.items) + result ≡ sum_by vacancies (tables width blocks.old.items) }
+    ensures slots { sum_by length (tables width blocks.new.items) + result ≡ sum_by length (tables width blocks.old.items) }
     ensures held { (part : ℕ) → part < length occupancies.new.items → HoldsWhereBlock occupancies.new.items part }
 {
     let mut given = 0;
@@ -567,14 +575,14 @@ fn pop_bare<T>(
     occupancies: &mut Vec<Occupancy>,
     width: usize,
 )
-    requires kept { AreKept width (shelves_of blocks.old.items counts.old.items) occupancies.old.items }
-    ensures kept { AreKept width (shelves_of blocks.new.items counts.new.items) occupancies.new.items }
-    ensures tuples { tuples_of (tables width (shelves_of blocks.new.items counts.new.items)) ≡ tuples_of (tables width (shelves_of blocks.old.items counts.old.items)) }
+    requires kept { AreKept width blocks.old.items occupancies.old.items }
+    ensures kept { AreKept width blocks.new.items occupancies.new.items }
+    ensures tuples { tuples_of (tables width blocks.new.items) ≡ tuples_of (tables width blocks.old.items) }
     ensures fewer { length blocks.new.items ≤ length blocks.old.items }
     ensures counts { counts.new.items ≡ take (length blocks.new.items) counts.old.items }
     ensures own { HaveCounts blocks.old.items counts.old.items → HaveCounts blocks.new.items counts.new.items }
-    ensures free { sum_by vacancies (tables width (shelves_of blocks.new.items counts.new.items)) ≡ sum_by vacancies (tables width (shelves_of blocks.old.items counts.old.items)) }
-    ensures slots { sum_by length (tables width (shelves_of blocks.new.items counts.new.items)) ≡ sum_by length (tables width (shelves_of blocks.old.items counts.old.items)) }
+    ensures free { sum_by vacancies (tables width blocks.new.items) ≡ sum_by vacancies (tables width blocks.old.items) }
+    ensures slots { sum_by length (tables width blocks.new.items) ≡ sum_by length (tables width blocks.old.items) }
     ensures held { ((part : ℕ) → part < length occupancies.old.items → HoldsWhereBlock occupancies.old.items part) → (part : ℕ) → part < length occupancies.new.items → HoldsWhereBlock occupancies.new.items part }
     ensures last { 0 < length occupancies.new.items → has_block_at occupancies.new.items (length occupancies.new.items - 1) ≡ true }
 {

@@ -1,6 +1,6 @@
 use Rattle.part_raw.proofs.Slots.{IsPartition-set}
 use Rattle.part_raw.proofs.Rows.{slot_within, held_row}
-use Rattle.part_raw.proofs.Shelves.{rows-cleared}
+use Rattle.part_raw.proofs.RowSteps.{rows-cleared}
 use Rattle.part_raw.proofs.partition.empty.Goals as goal
 
 pub drop_row-requires-clause-held : goal.drop_row-requires-clause-held

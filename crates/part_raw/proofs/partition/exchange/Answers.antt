@@ -1,7 +1,7 @@
 use Rattle.std.proofs.Common.{ap, set, Some, ◌+◌, ◌*◌, ◌∙◌}
 use Rattle.common_lemmas.proofs.Options.{is_some-Some}
 use Rattle.part_raw.proofs.Rows.{slot_within, value_at_place}
-use Rattle.part_raw.proofs.Shelves.{rows-exchanged}
+use Rattle.part_raw.proofs.RowSteps.{rows-exchanged}
 use Rattle.part_raw.proofs.partition.exchange.Goals as goal
 
 pub read-old-requires : goal.read-old-requires

@@ -2,7 +2,7 @@ use Rattle.std.proofs.Common.{◌≡◌, length, get_or, None, arith, ap, ◌+�
 use Rattle.part_raw.specs.Rows.{put_run}
 use Rattle.part_raw.proofs.Slots.{no_vacancy_of_bits, free_of_bit, IsPartition-set}
 use Rattle.part_raw.proofs.Rows.{empty_places}
-use Rattle.part_raw.proofs.Shelves.{rows-put}
+use Rattle.part_raw.proofs.RowSteps.{rows-put}
 use Rattle.part_raw.proofs.partition.fill.Goals as goal
 
 pub unreachable-requires : goal.unreachable-requires

@@ -1,7 +1,7 @@
 use Rattle.std.proofs.Common.{◌∙◌}
 use Rattle.part_raw.proofs.Slots.{IsPartition-set}
 use Rattle.part_raw.proofs.Rows.{slot_within, held_row, rows_in-get}
-use Rattle.part_raw.proofs.Shelves.{rows-cleared}
+use Rattle.part_raw.proofs.RowSteps.{rows-cleared}
 use Rattle.part_raw.proofs.partition.vacate.Goals as goal
 
 pub read_row-requires-clause-held : goal.read_row-requires-clause-held

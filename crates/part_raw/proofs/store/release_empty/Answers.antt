@@ -1,10 +1,9 @@
-use Rattle.std.proofs.Common.{◌∙◌, ◌<◌, false, [], ap, length, get_or, set, arith, refl, below_more}
+use Rattle.std.proofs.Common.{◌∙◌, ◌<◌, false, [], ap, length, set, arith, refl, below_more}
 use Rattle.std.proofs.lemmas.List.{length-set, set-get_or}
 use Rattle.part_raw.specs.declared.store.Occupancy.{Occupancy}
-use Rattle.part_raw.specs.Counted.{shelf, shelves_of}
-use Rattle.part_raw.proofs.Beside.{length-shelves_of, shelves_of-get, shelves_of-set_its}
+use Rattle.part_raw.proofs.Numbers.{number-set_other}
 use Rattle.part_raw.proofs.OwnCounts.{own-set}
-use Rattle.part_raw.proofs.Spared.{spare-empty, released_kept, released_tuples, released_free, released_slots, holds_read, holds_bare, holds_other}
+use Rattle.part_raw.proofs.Spared.{spare-empty, released_kept, released_tuples, released_held, released_free, released_slots, holds_read, holds_bare, holds_other}
 use Rattle.part_raw.proofs.Tables.{length-tables}
 use Rattle.part_raw.proofs.store.release_empty.Goals as goal
 
@@ -15,6 +14,7 @@ loop-part-init g c = record {
   counts = refl;
   own = λ own. own;
   tuples = refl;
+  numbers = λ r held. refl;
   free = omega arith;
   slots = omega arith;
   most = omega arith;
@@ -29,43 +29,39 @@ index_mut-occupancy-requires g c =
       c.len-part-end.ensures,
       c.loop-part.invariant.as_many,
       c.loop-part.invariant.kept.mapped.as_many,
-      length-tables c.args.width (shelves_of c.loop-part.blocks.items c.loop-part.counts.items),
-      length-shelves_of c.loop-part.blocks.items c.loop-part.counts.items,
+      length-tables c.args.width c.loop-part.blocks.items,
       c.args.blocks.now.ok,
       c.loop-part.occupancies.ok,
     )
 
 pub release-requires-clause-empty : goal.release-requires-clause-empty
 release-requires-clause-empty g c =
-    let blocks = c.loop-part.blocks.items in let counts = c.loop-part.counts.items in let part = c.loop-part.part in let o = c.index_mut-occupancy.result.now in
-    let its = shelf c.index_mut.result.now (get_or counts part []) in
+    let blocks = c.loop-part.blocks.items in let part = c.loop-part.part in let o = c.index_mut-occupancy.result.now in
+    let its = c.index_mut.result.now in
     let within : part < length blocks = omega (arith, c.loop-part-test.true, c.len-part-end.ensures, c.loop-part.invariant.as_many, c.args.blocks.now.ok) in
-    let among : part < length (shelves_of blocks counts) = omega (arith, within, length-shelves_of blocks counts) in
-    let its_read = shelves_of-get blocks counts part c.index_mut.result.now its within c.index_mut.ensures.value in
     let there = c.is_spare.ensures.block c.if-not-is_spare.false in let clear = c.is_spare.ensures.clear c.if-not-is_spare.false in
-    spare-empty c.args.width c.requires.wide.0 (shelves_of blocks counts) c.loop-part.occupancies.items c.loop-part.invariant.kept part among o o c.index_mut-occupancy.ensures.value there clear its its_read []
+    spare-empty c.args.width c.requires.wide.0 blocks c.loop-part.occupancies.items c.loop-part.invariant.kept part within o o c.index_mut-occupancy.ensures.value there clear its c.index_mut.ensures.value
 
 pub loop-part-preserved : goal.loop-part-preserved
 loop-part-preserved g c =
     let blocks = c.loop-part.blocks.items in let counts = c.loop-part.counts.items in let part = c.loop-part.part in let o = c.index_mut-occupancy.result.now in
-    let its = shelf c.index_mut.result.now (get_or counts part []) in
+    let its = c.index_mut.result.now in
     let within : part < length blocks = omega (arith, c.loop-part-test.true, c.len-part-end.ensures, c.loop-part.invariant.as_many, c.args.blocks.now.ok) in
-    let among : part < length (shelves_of blocks counts) = omega (arith, within, length-shelves_of blocks counts) in
-    let its_read = shelves_of-get blocks counts part c.index_mut.result.now its within c.index_mut.ensures.value in
     let there = c.is_spare.ensures.block c.if-not-is_spare.false in let clear = c.is_spare.ensures.clear c.if-not-is_spare.false in
     let width = c.args.width in let wide = c.requires.wide.0 in let occ = c.loop-part.occupancies.items in let kept = c.loop-part.invariant.kept in let read = c.index_mut-occupancy.ensures.value in
     let o' : Occupancy = record { held = o.held; next_open = o.next_open; has_block = false } in
-    let left = get_or (set counts part []) part [] in
-    let as_set = shelves_of-set_its blocks counts part [] [] in
-    let in_occ : part < length occ = omega (arith, among, kept.mapped.as_many, length-tables width (shelves_of blocks counts)) in
-    rw (c.release.ensures, c.set_counts.ensures, c.none.ensures, as_set) (record {
-      kept = released_kept width wide (shelves_of blocks counts) occ kept part among o o' read there clear its its_read left refl refl;
+    let in_occ : part < length occ = omega (arith, within, kept.mapped.as_many, length-tables width blocks) in
+    rw (c.release.ensures, c.set_counts.ensures, c.none.ensures) (record {
+      kept = released_kept width wide blocks occ kept part within o o' read there clear its c.index_mut.ensures.value refl refl;
       as_many = length-set blocks part [] ∙ c.loop-part.invariant.as_many;
       counts = length-set counts part [] ∙ c.loop-part.invariant.counts;
       own = λ own. own-set blocks counts (c.loop-part.invariant.own own) part [] [] within (λ among. refl);
-      tuples = released_tuples width wide (shelves_of blocks counts) occ kept part among o o' read there clear its its_read left ∙ c.loop-part.invariant.tuples;
-      free = omega (arith, released_free width wide (shelves_of blocks counts) occ kept part among o o' read there clear its its_read left, c.loop-part.invariant.free);
-      slots = omega (arith, released_slots width wide (shelves_of blocks counts) occ kept part among o o' read there clear its its_read left, c.loop-part.invariant.slots);
+      tuples = released_tuples width wide blocks occ kept part within o o' read there clear its c.index_mut.ensures.value ∙ c.loop-part.invariant.tuples;
+      numbers = λ r held.
+          let was = released_held width wide blocks occ kept part within o o' read there clear its c.index_mut.ensures.value r held in
+          number-set_other counts r part [] was.1 ∙ c.loop-part.invariant.numbers r was.0;
+      free = omega (arith, released_free width wide blocks occ kept part within o o' read there clear its c.index_mut.ensures.value, c.loop-part.invariant.free);
+      slots = omega (arith, released_slots width wide blocks occ kept part within o o' read there clear its c.index_mut.ensures.value, c.loop-part.invariant.slots);
       most = omega (arith, c.loop-part.invariant.most);
       held = below_more _ _ (λ k below. holds_other occ part o' in_occ k (omega (arith, below)) (c.loop-part.invariant.held k below)) (holds_bare occ part o' in_occ refl);
     })
@@ -79,8 +75,7 @@ loop-part-preserved-then-not-is_spare g c =
       c.len-part-end.ensures,
       c.loop-part.invariant.as_many,
       c.loop-part.invariant.kept.mapped.as_many,
-      length-tables c.args.width (shelves_of c.loop-part.blocks.items c.loop-part.counts.items),
-      length-shelves_of c.loop-part.blocks.items c.loop-part.counts.items,
+      length-tables c.args.width c.loop-part.blocks.items,
       c.args.blocks.now.ok,
     ) in
     let same = ap (set occ part) read ∙ set-get_or occ part o in
@@ -90,6 +85,7 @@ loop-part-preserved-then-not-is_spare g c =
       counts = c.loop-part.invariant.counts;
       own = c.loop-part.invariant.own;
       tuples = c.loop-part.invariant.tuples;
+      numbers = c.loop-part.invariant.numbers;
       free = c.loop-part.invariant.free;
       slots = c.loop-part.invariant.slots;
       most = omega (arith, c.loop-part.invariant.most);
@@ -105,7 +101,6 @@ returns-clause-held g c = λ part within.
       c.len-part-end.ensures,
       c.loop-part.invariant.as_many,
       c.loop-part.invariant.kept.mapped.as_many,
-      length-tables c.args.width (shelves_of c.loop-part.blocks.items c.loop-part.counts.items),
-      length-shelves_of c.loop-part.blocks.items c.loop-part.counts.items,
+      length-tables c.args.width c.loop-part.blocks.items,
       c.args.blocks.now.ok,
     ))

@@ -1,9 +1,8 @@
-use Rattle.part_raw.proofs.Dropped.{row_bitmaps, last_laid, last_bits, last_none, front_laid, front_mapped}
-use Rattle.part_raw.proofs.Stocked.{laid_here}
+use Rattle.part_raw.proofs.Dropped.{last_laid, last_bits, last_none, front_laid, front_mapped}
 use Rattle.part_raw.proofs.store.Partitions.drop.Goals as goal
 
 pub loop-block-init : goal.loop-block-init
-loop-block-init g c = record { laid = laid_here c.self.invariant.0; mapped = row_bitmaps c.self.invariant.0 }
+loop-block-init g c = record { laid = c.self.invariant.0.table.laid; mapped = c.self.invariant.0.table.store.mapped }
 
 pub discard-requires-clause-laid : goal.discard-requires-clause-laid
 discard-requires-clause-laid g c =

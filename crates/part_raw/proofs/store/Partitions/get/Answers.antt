@@ -1,8 +1,7 @@
-use Rattle.std.proofs.Common.{[], get_or, arith, ap, refl, ◌∙◌}
+use Rattle.std.proofs.Common.{arith, sym, ◌∙◌}
 use Rattle.common_lemmas.proofs.Options.{is_some-Some}
-use Rattle.part_raw.specs.Counted.{with_count}
 use Rattle.part_raw.proofs.Rows.{run_of_row, row_of_run, row_wide}
-use Rattle.part_raw.proofs.Stocked.{part_within, slot_in_range, found_here, row_here, laid_held}
+use Rattle.part_raw.proofs.Stocked.{part_within, slot_in_range, found_here, laid_held}
 use Rattle.part_raw.proofs.store.Partitions.get.Goals as goal
 
 pub index-requires : goal.index-requires
@@ -14,18 +13,17 @@ pub run-requires : goal.run-requires
 run-requires g c =
     let held = rw (← c.self.view_is) at c.requires in
     let t = is_some-Some _ held in
-    run_of_row c.self.inside.width c.slot-slot.result c.index.result.now t.0.cells (laid_held c.self.invariant.0 c.args.r c.part-part.ensures.value c.slot-slot.ensures.value held c.index.ensures)
-    (row_here c.self.invariant.0 c.args.r c.part-part.ensures.value c.slot-slot.ensures.value held c.index.ensures t.0 t.1).0
+    run_of_row c.self.inside.width c.slot-slot.result c.index.result.now t.0 (laid_held c.self.invariant.0 c.args.r c.part-part.ensures.value c.slot-slot.ensures.value held c.index.ensures)
+    (sym (found_here c.self.invariant.0 c.args.r c.part-part.ensures.value c.slot-slot.ensures.value held c.index.ensures) ∙ t.1)
 
 pub returns-clause-tuple : goal.returns-clause-tuple
 returns-clause-tuple g c =
     let held = rw (← c.self.view_is) at c.requires in
     let in_range = slot_in_range c.self.invariant.0 c.args.r c.part-part.ensures.value c.slot-slot.ensures.value held in
     let laid = laid_held c.self.invariant.0 c.args.r c.part-part.ensures.value c.slot-slot.ensures.value held c.index.ensures in
-    let is =
-    found_here c.self.invariant.0 c.args.r c.part-part.ensures.value c.slot-slot.ensures.value held c.index.ensures
-    ∙ ap (λ row. with_count row (get_or (get_or c.self.inside.counts.items c.part-part.result []) c.slot-slot.result 0)) (row_of_run c.self.inside.width c.slot-slot.result c.index.result.now c.run.result.now laid.some in_range c.run.ensures) in
-    rw (← c.self.view_is) (rw is refl)
+    rw (← c.self.view_is)
+    (found_here c.self.invariant.0 c.args.r c.part-part.ensures.value c.slot-slot.ensures.value held c.index.ensures
+    ∙ row_of_run c.self.inside.width c.slot-slot.result c.index.result.now c.run.result.now laid.some in_range c.run.ensures)
 
 pub returns-clause-width : goal.returns-clause-width
 returns-clause-width g c =

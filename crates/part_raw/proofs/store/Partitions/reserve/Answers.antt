@@ -2,7 +2,7 @@ use Rattle.std.proofs.Common.{◌≡◌, ◌+◌, ◌<◌, length, arith, ap, re
 use Rattle.part_raw.specs.Store.{store}
 use Rattle.part_raw.proofs.Parts.{read_block}
 use Rattle.part_raw.proofs.Stocked.{few_here, as_many, room_here}
-use Rattle.part_raw.proofs.Filled.{bare_block, refilled_stocked, refill_tuples, refill_slots, pushed_stocked, pushed_tuples, pushed_slots}
+use Rattle.part_raw.proofs.Filled.{bare_block, refilled_stocked, refill_tuples, refill_counts, refill_slots, pushed_stocked, pushed_tuples, pushed_counts, pushed_slots}
 use Rattle.part_raw.proofs.Sound.{free_reserved_none}
 use Rattle.part_raw.proofs.store.Partitions.reserve.Goals as goal
 
@@ -27,8 +27,9 @@ returns-then-bare-len-clause-ok g c =
     let none : c.self.inside.free ≡ 0 = omega (arith, c.if-self-gt0.false) in
     let free = free_reserved_none c.self.inside.free (omega (arith, none)) in
     let same = pushed_tuples c.self.invariant.0 none _ _ c.in_ok-block.ensures c.in_ok-counts.ensures.made c.in_ok-counts.ensures.zeros in
+    let alike = pushed_counts c.self.invariant.0 none _ _ c.in_ok-block.ensures c.in_ok-counts.ensures.made c.in_ok-counts.ensures.zeros in
     rw (← c.self.view_is, c.push_reserved.ensures.items, c.reserve.ensures.items, c.push_next.ensures, c.in_ok-counts.ensures.items)
-    (λ i. store c.self.inside.width (same i) (free i) c.self.inside.counted)
+    (λ i. store c.self.inside.width (same i) (alike i) (free i) c.self.inside.counted)
 
 pub let_go-requires : goal.let_go-requires
 let_go-requires g c =
@@ -62,5 +63,6 @@ returns-clause-ok g c =
     let within : c.bare_place-bare.result < length c.self.inside.blocks.items = omega (arith, c.if-bare-len.false, c.len.ensures, c.self.inside.blocks.ok) in
     let among : c.bare_place-bare.result < length c.self.inside.occupancies.items = omega (arith, within, as_many c.self.invariant.0) in
     let same = refill_tuples c.self.invariant.0 none c.bare_place-bare.result c.replace.new.dest o within c.index_mut-occupancy.ensures.value (c.bare_place-bare.ensures.bare among) (c.replace.ensures.after ∙ c.in_ok-block-2.ensures) _ c.in_ok-counts-2.ensures in
+    let alike = refill_counts c.self.invariant.0 none c.bare_place-bare.result c.replace.new.dest o within c.index_mut-occupancy.ensures.value (c.bare_place-bare.ensures.bare among) (c.replace.ensures.after ∙ c.in_ok-block-2.ensures) _ c.in_ok-counts-2.ensures in
     let free = free_reserved_none c.self.inside.free (omega (arith, c.if-self-gt0.false)) in
-    rw (← c.self.view_is) (rw c.set_counts.ensures (λ i. store c.self.inside.width (same i) (free i) c.self.inside.counted))
+    rw (← c.self.view_is) (rw c.set_counts.ensures (λ i. store c.self.inside.width (same i) (alike i) (free i) c.self.inside.counted))
