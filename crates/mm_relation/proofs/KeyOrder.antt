@@ -10,7 +10,7 @@ use Rattle.std.proofs.lemmas.List.Elements.{All-contains, Contains-get_or}
 use Rattle.std.specs.FinMap.{get, insert, remove, len}
 use Rattle.part_raw.specs.declared.tuple_ref.TupleRef.{TupleRef}
 use Rattle.part_raw.specs.Store.{Tuples}
-use Rattle.part_raw.proofs.Tuples.{get-insert_same, get-insert_other, get-remove_same, get-remove_other, held-insert, held-remove_other, len-insert_fresh, len-insert_held, len-remove_held, held_tuple, same_tuples}
+use Rattle.part_raw.proofs.Tuples.{get-insert_same, get-insert_other, get-remove_same, get-remove_other, held-insert, held-remove_other, len-insert_fresh, len-insert_held, len-remove_held, held_tuple}
 use Rattle.part_raw.proofs.Lookup.{same_or_other}
 use Rattle.mm_index.specs.Bag.{IsSameBag}
 use Rattle.mm_index.specs.Order.{IsRising, IsStrictOver, insert_by, insert_placed, remove_by}
@@ -192,14 +192,6 @@ from_some (Some a) some h = h
 -- the key of the row that was put is the one that is read
 pub got_key : (rows now : Tuples Row) (r : TupleRef) (t : Row) (key : Value) → now ≡ insert rows r t → key_at now r ≡ Some key → key ≡ t.key
 got_key rows now r t key put found = same_Some key t.key (sym found ∙ ap (λ m. key_at m r) put ∙ ap (option_and_then (λ x. Some x.key)) (get-insert_same rows r t))
-
--- to take out what was put in changes nothing
-pub taken_again : (rows : Tuples Row) (r : TupleRef) (t : Row) → get rows r ≡ None → remove (insert rows r t) r ≡ rows
-taken_again rows r t fresh = same_tuples (remove (insert rows r t) r) rows (λ q.
-    elim (same_or_other q r) [
-      | inl same ↦ ap (get (remove (insert rows r t) r)) same ∙ get-remove_same (insert rows r t) r ∙ sym fresh ∙ sym (ap (get rows) same)
-      | inr other ↦ get-remove_other (insert rows r t) r q other ∙ get-insert_other rows r q t other
-    ])
 
 -- a row that is there with this key
 pub key_found : (rows : Tuples Row) (list : List TupleRef) (r : TupleRef) (t : Row) (keyed : IsKeyed rows list) (fresh : get rows r ≡ None) (o : Option TupleRef) → IsSome o → IfSome o (Contains list) → IfSome o (λ q. place rows list r t keyed fresh q ≡ Equal) → HasKey rows t.key

@@ -11,7 +11,6 @@ pub mod Replacing
 pub mod Each
 pub mod Moving
 pub mod Keeping
-pub mod Referred
 pub mod Dropping
 pub mod Listing
 pub mod Listings

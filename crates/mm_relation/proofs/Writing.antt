@@ -7,12 +7,11 @@ use Rattle.std.proofs.lemmas.List.{length-set, nil_from_length}
 use Rattle.std.proofs.lemmas.Option.{same_Some}
 use Rattle.part_raw.specs.declared.tuple_ref.TupleRef.{TupleRef}
 use Rattle.part_raw.specs.Store.{Tuples}
-use Rattle.part_raw.proofs.Tuples.{get-insert_same, held_tuple}
+use Rattle.part_raw.proofs.Tuples.{get-insert_same, held_tuple, insert-twice, insert-itself}
 use Rattle.plain_tables.specs.declared.numbers.ColumnNumber.{ColumnNumber}
 use Rattle.mm_relation.specs.declared.row.Cell.{Cell}
 use Rattle.mm_relation.specs.Rows.{Row}
 use Rattle.mm_relation.specs.Settings.{with_cells}
-use Rattle.mm_relation.proofs.Stored.{insert-twice, insert-itself}
 
 -- the row has a cell in each of these columns
 abbrev pub HasColumns : Tuples Row → TupleRef → List (ColumnNumber × Cell) → Type 0
@@ -20,7 +19,7 @@ HasColumns rows r sets = (row : Row) → get rows r ≡ Some row → All (λ s. 
 
 module _ (rows : Tuples Row) (r : TupleRef) (sets : List (ColumnNumber × Cell)) where
   pub none_written : length sets ≡ 0 → (row : Row) → get rows r ≡ Some row → rows ≡ insert rows r (with_cells sets row)
-  none_written none row found = subst (λ ss. rows ≡ insert rows r (with_cells ss row)) (sym (nil_from_length sets none)) (insert-itself rows r row found)
+  none_written none row found = subst (λ ss. rows ≡ insert rows r (with_cells ss row)) (sym (nil_from_length sets none)) (sym (insert-itself rows r row found))
 
   module _ (set : ColumnNumber × Cell) (rest : List (ColumnNumber × Cell)) (split : sets ≡ set ∷ rest) where
     first_there : HasColumns rows r sets → HasColumns rows r (set ∷ rest)

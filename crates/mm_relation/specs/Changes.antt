@@ -1,5 +1,5 @@
 -- What the calls of a relation do to it.
-use Rattle.std.specs.Prelude.{Bool, ◌≡◌, ℕ, ◌<◌, ◌≤◌, ◌==◌, ◌||◌, if◌then◌else◌, IsTrue, List, Some, None, Result, Ok, Err}
+use Rattle.std.specs.Prelude.{Bool, ◌≡◌, ℕ, ◌<◌, ◌≤◌, ◌==◌, ◌||◌, if◌then◌else◌, IsTrue, List, None, Result, Ok, Err}
 use Rattle.std.specs.List.{list_any}
 use Rattle.std.specs.FinMap as finite
 use Rattle.part_raw.specs.declared.tuple_ref.TupleRef.{TupleRef}
@@ -21,20 +21,23 @@ pub record KeepsSchema (old new : RelationState) : Type 0 where
   pub declared : new.declared ≡ old.declared
   pub counted : new.counted ≡ old.counted
 
--- one row more, under a reference that was free
+-- one row more, under a reference that was free; no link names it
 pub record IsInserted (old new : RelationState) (r : TupleRef) (row : Row) : Type 0 where
   pub free : finite.get old.rows r ≡ None
   pub rows : new.rows ≡ finite.insert old.rows r row
+  pub referrers : new.referrers ≡ finite.insert old.referrers r 0
   pub keeps : KeepsSchema old new
 
 -- this row less
 pub record IsRemoved (old new : RelationState) (r : TupleRef) : Type 0 where
   pub rows : new.rows ≡ finite.remove old.rows r
+  pub referrers : new.referrers ≡ finite.remove old.referrers r
   pub keeps : KeepsSchema old new
 
 -- these cells are set in exactly these rows
 pub record IsChanged (old new : RelationState) (rs : List TupleRef) (sets : List (ColumnNumber × Cell)) : Type 0 where
   pub rows : CellsSet old.rows new.rows rs sets
+  pub referrers : new.referrers ≡ old.referrers
   pub keeps : KeepsSchema old new
 
 -- KeyExists where the key is there, then Full where the relation is full, want of memory aside
@@ -51,9 +54,9 @@ IsPlacedRightly key_held (Err KeyExists) = key_held
 IsPlacedRightly key_held (Err Full) = ⊥
 IsPlacedRightly key_held (Err NoMemory) = Unit {0}
 
--- a row as it comes in: no link names it
+-- a row as it comes in
 abbrev pub new_row : Value → List Cell → Row
-new_row key cells = record { key = key; cells = cells; referrers = 0 }
+new_row key cells = record { key = key; cells = cells }
 
 -- whether an index of this kind is declared on this column
 abbrev pub has_declared_on : RelationState → ℕ → IndexKind → Bool
@@ -90,11 +93,6 @@ entries_of s column = entries_on column s.hashes
 abbrev pub buckets_of : RelationState → ℕ → ℕ
 buckets_of s column = buckets_on column s.buckets
 
--- a row with this number of links that name it
-abbrev pub with_referrers : ℕ → Row → Row
-with_referrers n row = record row { referrers = n }
-
--- this row has this number of referrers, and nothing else changed
-pub record Refers (old new : RelationState) (r : TupleRef) (count : ℕ → ℕ) : Type 0 where
-  pub rows : (row : Row) → finite.get old.rows r ≡ Some row → new.rows ≡ finite.insert old.rows r (with_referrers (count row.referrers) row)
-  pub same : new ≡ record old { rows = new.rows }
+-- so many links name this row, and nothing else is different
+abbrev pub with_referrers : RelationState → TupleRef → ℕ → RelationState
+with_referrers s r n = record s { referrers = finite.insert s.referrers r n }

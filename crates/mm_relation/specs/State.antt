@@ -27,14 +27,15 @@ RowTree = LabelledTree (Label TupleRef)
 abbrev pub tree_list : RowTree → List TupleRef
 tree_list t = list t
 
--- The schema; the table that each column's links lead into; the declared indexes; the rows; the key's tree; the column and the
--- tree of each declared tree; the column and the entries of each declared hash; the column and the number of buckets of each;
--- whether the rows' referrers are counted.
+-- The schema; the table that each column's links lead into; the declared indexes; the rows; how many links name each; the key's
+-- tree; the column and the tree of each declared tree; the column and the entries of each declared hash; the column and the number
+-- of buckets of each; whether there is memory for the numbers of links.
 pub record RelationState : Type 0 where
   pub schema : Schema
   pub targets : List (Option ℕ)
   pub declared : List DeclaredIndex
   pub rows : Tuples Row
+  pub referrers : Tuples ℕ
   pub by_key : RowTree
   pub trees : List (ℕ × RowTree)
   pub hashes : List (ℕ × List (ℕ × TupleRef))
@@ -43,10 +44,10 @@ pub record RelationState : Type 0 where
 
 abbrev pub state_code : Coded Schema → Coded DeclaredIndex → Coded Row → Coded RelationState
 state_code schema index row =
-    code_by (Schema × (List (Option ℕ) × (List DeclaredIndex × (Tuples Row × (RowTree × (List (ℕ × RowTree) × (List (ℕ × List (ℕ × TupleRef)) × (List (ℕ × ℕ) × Bool))))))))
-    (coded× schema (coded× (coded_list (coded_option coded_ℕ)) (coded× (coded_list index) (coded× (finite.code ref_code row) (coded× (tree_code (label_code ref_code)) (coded× (coded_list (coded× coded_ℕ (tree_code (label_code ref_code)))) (coded× (coded_list (coded× coded_ℕ (coded_list (coded× coded_ℕ ref_code)))) (coded× (coded_list (coded× coded_ℕ coded_ℕ)) coded_bool))))))))
-    (λ s. (s.schema, (s.targets, (s.declared, (s.rows, (s.by_key, (s.trees, (s.hashes, (s.buckets, s.counted)))))))))
-    (λ p. record { schema = p.0; targets = p.1.0; declared = p.1.1.0; rows = p.1.1.1.0; by_key = p.1.1.1.1.0; trees = p.1.1.1.1.1.0; hashes = p.1.1.1.1.1.1.0; buckets = p.1.1.1.1.1.1.1.0; counted = p.1.1.1.1.1.1.1.1 }) (λ _. refl)
+    code_by (Schema × (List (Option ℕ) × (List DeclaredIndex × (Tuples Row × (Tuples ℕ × (RowTree × (List (ℕ × RowTree) × (List (ℕ × List (ℕ × TupleRef)) × (List (ℕ × ℕ) × Bool)))))))))
+    (coded× schema (coded× (coded_list (coded_option coded_ℕ)) (coded× (coded_list index) (coded× (finite.code ref_code row) (coded× (finite.code ref_code coded_ℕ) (coded× (tree_code (label_code ref_code)) (coded× (coded_list (coded× coded_ℕ (tree_code (label_code ref_code)))) (coded× (coded_list (coded× coded_ℕ (coded_list (coded× coded_ℕ ref_code)))) (coded× (coded_list (coded× coded_ℕ coded_ℕ)) coded_bool)))))))))
+    (λ s. (s.schema, (s.targets, (s.declared, (s.rows, (s.referrers, (s.by_key, (s.trees, (s.hashes, (s.buckets, s.counted))))))))))
+    (λ p. record { schema = p.0; targets = p.1.0; declared = p.1.1.0; rows = p.1.1.1.0; referrers = p.1.1.1.1.0; by_key = p.1.1.1.1.1.0; trees = p.1.1.1.1.1.1.0; hashes = p.1.1.1.1.1.1.1.0; buckets = p.1.1.1.1.1.1.1.1.0; counted = p.1.1.1.1.1.1.1.1.1 }) (λ _. refl)
 
 -- no link leads anywhere: what an order by keys needs of links
 abbrev pub no_keys : Keys
@@ -121,9 +122,10 @@ HasColumn column trees = IsTrue (list_any (λ t. t.0 == column) trees)
 abbrev pub HasKey : Tuples Row → Value → Type 0
 HasKey rows key = (r : TupleRef) × (key_at rows r ≡ Some key)
 
--- a row that is lent, with the table that each column's links lead into
+-- a row that is lent, how many links name it, and the table that each column's links lead into
 pub record LentRow : Type 0 where
   pub row : Row
+  pub referrers : ℕ
   pub targets : List (Option ℕ)
 
 -- the entries of the first hash on a column

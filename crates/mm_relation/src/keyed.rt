@@ -5,7 +5,7 @@ ghost use Rattle.std.specs.Prelude.{◌≡◌, ℕ, ◌<◌, ◌∷◌, [], None
 ghost use Rattle.std.specs.FinMap as finite;
 ghost use Rattle.part_raw.specs.declared.tuple_ref.TupleRef.{TupleRef};
 ghost use Rattle.mm_index.specs.Bag.{IsSameBag};
-ghost use Rattle.mm_relation.specs.Rows.{StartsWithKey, row_of};
+ghost use Rattle.mm_relation.specs.Rows.{StartsWithKey, row_of, with_number, without_number};
 ghost use Rattle.mm_relation.specs.State.{IsKeyed, HasKey};
 ghost use Rattle.mm_relation.specs.Changes.{IsPlacedRightly};
 ghost use Rattle.mm_relation.specs.Indexes.{seen, HaveRoom, Cover};
@@ -39,16 +39,17 @@ pub fn put_row(
     requires keyed { IsKeyed rows.old.tuples (items_of_tree by_key.old) }
     ensures keyed { IsKeyed rows.new.tuples (items_of_tree by_key.new) }
     ensures fresh { IfOk result (λ r. finite.get rows.old.tuples r ≡ None) }
-    ensures put { IfOk result (λ r. rows.new.tuples ≡ finite.insert rows.old.tuples r (row_of row.old.items 0)) }
+    ensures put { IfOk result (λ r. rows.new.tuples ≡ finite.insert rows.old.tuples r (row_of row.old.items)) }
     ensures listed { IfOk result (λ r. IsSameBag (items_of_tree by_key.new) (r ∷ (items_of_tree by_key.old))) }
     ensures covered { IfOk result (λ r. Cover r indexes.new) }
-    ensures told { IsPlacedRightly (HasKey rows.old.tuples (row_of row.old.items 0).key) result }
+    ensures told { IsPlacedRightly (HasKey rows.old.tuples (row_of row.old.items).key) result }
     ensures kept { OnErr result (rows.new.tuples ≡ rows.old.tuples) }
     ensures kept_tree { OnErr result (by_key.new ≡ by_key.old) }
     ensures same { map seen indexes.new ≡ map seen indexes.old }
     ensures room { (n : ℕ) → HaveRoom n indexes.old → HaveRoom n indexes.new }
     ensures width { rows.new.width ≡ rows.old.width }
-    ensures counted { rows.new.counted ≡ rows.old.counted }
+    ensures referring { IfOk result (λ r. rows.new.referring ≡ with_number rows.old.referring r 0) }
+    ensures kept_referring { OnErr result (rows.new.referring ≡ rows.old.referring) }
     ensures moved { row.new.items ≡ [] }
 {
     let r = rows.put(row);
@@ -77,7 +78,7 @@ pub fn take_row(rows: &mut Rows, by_key: &mut Tree, r: TupleRef)
     ensures taken { rows.new.tuples ≡ finite.remove rows.old.tuples r }
     ensures unlisted { IsSameBag (items_of_tree by_key.old) (r ∷ (items_of_tree by_key.new)) }
     ensures width { rows.new.width ≡ rows.old.width }
-    ensures counted { rows.new.counted ≡ rows.old.counted }
+    ensures referring { rows.new.referring ≡ without_number rows.old.referring r }
 {
     by_key.remove(&mut OrderProbe::new(&KeyOrder::beside(rows, r), r));
     rows.remove(r);

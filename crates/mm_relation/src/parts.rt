@@ -4,7 +4,7 @@ ghost use Rattle.ttree.specs.Room.{room_of, nodes_of, nodes_for};
 ghost use Rattle.std.specs.Prelude.{◌≡◌, ℕ, ◌+◌, ◌≤◌, ◌<◌, [], max, length, slice_index_or, None, IsSome, IfOk, OnOk, OnErr, All, map};
 ghost use Rattle.std.specs.FinMap as finite;
 ghost use Rattle.mm_relation.specs.declared.index.IndexOn.{IndexOn};
-ghost use Rattle.mm_relation.specs.Rows.{StartsWithKey, row_of};
+ghost use Rattle.mm_relation.specs.Rows.{StartsWithKey, row_of, with_number, without_number};
 ghost use Rattle.mm_relation.specs.State.{IsKeyed, HasKey};
 ghost use Rattle.mm_relation.specs.Changes.{IsPlacedRightly};
 ghost use Rattle.mm_relation.specs.Indexes.{seen, spares_in, HasFewSpares, declaration_of, HaveRoom, Serve, CanRead, CanReadRow};
@@ -31,7 +31,7 @@ pub fn make_room(
     requires few { finite.len rows.old.tuples < 16777216 }
     ensures rows { rows.new.tuples ≡ rows.old.tuples }
     ensures width { rows.new.width ≡ rows.old.width }
-    ensures counted { rows.new.counted ≡ rows.old.counted }
+    ensures referring { rows.new.referring ≡ rows.old.referring }
     ensures by_key { by_key.new.tree ≡ by_key.old.tree }
     ensures same { map seen indexes.new ≡ map seen indexes.old }
     ensures free { OnOk result (0 < rows.new.free) }
@@ -66,20 +66,21 @@ pub fn place<R: LinkedKeys>(
     requires few { finite.len rows.old.tuples < 16777216 }
     requires keyed { IsKeyed rows.old.tuples (items_of_tree by_key.old) }
     requires read { CanRead (R.keys links.now) rows.old.tuples indexes.old }
-    requires row_read { CanReadRow (R.keys links.now) (row_of row.old.items 0) indexes.old }
+    requires row_read { CanReadRow (R.keys links.now) (row_of row.old.items) indexes.old }
     requires serve { Serve (R.keys links.now) rows.old.tuples (items_of_tree by_key.old) indexes.old }
     ensures keyed { IsKeyed rows.new.tuples (items_of_tree by_key.new) }
     ensures serve { Serve (R.keys links.now) rows.new.tuples (items_of_tree by_key.new) indexes.new }
     ensures declared { map declaration_of indexes.new ≡ map declaration_of indexes.old }
     ensures fresh { IfOk result (λ r. finite.get rows.old.tuples r ≡ None) }
-    ensures put { IfOk result (λ r. rows.new.tuples ≡ finite.insert rows.old.tuples r (row_of row.old.items 0)) }
-    ensures told { IsPlacedRightly (HasKey rows.old.tuples (row_of row.old.items 0).key) result }
+    ensures put { IfOk result (λ r. rows.new.tuples ≡ finite.insert rows.old.tuples r (row_of row.old.items)) }
+    ensures told { IsPlacedRightly (HasKey rows.old.tuples (row_of row.old.items).key) result }
     ensures kept { OnErr result (rows.new.tuples ≡ rows.old.tuples) }
     ensures kept_tree { OnErr result (by_key.new ≡ by_key.old) }
     ensures kept_indexes { OnErr result (map seen indexes.new ≡ map seen indexes.old) }
     ensures moved { row.new.items ≡ [] }
     ensures width { rows.new.width ≡ rows.old.width }
-    ensures counted { rows.new.counted ≡ rows.old.counted }
+    ensures referring { IfOk result (λ r. rows.new.referring ≡ with_number rows.old.referring r 0) }
+    ensures kept_referring { OnErr result (rows.new.referring ≡ rows.old.referring) }
 {
     let r = put_row(rows, by_key, indexes, row)?;
     insert(indexes, rows, links, r);
@@ -101,7 +102,7 @@ pub fn displace<R: LinkedKeys>(
     requires serve { Serve (R.keys links.now) rows.old.tuples (items_of_tree by_key.old) indexes.old }
     ensures taken { rows.new.tuples ≡ finite.remove rows.old.tuples r }
     ensures width { rows.new.width ≡ rows.old.width }
-    ensures counted { rows.new.counted ≡ rows.old.counted }
+    ensures referring { rows.new.referring ≡ without_number rows.old.referring r }
     ensures keyed { IsKeyed rows.new.tuples (items_of_tree by_key.new) }
     ensures serve { Serve (R.keys links.now) rows.new.tuples (items_of_tree by_key.new) indexes.new }
     ensures declared { map declaration_of indexes.new ≡ map declaration_of indexes.old }

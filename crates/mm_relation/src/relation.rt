@@ -52,21 +52,21 @@ impl Model for Relation {
 
     ghost coded = { state_code schema_row.coded index_row.coded (row_code value_row.coded cell_row.coded) };
 
-    ghost view = { λ r. state r.rows.counted r.schema r.targets.items r.declared.items r.rows.tuples r.by_key.tree r.indexes };
+    ghost view = { λ r. state r.rows.referring r.schema r.targets.items r.declared.items r.rows.tuples r.by_key.tree r.indexes };
 
     // The store has a cell in a row for each column.
-    ghost invariant = { λ r. IsKept (state r.rows.counted r.schema r.targets.items r.declared.items r.rows.tuples r.by_key.tree r.indexes) × (r.rows.width ≡ length r.schema.columns) };
+    ghost invariant = { λ r. IsKept (state r.rows.referring r.schema r.targets.items r.declared.items r.rows.tuples r.by_key.tree r.indexes) × (r.rows.width ≡ length r.schema.columns) };
 }
 
 impl Relation {
     ghost use Rattle.std.specs.FinMap as finite;
     ghost use Rattle.std.specs.List.{AllPairs};
-    ghost use Rattle.mm_relation.specs.Rows.{HaveNoReferrers, Row, StartsWithKey, row_of};
+    ghost use Rattle.mm_relation.specs.Rows.{HaveNoReferrers, StartsWithKey, referrers_at, row_of};
     ghost use Rattle.std.specs.Option.{option_cmp};
     ghost use Rattle.plain_tables.specs.Values.{value_cmp};
     ghost use Rattle.mm_relation.specs.Reading.{Keys, key_at, value_at, cell_value};
     ghost use Rattle.mm_relation.specs.State.{IsReadable, IsCurrent, HasKey, linked_keys, no_keys, tree_list};
-    ghost use Rattle.mm_relation.specs.Changes.{IsInserted, IsRemoved, IsChanged, IsToldRightly, HasTree, HasHash, has_tree_on, has_hash_on, has_declared_on, tree_on, list_of, entries_of, buckets_of, Refers};
+    ghost use Rattle.mm_relation.specs.Changes.{IsInserted, IsRemoved, IsChanged, IsToldRightly, HasTree, HasHash, has_tree_on, has_hash_on, has_declared_on, tree_on, list_of, entries_of, buckets_of, with_referrers};
     ghost use Rattle.mm_relation.specs.Searching.{most_compared};
     ghost use Rattle.mm_relation.specs.Settings.{link_set};
     ghost use Rattle.ttree.specs.Shape.{HasShape, IsWellShaped};
@@ -118,6 +118,7 @@ impl Relation {
     pub fn row(&self, r: TupleRef) -> RowView<'_>
         requires { IsSome (finite.get self.now.rows r) }
         ensures row { finite.get self.now.rows r ≡ Some result.row }
+        ensures referrers { result.referrers ≡ referrers_at self.now.referrers r }
         ensures targets { result.targets ≡ self.now.targets }
     {
         RowView {
@@ -321,8 +322,8 @@ impl Relation {
     /// Whether a row has the key of the row of these cells.
     pub fn has_key_of(&self, cells: &[StoredCell]) -> bool
         requires { StartsWithKey cells.now }
-        ensures has { OnTrue result (HasKey self.now.rows (row_of cells.now 0).key) }
-        ensures has_not { OnFalse result (HasKey self.now.rows (row_of cells.now 0).key → ⊥) }
+        ensures has { OnTrue result (HasKey self.now.rows (row_of cells.now).key) }
+        ensures has_not { OnFalse result (HasKey self.now.rows (row_of cells.now).key → ⊥) }
     {
         match cells[0].seen() {
             SeenCell::Held(key) => self.find_key(&key.sought()).is_some(),
@@ -339,12 +340,12 @@ impl Relation {
     ) -> Result<TupleRef, RowRefusal>
         requires starts { StartsWithKey cells.old.items }
         requires width { length cells.old.items ≡ length self.old.targets }
-        requires readable { IsReadable (linked_keys self.old.targets (R.tables others.now)) (length self.old.targets) (row_of cells.old.items 0) }
+        requires readable { IsReadable (linked_keys self.old.targets (R.tables others.now)) (length self.old.targets) (row_of cells.old.items) }
         requires current { IsCurrent (linked_keys self.old.targets (R.tables others.now)) self.old }
-        ensures inserted { IfOk result (λ r. IsInserted self.old self.new r (row_of cells.old.items 0)) }
+        ensures inserted { IfOk result (λ r. IsInserted self.old self.new r (row_of cells.old.items)) }
         ensures current { IsCurrent (linked_keys self.old.targets (R.tables others.now)) self.new }
         ensures unchanged { OnErr result (self.new ≡ self.old) }
-        ensures told { IsToldRightly self.old (row_of cells.old.items 0).key result }
+        ensures told { IsToldRightly self.old (row_of cells.old.items).key result }
         ensures moved { cells.new.items ≡ [] }
     {
         if self.rows.len() >= u64::from(MOST_ROWS) {
@@ -396,7 +397,7 @@ impl Relation {
     /// Whether the numbers of links that name its rows are kept. Where they are not, no link names a row.
     pub fn is_counted(&self) -> bool
         ensures value { result ≡ self.now.counted }
-        ensures none { result ≡ false → HaveNoReferrers self.now.rows }
+        ensures none { result ≡ false → HaveNoReferrers self.now.rows self.now.referrers }
     {
         self.rows.is_counted()
     }
@@ -413,7 +414,7 @@ impl Relation {
 
     /// Gives the memory of these numbers back, each of which is 0. It takes no memory.
     pub fn forget_counts(&mut self)
-        requires { HaveNoReferrers self.old.rows }
+        requires { HaveNoReferrers self.old.rows self.old.referrers }
         ensures { self.new ≡ record self.old { counted = false } }
     {
         self.rows.forget_counts();
@@ -423,8 +424,8 @@ impl Relation {
     pub fn add_referrers(&mut self, r: TupleRef, n: u64)
         requires held { IsSome (finite.get self.old.rows r) }
         requires counted { IsTrue self.old.counted }
-        requires room { (row : Row) → finite.get self.old.rows r ≡ Some row → row.referrers + n < 2 ^ 64 }
-        ensures added { Refers self.old self.new r (λ count. count + n) }
+        requires room { referrers_at self.old.referrers r + n < 2 ^ 64 }
+        ensures added { self.new ≡ with_referrers self.old r (referrers_at self.old.referrers r + n) }
         ensures current { (keys : Keys) → IsCurrent keys self.old → IsCurrent keys self.new }
     {
         count_up(&mut self.rows, r, n);
@@ -434,8 +435,8 @@ impl Relation {
     pub fn sub_referrers(&mut self, r: TupleRef, n: u64)
         requires held { IsSome (finite.get self.old.rows r) }
         requires counted { IsTrue self.old.counted }
-        requires enough { (row : Row) → finite.get self.old.rows r ≡ Some row → n ≤ row.referrers }
-        ensures taken { Refers self.old self.new r (λ count. count - n) }
+        requires enough { n ≤ referrers_at self.old.referrers r }
+        ensures taken { self.new ≡ with_referrers self.old r (referrers_at self.old.referrers r - n) }
         ensures current { (keys : Keys) → IsCurrent keys self.old → IsCurrent keys self.new }
     {
         count_down(&mut self.rows, r, n);

@@ -2,9 +2,8 @@
 //! that name the row stands beside them.
 ghost use Rattle.std.specs.Prelude.{◌≡◌, ◌+◌, ◌-◌, ◌<◌, ◌≤◌, [], true, false, Some, None, IsOk, IsSome, IsTrue, IfOk, OnErr, OnOk, length, slice_set};
 ghost use Rattle.std.specs.FinMap as finite;
-ghost use Rattle.mm_relation.specs.Changes.{with_referrers};
 ghost use Rattle.mm_relation.specs.Reading.{key_at};
-ghost use Rattle.mm_relation.specs.Rows.{HaveNoReferrers, Row, StartsWithKey, row_of, row_store};
+ghost use Rattle.mm_relation.specs.Rows.{HaveNoReferrers, Row, StartsWithKey, referrers_at, row_of, row_store, with_number, without_number};
 
 use crate::stored_cell::{SeenCell, StoredCell};
 use no_memory::NoMemory;
@@ -37,7 +36,7 @@ impl Rows {
     // No row, in a store for rows of so many columns. It takes no memory.
     pub fn new(alloc: Global, width: usize) -> Rows
         requires { (0 < width) × (width ≤ MAX_WIDTH) }
-        ensures { result ≡ row_store width finite.empty 0 false }
+        ensures { result ≡ row_store width finite.empty (record { numbers = finite.empty; counted = false }) 0 }
     {
         Rows {
             store: Partitions::new(alloc, width),
@@ -62,7 +61,7 @@ impl Rows {
     pub fn reserve(&mut self) -> Result<(), NoMemory>
         requires { finite.len self.old.tuples < 16777216 }
         ensures width { self.new.width ≡ self.old.width }
-        ensures counted { self.new.counted ≡ self.old.counted }
+        ensures referring { self.new.referring ≡ self.old.referring }
         ensures tuples { self.new.tuples ≡ self.old.tuples }
         ensures free { OnOk result (0 < self.new.free) }
     {
@@ -74,7 +73,7 @@ impl Rows {
     pub fn shed_spares(&mut self, few: u64)
         ensures tuples { self.new.tuples ≡ self.old.tuples }
         ensures width { self.new.width ≡ self.old.width }
-        ensures counted { self.new.counted ≡ self.old.counted }
+        ensures referring { self.new.referring ≡ self.old.referring }
         ensures kept { self.old.free ≤ few → self.new ≡ self.old }
     {
         self.store.shed_spares(few);
@@ -95,9 +94,10 @@ impl Rows {
         requires keyed { StartsWithKey row.old.items }
         ensures fresh { finite.get self.old.tuples result ≡ None }
         ensures numbered { result.number < MAX_TUPLES }
-        ensures tuples { self.new.tuples ≡ finite.insert self.old.tuples result (row_of row.old.items 0) }
+        ensures unnamed { finite.get self.old.referring.numbers result ≡ None }
+        ensures tuples { self.new.tuples ≡ finite.insert self.old.tuples result (row_of row.old.items) }
         ensures width { self.new.width ≡ self.old.width }
-        ensures counted { self.new.counted ≡ self.old.counted }
+        ensures referring { self.new.referring ≡ with_number self.old.referring result 0 }
         ensures moved { row.new.items ≡ [] }
     {
         self.store.put(row)
@@ -121,7 +121,7 @@ impl Rows {
     // The cells of a row, its key's the first.
     pub fn cells(&self, r: TupleRef) -> &[StoredCell]
         requires { IsSome (finite.get self.now.tuples r) }
-        ensures row { (t : Row) → finite.get self.now.tuples r ≡ Some t → row_of result.now t.referrers ≡ t }
+        ensures row { finite.get self.now.tuples r ≡ Some (row_of result.now) }
         ensures keyed { StartsWithKey result.now }
     {
         self.store.get(r)
@@ -141,32 +141,32 @@ impl Rows {
     // How many links name a row. It is read where it is asked for.
     pub fn referrers(&self, r: TupleRef) -> &u64
         requires { IsSome (finite.get self.now.tuples r) }
-        ensures { (t : Row) → finite.get self.now.tuples r ≡ Some t → result.now ≡ t.referrers }
+        ensures { result.now ≡ referrers_at self.now.referring.numbers r }
     {
         self.store.count(r)
     }
 
     // Whether the store has memory for the numbers of links that name its rows. Where it has none, no link names a row.
     pub fn is_counted(&self) -> bool
-        ensures value { result ≡ self.now.counted }
-        ensures none { result ≡ false → HaveNoReferrers self.now.tuples }
+        ensures value { result ≡ self.now.referring.counted }
+        ensures none { result ≡ false → HaveNoReferrers self.now.tuples self.now.referring.numbers }
     {
         self.store.is_counted()
     }
 
     // Makes memory for those numbers.
     pub fn keep_counts(&mut self) -> Result<(), NoMemory>
-        ensures ok { OnOk result (self.new ≡ record self.old { counted = true }) }
+        ensures ok { OnOk result (self.new ≡ record self.old { referring = record self.old.referring { counted = true } }) }
         ensures err { OnErr result (self.new ≡ self.old) }
-        ensures had { IsTrue self.old.counted → IsOk result }
+        ensures had { IsTrue self.old.referring.counted → IsOk result }
     {
         self.store.keep_counts()
     }
 
     // Gives the memory of those numbers back, each of which is 0. It takes no memory.
     pub fn forget_counts(&mut self)
-        requires { HaveNoReferrers self.old.tuples }
-        ensures { self.new ≡ record self.old { counted = false } }
+        requires { HaveNoReferrers self.old.tuples self.old.referring.numbers }
+        ensures { self.new ≡ record self.old { referring = record self.old.referring { counted = false } } }
     {
         self.store.forget_counts();
     }
@@ -174,10 +174,8 @@ impl Rows {
     // Sets how many links name a row, where these numbers are kept.
     pub fn set_referrers(&mut self, r: TupleRef, n: u64)
         requires held { IsSome (finite.get self.old.tuples r) }
-        requires counted { IsTrue self.old.counted }
-        ensures width { self.new.width ≡ self.old.width }
-        ensures counted { self.new.counted ≡ self.old.counted }
-        ensures row { (t : Row) → finite.get self.old.tuples r ≡ Some t → self.new.tuples ≡ finite.insert self.old.tuples r (with_referrers n t) }
+        requires counted { IsTrue self.old.referring.counted }
+        ensures { self.new ≡ record self.old { referring = with_number self.old.referring r n } }
     {
         self.store.set_count(r, n);
     }
@@ -187,7 +185,7 @@ impl Rows {
         requires held { IsSome (finite.get self.old.tuples r) }
         requires column { (t : Row) → finite.get self.old.tuples r ≡ Some t → (0 < column.0) × (column.0 ≤ length t.cells) }
         ensures width { self.new.width ≡ self.old.width }
-        ensures counted { self.new.counted ≡ self.old.counted }
+        ensures referring { self.new.referring ≡ self.old.referring }
         ensures row { (t : Row) → finite.get self.old.tuples r ≡ Some t → self.new.tuples ≡ finite.insert self.old.tuples r (record t { cells = slice_set t.cells (column.0 - 1) cell }) }
     {
         drop(self.store.replace(r, column.0, cell));
@@ -197,7 +195,7 @@ impl Rows {
     pub fn remove(&mut self, r: TupleRef)
         requires { IsSome (finite.get self.old.tuples r) }
         ensures width { self.new.width ≡ self.old.width }
-        ensures counted { self.new.counted ≡ self.old.counted }
+        ensures referring { self.new.referring ≡ without_number self.old.referring r }
         ensures rows { self.new.tuples ≡ finite.remove self.old.tuples r }
     {
         self.store.remove(r);

@@ -23,7 +23,7 @@ impl<'a> Model for RowView<'a> {
 
     ghost Value = { LentRow };
 
-    ghost view = { λ v. record { row = row_of v.cells.now v.referrers.now; targets = v.targets.now } };
+    ghost view = { λ v. record { row = row_of v.cells.now; referrers = v.referrers.now; targets = v.targets.now } };
 
     ghost invariant = { λ v. StartsWithKey v.cells.now };
 }
@@ -53,7 +53,7 @@ impl<'a> RowView<'a> {
 
     /// How many links name the row.
     pub fn referrers(&self) -> u64
-        ensures { result ≡ self.now.row.referrers }
+        ensures { result ≡ self.now.referrers }
     {
         *self.referrers
     }

@@ -15,7 +15,7 @@ insert-requires-clause-awaits g c =
     (awaits keys c.args.rows.now.tuples (items_of_tree c.args.by_key.now) c.put_row.new.indexes c.requires.keyed
     (λ n q column held. c.requires.read n q (column_seen c.args.indexes.now c.put_row.new.indexes same n column) held)
     (subst (λ ss. All (Serves keys c.args.rows.now.tuples (items_of_tree c.args.by_key.now)) ss) (sym same) c.requires.serve)
-    c.in_ok-r.r (row_of c.args.row.now.items 0) c.in_ok-r.ensures.fresh
+    c.in_ok-r.r (row_of c.args.row.now.items) c.in_ok-r.ensures.fresh
     (λ n column. c.requires.row_read n (column_seen c.args.indexes.now c.put_row.new.indexes same n column))
     (omega (arith, c.requires.few)) (rw c.in_ok-r.ensures.put at c.in_ok-r.ensures.keyed.keys_differ) (c.put_row.ensures.room 1 c.requires.room) c.in_ok-r.ensures.covered)
 
@@ -24,14 +24,14 @@ returns-clause-serve g c =
     let keys = g.R.LinkedKeys.keys c.args.links.now in
     let same = c.put_row.ensures.same in
     let read : CanRead keys c.args.rows.now.tuples c.put_row.new.indexes = λ n q column held. c.requires.read n q (column_seen c.args.indexes.now c.put_row.new.indexes same n column) held in
-    let row_read : CanReadRow keys (row_of c.args.row.now.items 0) c.put_row.new.indexes = λ n column. c.requires.row_read n (column_seen c.args.indexes.now c.put_row.new.indexes same n column) in
+    let row_read : CanReadRow keys (row_of c.args.row.now.items) c.put_row.new.indexes = λ n column. c.requires.row_read n (column_seen c.args.indexes.now c.put_row.new.indexes same n column) in
     let serve : Serve keys c.args.rows.now.tuples (items_of_tree c.args.by_key.now) c.put_row.new.indexes =
     subst (λ ss. All (Serves keys c.args.rows.now.tuples (items_of_tree c.args.by_key.now)) ss) (sym same) c.requires.serve in
     let differ = rw c.in_ok-r.ensures.put at c.in_ok-r.ensures.keyed.keys_differ in
     rw c.in_ok-r.ensures.put
-    (served_with keys c.args.rows.now.tuples (items_of_tree c.args.by_key.now) c.put_row.new.indexes c.requires.keyed read serve c.in_ok-r.r (row_of c.args.row.now.items 0) c.in_ok-r.ensures.fresh row_read
+    (served_with keys c.args.rows.now.tuples (items_of_tree c.args.by_key.now) c.put_row.new.indexes c.requires.keyed read serve c.in_ok-r.r (row_of c.args.row.now.items) c.in_ok-r.ensures.fresh row_read
     (items_of_tree c.put_row.new.by_key) c.insert.new.indexes differ c.in_ok-r.ensures.listed
-    (awaits keys c.args.rows.now.tuples (items_of_tree c.args.by_key.now) c.put_row.new.indexes c.requires.keyed read serve c.in_ok-r.r (row_of c.args.row.now.items 0) c.in_ok-r.ensures.fresh row_read
+    (awaits keys c.args.rows.now.tuples (items_of_tree c.args.by_key.now) c.put_row.new.indexes c.requires.keyed read serve c.in_ok-r.r (row_of c.args.row.now.items) c.in_ok-r.ensures.fresh row_read
     (omega (arith, c.requires.few)) differ (c.put_row.ensures.room 1 c.requires.room) c.in_ok-r.ensures.covered)
     (rw c.in_ok-r.ensures.put at c.insert.ensures))
 

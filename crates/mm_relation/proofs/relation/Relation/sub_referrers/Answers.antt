@@ -1,15 +1,17 @@
-use Rattle.std.proofs.Common.{◌-◌, ◌∙◌}
-use Rattle.mm_relation.proofs.Referred.{kept_after, current_after}
+use Rattle.std.proofs.Common.{refl}
+use Rattle.mm_relation.proofs.Keeping.{kept_on, current_on, served}
 use Rattle.mm_relation.proofs.relation.Relation.sub_referrers.Goals as goal
 
 pub invariant_of-self : goal.invariant_of-self
-invariant_of-self c = (
-  kept_after c.self.inside.rows.tuples c.count_down.new.rows.tuples c.args.r (λ count. count - c.args.n) (rw (← c.self.view_is) at c.requires.held) c.count_down.ensures.referrers
-      c.self.inside.rows.counted c.count_down.new.rows.counted c.self.inside.schema c.self.inside.targets.items c.self.inside.declared.items c.self.inside.by_key.tree c.self.inside.indexes c.self.invariant.0,
-  c.count_down.ensures.width ∙ c.self.invariant.1,
+invariant_of-self c = rw c.count_down.ensures (
+  kept_on c.self.inside.rows.referring c.self.inside.schema c.self.inside.targets.items c.self.inside.declared.items c.self.inside.rows.tuples c.self.inside.by_key.tree c.self.inside.indexes c.self.invariant.0
+      _ c.self.inside.rows.tuples c.self.inside.by_key.tree c.self.inside.indexes c.self.invariant.0.keyed c.self.invariant.0.few refl,
+  c.self.invariant.1,
 )
 
 pub returns-clause-current : goal.returns-clause-current
-returns-clause-current c = λ keys current.
-    current_after c.self.inside.rows.tuples c.count_down.new.rows.tuples c.args.r (λ count. count - c.args.n) (rw (← c.self.view_is) at c.requires.held) c.count_down.ensures.referrers
-    c.self.inside.rows.counted c.count_down.new.rows.counted c.self.inside.schema c.self.inside.targets.items c.self.inside.declared.items c.self.inside.by_key.tree c.self.inside.indexes keys (rw (← c.self.view_is) at current)
+returns-clause-current c = rw c.count_down.ensures (λ keys current.
+    let was = rw (← c.self.view_is) at current in
+    current_on c.self.inside.rows.referring c.self.inside.schema c.self.inside.targets.items c.self.inside.declared.items c.self.inside.rows.tuples c.self.inside.by_key.tree c.self.inside.indexes c.self.invariant.0
+    _ c.self.inside.rows.tuples c.self.inside.by_key.tree c.self.inside.indexes keys was.readable
+    (served c.self.inside.rows.referring c.self.inside.schema c.self.inside.targets.items c.self.inside.declared.items c.self.inside.rows.tuples c.self.inside.by_key.tree c.self.inside.indexes c.self.invariant.0 keys was))

@@ -1,7 +1,6 @@
 use Rattle.std.proofs.Common.{sym, ◌∙◌}
 use Rattle.part_raw.proofs.Mapped.{len-mapped}
-use Rattle.mm_relation.specs.Rows.{row_in}
 use Rattle.mm_relation.proofs.rows.Rows.len.Goals as goal
 
 pub returns : goal.returns
-returns c = rw (← c.self.view_is) (c.len.ensures.value ∙ sym (len-mapped row_in c.self.inside.store.tuples))
+returns c = rw (← c.self.view_is) (c.len.ensures.value ∙ sym (len-mapped _ c.self.inside.store.tuples))
