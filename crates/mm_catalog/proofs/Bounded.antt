@@ -18,7 +18,7 @@ use Rattle.mm_catalog.specs.Seen.{database_of, table_of}
 use Rattle.mm_catalog.specs.Linked.{link_at, row_links, relation_links, links, links_to, is_link_to}
 use Rattle.mm_catalog.specs.Consistent.{IsConsistent}
 use Rattle.mm_catalog.proofs.Tables.{database-get, database-length}
-use Rattle.mm_catalog.proofs.Declared.{among_at}
+use Rattle.mm_catalog.proofs.Among.{among_at}
 
 length-flat_map : {A B : Type 0} (f : A → List B) (most : ℕ) (xs : List A) → All (λ x. length (f x) ≤ most) xs → length (flat_map f xs) ≤ length xs * most
 length-flat_map f most [] few = omega arith

@@ -32,7 +32,7 @@ use Rattle.mm_catalog.specs.Linked.{target_of, target_at}
 use Rattle.mm_catalog.specs.Consistent.{IsConsistent}
 use Rattle.mm_catalog.specs.Cells.{IsCellOf, NamesNone, AreCellsOf, SomeNamesNone}
 use Rattle.mm_catalog.proofs.Tables.{database-get}
-use Rattle.mm_catalog.proofs.Declared.{among_at}
+use Rattle.mm_catalog.proofs.Among.{among_at}
 use Rattle.mm_catalog.proofs.Referenced.{key_shown, no_key_shown, some_column, target_here, reference_held, reference_missing}
 use Rattle.mm_catalog.proofs.Anywhere.{all_pass, not_all_pass}
 use Rattle.mm_catalog.proofs.Lists.{get-zip}

@@ -1,7 +1,7 @@
 -- Relations whose rows are counted anew, one link after another.
 use Rattle.std.proofs.Common.{◌≡◌, ◌≢◌, ℕ, zero, suc, ◌<◌, ◌≤◌, ◌+◌, ◌-◌, ◌*◌, true, false, cond, List, [], ◌∷◌, ◌++◌, Option, Some, None, IsSome, is_some, refl, sym, ap, ◌∙◌, subst, arith, length, length-set, set, eqb, add-zero, zero-add, inl, inr}
 use Rattle.std.specs.List.{All, slice_get, range_with_len, filter_map, cons_option}
-use Rattle.std.specs.Option.{option_map}
+use Rattle.std.specs.Option.{unwrap_or}
 use Rattle.std.specs.Ordering.{is_eq}
 use Rattle.std.specs.FinMap as finite
 use Rattle.std.proofs.lemmas.Bool.{cases_eq, cases_lt, eq-eqb, ne_eqb, and_from, and_left, and_right}
@@ -14,45 +14,27 @@ use Rattle.part_raw.specs.declared.tuple_ref.TupleRef.{TupleRef}
 use Rattle.part_raw.specs.TupleRefs.{ref_cmp}
 use Rattle.part_raw.specs.Store.{Tuples}
 use Rattle.part_raw.proofs.Lookup.{same_or_other}
-use Rattle.part_raw.proofs.Tuples.{same_ref_self, same_ref_other, get-insert_same, get-insert_other, held_tuple}
-use Rattle.mm_relation.specs.Rows.{Row}
-use Rattle.mm_relation.specs.Changes.{Refers, with_referrers}
+use Rattle.part_raw.proofs.Tuples.{same_ref_self, same_ref_other, get-insert_same, get-insert_other}
+use Rattle.mm_relation.specs.Rows.{Row, referrers_at}
+use Rattle.mm_relation.specs.Changes.{with_referrers}
 use Rattle.mm_relation.specs.State.{RelationState, IsKept}
 use Rattle.mm_catalog.specs.Linked.{Linked, link_at, row_links, is_link_to}
 use Rattle.mm_catalog.specs.Recounted.{IsRecounted, AreRecounted, HaveReferrers}
 use Rattle.mm_catalog.specs.Counted.{IsHeldIn, HaveRoom, HaveAtLeast, AreCountedBy, naming, none}
+use Rattle.mm_catalog.proofs.Lists.{each_set}
 use Rattle.mm_catalog.proofs.LinksHeld.{Contains-filter_map, Contains-range}
 
 -- ---- what is recounted
 
 pub IsRecounted-refl : (s : RelationState) → IsRecounted s s
-IsRecounted-refl s = record { rows = λ r. refl; same = refl }
+IsRecounted-refl s = refl
 
 pub IsRecounted-trans : (s t u : RelationState) → IsRecounted s t → IsRecounted t u → IsRecounted s u
-IsRecounted-trans s t u a b = record {
-  rows = λ r. b.rows r ∙ a.rows r;
-  same = b.same ∙ ap (λ (v : RelationState). record v { rows = u.rows }) a.same;
-}
+IsRecounted-trans s t u a b = b ∙ ap (λ (v : RelationState). record v { referrers = u.referrers }) a
 
 -- a row whose number of referrers changes
-pub IsRecounted-refers : (s t : RelationState) (r : TupleRef) (count : ℕ → ℕ) → IsSome (finite.get s.rows r) → Refers s t r count → IsRecounted s t
-IsRecounted-refers s t r count held refers =
-    let found = held_tuple s.rows r held in
-    let now = with_referrers (count found.0.referrers) found.0 in
-    let rows = refers.rows found.0 found.1 in
-    record {
-      rows = λ q.
-          ap (λ (tuples : Tuples Row). option_map (with_referrers 0) (finite.get tuples q)) rows
-          ∙ elim (same_or_other q r) [
-            | inl same ↦
-                ap (λ p. option_map (with_referrers 0) (finite.get (finite.insert s.rows r now) p)) same
-                ∙ ap (option_map (with_referrers 0)) (get-insert_same s.rows r now)
-                ∙ sym (ap (option_map (with_referrers 0)) found.1)
-                ∙ sym (ap (λ p. option_map (with_referrers 0) (finite.get s.rows p)) same)
-            | inr other ↦ ap (option_map (with_referrers 0)) (get-insert_other s.rows r q now other)
-          ];
-      same = refers.same;
-    }
+IsRecounted-with : (s t : RelationState) (r : TupleRef) (n : ℕ) → t ≡ with_referrers s r n → IsRecounted s t
+IsRecounted-with s t r n is = is ∙ ap (λ (referrers : Tuples ℕ). record s { referrers = referrers }) (sym (ap (λ (u : RelationState). u.referrers) is))
 
 pub AreRecounted-refl : (relations : List RelationState) → AreRecounted relations relations
 AreRecounted-refl relations = record {
@@ -70,40 +52,14 @@ AreRecounted-trans old mid new a b = record {
 
 -- one relation among others
 pub AreRecounted-set : (relations : List RelationState) (n : ℕ) (s t : RelationState) → slice_get relations n ≡ Some s → IsRecounted s t → AreRecounted relations (set relations n t)
-AreRecounted-set relations n s t at changed = record {
-  count = length-set relations n t;
-  each = λ k u v here there.
-      elim (cases_eq k n) [
-        | inl e ↦
-            let first : s ≡ u = same_Some s u (sym at ∙ ap (slice_get relations) (sym e) ∙ here) in
-            let second : t ≡ v = same_Some t v (sym (slice_get_set relations n t (slice_get_within relations n s at)) ∙ ap (slice_get (set relations n t)) (sym e) ∙ there) in
-            subst (λ w. IsRecounted w v) first (subst (IsRecounted s) second changed)
-        | inr other ↦
-            subst (IsRecounted u) (same_Some u v (sym here ∙ sym (slice_get-set_other relations n k t other) ∙ there)) (IsRecounted-refl u)
-      ];
-}
-
--- a row that is held stays held
-pub recounted_held : (s t : RelationState) (r : TupleRef) (row : Row) → IsRecounted s t → finite.get s.rows r ≡ Some row → (now : Row) × (finite.get t.rows r ≡ Some now) × (with_referrers 0 now ≡ with_referrers 0 row)
-recounted_held s t r row h at = some_after (finite.get t.rows r) (h.rows r ∙ ap (option_map (with_referrers 0)) at)
-  where
-    some_after : (o : Option Row) → option_map (with_referrers 0) o ≡ Some (with_referrers 0 row) → (now : Row) × (o ≡ Some now) × (with_referrers 0 now ≡ with_referrers 0 row)
-    some_after None e = absurd (cc)
-    some_after (Some now) e = (now, refl, same_Some (with_referrers 0 now) (with_referrers 0 row) e)
-
--- and was held
-pub recounted_before : (s t : RelationState) (r : TupleRef) (now : Row) → IsRecounted s t → finite.get t.rows r ≡ Some now → (row : Row) × (finite.get s.rows r ≡ Some row) × (with_referrers 0 row ≡ with_referrers 0 now)
-recounted_before s t r now h at =
-    recounted_held t s r now (record { rows = λ q. sym (h.rows q); same = sym (ap (λ (v : RelationState). record v { rows = s.rows }) h.same) }) at
+AreRecounted-set relations n s t at changed = record { count = length-set relations n t; each = each_set IsRecounted IsRecounted-refl relations n s t at changed }
 
 -- what is held stays held
 pub held_still : (old new : List RelationState) (link : Linked) → AreRecounted old new → IsHeldIn old link → IsHeldIn new link
 held_still old new link h was =
     let t = slice_get-inside new link.0 (omega (arith, h.count, slice_get_within old link.0 was.0 was.1)) in
-    let found = held_tuple was.0.rows link.1 was.2 in
-    let now = recounted_held was.0 t.0 link.1 found.0 (h.each link.0 was.0 t.0 was.1 t.1) found.1 in
-    let kept = ap (λ (s : RelationState). s.counted) (h.each link.0 was.0 t.0 was.1 t.1).same in
-    (t.0, t.1, ap is_some now.1, kept ∙ was.3)
+    let same = h.each link.0 was.0 t.0 was.1 t.1 in
+    (t.0, t.1, ap (λ (s : RelationState). is_some (finite.get s.rows link.1)) same ∙ was.2, ap (λ (s : RelationState). s.counted) same ∙ was.3)
 
 pub all_held_still : (old new : List RelationState) (links : List Linked) → AreRecounted old new → All (IsHeldIn old) links → All (IsHeldIn new) links
 all_held_still old new links h all = All-weaker (IsHeldIn old) (IsHeldIn new) (λ link. held_still old new link h) links all
@@ -138,11 +94,7 @@ pub counted_none : (relations : List RelationState) → All IsKept relations →
 counted_none relations kept = record {
   recounted = AreRecounted-refl relations;
   kept = kept;
-  counts = λ table s t r row now at here e f.
-      let same : s ≡ t = same_Some s t (sym at ∙ here) in
-      let one : row ≡ now = same_Some row now (sym e ∙ ap (λ (u : RelationState). finite.get u.rows r) same ∙ f) in
-      let count : row.referrers ≡ now.referrers = ap (λ (w : Row). w.referrers) one in
-      omega (arith, count);
+  counts = λ table s t r at here. ap (λ (u : RelationState). referrers_at u.referrers r + 0) (same_Some t s (sym here ∙ at));
 }
 
 -- as many, told otherwise
@@ -150,7 +102,7 @@ pub counted_as : (old new : List RelationState) (m f n g : ℕ → TupleRef → 
 counted_as old new m f n g up down h = record {
   recounted = h.recounted;
   kept = h.kept;
-  counts = λ table s t r row now at here e d. omega (arith, h.counts table s t r row now at here e d, up table r, down table r);
+  counts = λ table s t r at here. omega (arith, h.counts table s t r at here, up table r, down table r);
 }
 
 -- one change after another
@@ -158,12 +110,9 @@ pub counted_then : (old mid new : List RelationState) (m f n g : ℕ → TupleRe
 counted_then old mid new m f n g a b = record {
   recounted = AreRecounted-trans old mid new a.recounted b.recounted;
   kept = b.kept;
-  counts = λ table s u r row now at here e d.
+  counts = λ table s u r at here.
       let t = slice_get-inside mid table (omega (arith, a.recounted.count, slice_get_within old table s at)) in
-      let between = recounted_held s t.0 r row (a.recounted.each table s t.0 at t.1) e in
-      let first = a.counts table s t.0 r row between.0 at t.1 e between.1 in
-      let second = b.counts table t.0 u r between.0 now t.1 here between.1 d in
-      omega (arith, first, second);
+      omega (arith, a.counts table s t.0 r at t.1, b.counts table t.0 u r t.1 here);
 }
 
 -- links that come and go after others
@@ -176,81 +125,73 @@ down_then old mid new f g all both a b =
     counted_as old new (λ table r. 0 + 0) (λ table r. f table r + g table r) none all (λ table r. refl) (λ table r. sym (both table r)) (counted_then old mid new none f none g a b)
 
 -- a row as it was
-pub counted_row : (old new : List RelationState) (m f : ℕ → TupleRef → ℕ) → AreCountedBy old new m f → (table : ℕ) (t : RelationState) (r : TupleRef) (now : Row) → slice_get new table ≡ Some t → finite.get t.rows r ≡ Some now
-    → (s : RelationState) × (row : Row) × (slice_get old table ≡ Some s) × (finite.get s.rows r ≡ Some row) × (now.referrers + f table r ≡ row.referrers + m table r)
-counted_row old new m f h table t r now here d =
+counted_row : (old new : List RelationState) (m f : ℕ → TupleRef → ℕ) → AreCountedBy old new m f → (table : ℕ) (t : RelationState) (r : TupleRef) → slice_get new table ≡ Some t → IsSome (finite.get t.rows r)
+    → (s : RelationState) × (slice_get old table ≡ Some s) × IsSome (finite.get s.rows r) × (referrers_at t.referrers r + f table r ≡ referrers_at s.referrers r + m table r)
+counted_row old new m f h table t r here held =
     let s = slice_get-inside old table (omega (arith, h.recounted.count, slice_get_within new table t here)) in
-    let before = recounted_before s.0 t r now (h.recounted.each table s.0 t s.1 here) d in
-    (s.0, before.0, s.1, before.1, h.counts table s.0 t r before.0 now s.1 here before.1 d)
+    (s.0, s.1, sym (ap (λ (u : RelationState). is_some (finite.get u.rows r)) (h.recounted.each table s.0 t s.1 here)) ∙ held, h.counts table s.0 t r s.1 here)
 
 -- what was counted is counted anew
 pub counted_up : (old new : List RelationState) (m count : ℕ → TupleRef → ℕ) → AreCountedBy old new m none → HaveReferrers old count → HaveReferrers new (λ table r. count table r + m table r)
-counted_up old new m count h counted table t r now here d =
-    let was = counted_row old new m none h table t r now here d in
-    omega (arith, was.4, counted table was.0 r was.1 was.2 was.3)
+counted_up old new m count h counted table t r here held =
+    let was = counted_row old new m none h table t r here held in
+    omega (arith, was.3, counted table was.0 r was.1 was.2)
 
 pub counted_down : (old new : List RelationState) (f count : ℕ → TupleRef → ℕ) → AreCountedBy old new none f → HaveReferrers old count → HaveReferrers new (λ table r. count table r - f table r)
-counted_down old new f count h counted table t r now here d =
-    let was = counted_row old new none f h table t r now here d in
-    omega (arith, was.4, counted table was.0 r was.1 was.2 was.3)
+counted_down old new f count h counted table t r here held =
+    let was = counted_row old new none f h table t r here held in
+    omega (arith, was.3, counted table was.0 r was.1 was.2)
 
 -- there is room left, and there are referrers enough left
 pub room_left : (old now : List RelationState) (m : ℕ → TupleRef → ℕ) (all n : ℕ) → AreCountedBy old now m none → ((table : ℕ) (r : TupleRef) → m table r + n ≤ all) → HaveRoom old all → HaveRoom now n
-room_left old now m all n h few room table t r row here d =
-    let was = counted_row old now m none h table t r row here d in
-    omega (arith, was.4, few table r, room table was.0 r was.1 was.2 was.3)
+room_left old now m all n h few room table t r here held =
+    let was = counted_row old now m none h table t r here held in
+    omega (arith, was.3, few table r, room table was.0 r was.1 was.2)
 
 pub enough_left : (old now : List RelationState) (f next all : ℕ → TupleRef → ℕ) → AreCountedBy old now none f → ((table : ℕ) (r : TupleRef) → f table r + next table r ≤ all table r) → HaveAtLeast old all → HaveAtLeast now next
-enough_left old now f next all h few enough table t r row here d =
-    let was = counted_row old now none f h table t r row here d in
-    omega (arith, was.4, few table r, enough table was.0 r was.1 was.2 was.3)
+enough_left old now f next all h few enough table t r here held =
+    let was = counted_row old now none f h table t r here held in
+    omega (arith, was.3, few table r, enough table was.0 r was.1 was.2)
 
 -- ---- one row
 
 -- the number of one row changes
-module _ (relations : List RelationState) (n : ℕ) (s t : RelationState) (to : TupleRef) (count : ℕ → ℕ) (m f : ℕ) (there : slice_get relations n ≡ Some s) (held : IsSome (finite.get s.rows to)) (refers : Refers s t to count) (changes : (row : Row) → finite.get s.rows to ≡ Some row → count row.referrers + f ≡ row.referrers + m) where
-  at_table : (r : TupleRef) (row now : Row) → finite.get s.rows r ≡ Some row → finite.get t.rows r ≡ Some now → now.referrers + f * naming ((n, to) ∷ []) n r ≡ row.referrers + m * naming ((n, to) ∷ []) n r
-  at_table r row now was is =
-      let found = held_tuple s.rows to held in
-      let other = with_referrers (count found.0.referrers) found.0 in
-      let rows = refers.rows found.0 found.1 in
+module _ (relations : List RelationState) (n : ℕ) (s t : RelationState) (to : TupleRef) (count m f : ℕ) (there : slice_get relations n ≡ Some s) (changed : t ≡ with_referrers s to count) (changes : count + f ≡ referrers_at s.referrers to + m) where
+  at_table : (r : TupleRef) → referrers_at t.referrers r + f * naming ((n, to) ∷ []) n r ≡ referrers_at s.referrers r + m * naming ((n, to) ∷ []) n r
+  at_table r =
+      let now : referrers_at t.referrers r ≡ referrers_at (finite.insert s.referrers to count) r = ap (λ (u : RelationState). referrers_at u.referrers r) changed in
       elim (same_or_other r to) [
         | inl itself ↦
-            let before : row ≡ found.0 = same_Some row found.0 (sym was ∙ ap (finite.get s.rows) itself ∙ found.1) in
-            let after : now ≡ other = same_Some now other (sym is ∙ ap (finite.get t.rows) itself ∙ ap (λ tuples. finite.get tuples to) rows ∙ get-insert_same s.rows to other) in
             let one : naming ((n, to) ∷ []) n r ≡ 1 = ap (naming ((n, to) ∷ []) n) itself ∙ naming_itself n to in
-            let had : row.referrers ≡ found.0.referrers = ap (λ (w : Row). w.referrers) before in
-            let has : now.referrers ≡ count found.0.referrers = ap (λ (w : Row). w.referrers) after in
+            let had : referrers_at s.referrers r ≡ referrers_at s.referrers to = ap (referrers_at s.referrers) itself in
+            let has : referrers_at (finite.insert s.referrers to count) r ≡ count = ap (referrers_at (finite.insert s.referrers to count)) itself ∙ ap (λ (o : Option ℕ). unwrap_or o 0) (get-insert_same s.referrers to count) in
             let up : m * naming ((n, to) ∷ []) n r ≡ m * 1 = ap (λ k. m * k) one in
             let down : f * naming ((n, to) ∷ []) n r ≡ f * 1 = ap (λ k. f * k) one in
-            omega (arith, up, down, had, has, changes found.0 found.1)
+            omega (arith, now, up, down, had, has, changes)
         | inr differs ↦
-            let alike : now ≡ row = same_Some now row (sym is ∙ ap (λ tuples. finite.get tuples r) rows ∙ get-insert_other s.rows to r other differs ∙ was) in
-            let same : row.referrers ≡ now.referrers = ap (λ (w : Row). w.referrers) (sym alike) in
+            let same : referrers_at (finite.insert s.referrers to count) r ≡ referrers_at s.referrers r = ap (λ (o : Option ℕ). unwrap_or o 0) (get-insert_other s.referrers to r count differs) in
             let up : m * naming ((n, to) ∷ []) n r ≡ m * 0 = ap (λ k. m * k) (naming_other_row n n r to differs) in
             let down : f * naming ((n, to) ∷ []) n r ≡ f * 0 = ap (λ k. f * k) (naming_other_row n n r to differs) in
-            omega (arith, up, down, same)
+            omega (arith, now, up, down, same)
       ]
 
   pub counted_one : All IsKept relations → IsKept t → AreCountedBy relations (set relations n t) (λ table r. m * naming ((n, to) ∷ []) table r) (λ table r. f * naming ((n, to) ∷ []) table r)
   counted_one kept now_kept = record {
-    recounted = AreRecounted-set relations n s t there (IsRecounted-refers s t to count held refers);
+    recounted = AreRecounted-set relations n s t there (IsRecounted-with s t to count changed);
     kept = All-set IsKept relations n t now_kept kept;
-    counts = λ table u v r row now at here e d.
-        elim (cases_eq table n) [
-          | inl same ↦
-              let first : u ≡ s = same_Some u s (sym at ∙ ap (slice_get relations) same ∙ there) in
-              let second : v ≡ t = same_Some v t (sym here ∙ ap (slice_get (set relations n t)) same ∙ slice_get_set relations n t (slice_get_within relations n s there)) in
-              subst (λ k. now.referrers + f * naming ((n, to) ∷ []) k r ≡ row.referrers + m * naming ((n, to) ∷ []) k r) (sym same)
-              (at_table r row now (ap (λ (w : RelationState). finite.get w.rows r) (sym first) ∙ e) (ap (λ (w : RelationState). finite.get w.rows r) (sym second) ∙ d))
-          | inr other ↦
-              let alike : u ≡ v = same_Some u v (sym at ∙ sym (slice_get-set_other relations n table t other) ∙ here) in
-              let one : row ≡ now = same_Some row now (sym e ∙ ap (λ (w : RelationState). finite.get w.rows r) alike ∙ d) in
-              let same : row.referrers ≡ now.referrers = ap (λ (w : Row). w.referrers) one in
-              let up : m * naming ((n, to) ∷ []) table r ≡ m * 0 = ap (λ k. m * k) (naming_other_table table n r to other) in
-              let down : f * naming ((n, to) ∷ []) table r ≡ f * 0 = ap (λ k. f * k) (naming_other_table table n r to other) in
-              omega (arith, up, down, same)
-        ];
+    counts = λ table u v r at here. elim (cases_eq table n) [
+      | inl same ↦
+          let was : referrers_at u.referrers r ≡ referrers_at s.referrers r = ap (λ (w : RelationState). referrers_at w.referrers r) (same_Some u s (sym at ∙ ap (slice_get relations) same ∙ there)) in
+          let now : referrers_at v.referrers r ≡ referrers_at t.referrers r =
+          ap (λ (w : RelationState). referrers_at w.referrers r) (same_Some v t (sym here ∙ ap (slice_get (set relations n t)) same ∙ slice_get_set relations n t (slice_get_within relations n s there))) in
+          subst (λ k. referrers_at v.referrers r + f * naming ((n, to) ∷ []) k r ≡ referrers_at u.referrers r + m * naming ((n, to) ∷ []) k r) (sym same) (omega (arith, was, now, at_table r))
+      | inr other ↦
+          let alike : referrers_at u.referrers r ≡ referrers_at v.referrers r =
+          ap (λ (w : RelationState). referrers_at w.referrers r) (same_Some u v (sym at ∙ sym (slice_get-set_other relations n table t other) ∙ here)) in
+          let up : m * naming ((n, to) ∷ []) table r ≡ m * 0 = ap (λ k. m * k) (naming_other_table table n r to other) in
+          let down : f * naming ((n, to) ∷ []) table r ≡ f * 0 = ap (λ k. f * k) (naming_other_table table n r to other) in
+          omega (arith, up, down, alike)
+    ];
   }
 
 -- ---- the links of a row, column by column

@@ -1,5 +1,6 @@
 -- A catalog of one table more.
 use Rattle.std.proofs.Common.{◌≡◌, ℕ, suc, ◌+◌, ◌<◌, Bool, true, false, List, [], ◌∷◌, ◌++◌, Option, Some, None, is_some, refl, sym, ap, ◌∙◌, subst, arith, length, map, take, get_or, append-nil, length-append, inl, inr}
+use Rattle.part_raw.proofs.Tuples.{held_tuple}
 use Rattle.std.specs.List.{All, slice_get, list_any, position, flat_map, zip, count_by}
 use Rattle.std.specs.Option.{option_and_then, option_map_or}
 use Rattle.std.specs.Str.{bytes_eq}
@@ -139,11 +140,12 @@ module _ (c : CatalogState) (ok : IsConsistent c) where
     counts-more table r = ap (count_by (is_link_to table r)) links-more
 
     counted_more : AreCounted now
-    counted_more table s r row at e = elim (cases_lt table (length c.relations)) [
-      | inl below ↦ ok.counted table s r row (sym (slice_get-front c.relations (new ∷ []) table below) ∙ at) e ∙ sym (counts-more table r)
+    counted_more table s r at held = elim (cases_lt table (length c.relations)) [
+      | inl below ↦ ok.counted table s r (sym (slice_get-front c.relations (new ∷ []) table below) ∙ at) held ∙ sym (counts-more table r)
       | inr behind ↦
           let last = slice_get-last c.relations new table s behind at in
-          absurd (no_row r row (ap (λ (t : RelationState). finite.get t.rows r) last ∙ e))
+          let row = held_tuple s.rows r held in
+          absurd (no_row r row.0 (ap (λ (t : RelationState). finite.get t.rows r) last ∙ row.1))
     ]
 
     pub database_more : database_of grown ≡ database_of c ++ new_table name schema ∷ []

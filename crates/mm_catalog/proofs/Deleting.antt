@@ -27,7 +27,7 @@ use Rattle.plain_tables.specs.declared.value.Value.{Value}
 use Rattle.plain_tables.proofs.RowLemmas.{key_cmp_total}
 use Rattle.plain_tables.proofs.SoundLemmas.{delete_keeps_sound}
 use Rattle.plain_tables.proofs.ValueLemmas.{value_cmp-exact}
-use Rattle.mm_relation.specs.Rows.{Row}
+use Rattle.mm_relation.specs.Rows.{Row, referrers_at}
 use Rattle.mm_relation.specs.Reading.{Keys, key_at}
 use Rattle.mm_relation.specs.State.{tree_list, RelationState, IsKept, IsCurrent, linked_keys}
 use Rattle.mm_catalog.specs.State.{CatalogState}
@@ -39,7 +39,7 @@ use Rattle.mm_catalog.specs.Picked.{ArePicked}
 use Rattle.mm_catalog.specs.Recounted.{HaveReferrers, IsRewritten}
 use Rattle.mm_catalog.specs.Deleted.{AreDeleted, AreRemoved, AreUnlinked, AllFree, AnyReferenced, IsFree, IsReferenced}
 use Rattle.mm_catalog.proofs.Lists.{get-take}
-use Rattle.mm_catalog.proofs.Declared.{among_at, named_at}
+use Rattle.mm_catalog.proofs.Among.{among_at, named_at}
 use Rattle.mm_catalog.proofs.Elsewhere.{rewritten_from, kept_from, counted_from, current_beside_old, consistent_rewritten, database_rewritten}
 use Rattle.mm_catalog.proofs.Counted.{counted_down}
 use Rattle.mm_catalog.proofs.Referrers.{some_columns, not_referenced, referenced}
@@ -117,7 +117,7 @@ module _ (c : CatalogState) (ok : IsConsistent c) where
           let here : IsSome (get s.rows q.0) = All-contains (λ r. IsSome (get s.rows r)) (tree_list s.by_key) q.0 (among_at c ok n.0 s there).kept.keyed.lists.held q.1 in
           let row = held_tuple s.rows q.0 here in
           let chosen : Contains refs q.0 = (picking q.0 here).1 (subst (λ w. IsTrue (picks w)) (sym q.2) from.1) in
-          let zero : row.0.referrers ≡ 0 = All-contains (IsFree s) refs q.0 free chosen row.0 row.1 in
+          let zero : referrers_at s.referrers q.0 ≡ 0 = All-contains (IsFree s) refs q.0 free chosen in
           ap (is_referenced (database_of c) name) (sym q.2 ∙ seen_row q.0 row.0 row.1)
           ∙ not_referenced c ok n.0 name s q.0 row.0 named there row.1 zero)
 
@@ -154,7 +154,7 @@ module _ (c : CatalogState) (ok : IsConsistent c) where
       rewritten : IsRewritten c.relations joined n.0 s a
       rewritten =
           rewritten_from c.relations front n.0 s a there unlinked.counted.recounted removed.keeps
-          (λ r row at some. ap (option_and_then (λ (x : Row). Some x.key)) (removed.others r (λ h. let zero = All-contains (IsFree s) refs r free h row at in absurd (omega (arith, zero, some)))))
+          (λ r held some. ap (option_and_then (λ (x : Row). Some x.key)) (removed.others r (λ h. let zero : referrers_at s.referrers r ≡ 0 = All-contains (IsFree s) refs r free h in absurd (omega (arith, zero, some)))))
 
       front_length : length front ≡ n.0
       front_length = omega (arith, unlinked.counted.recounted.count, length-take n.0 c.relations, slice_get_within c.relations n.0 s there)
@@ -162,9 +162,9 @@ module _ (c : CatalogState) (ok : IsConsistent c) where
       counted_front : HaveReferrers front (λ table r. links_to c.relations table r - unlinked.fewer table r)
       counted_front =
           counted_down (take n.0 c.relations) front unlinked.fewer (links_to c.relations) unlinked.counted
-          (λ table t r row at here.
+          (λ table t r at here.
           let below : table < n.0 = omega (arith, slice_get_within (take n.0 c.relations) table t at, length-take n.0 c.relations) in
-          ok.counted table t r row (sym (get-take c.relations n.0 table below) ∙ at) here)
+          ok.counted table t r (sym (get-take c.relations n.0 table below) ∙ at) here)
 
       some_of_all : (table : ℕ) (r : TupleRef) → count_by (is_link_to table r) (relation_links s) ≤ links_to c.relations table r
       unfolding links_to
@@ -174,7 +174,9 @@ module _ (c : CatalogState) (ok : IsConsistent c) where
       counted =
           counted_from c ok n.0 front s a rewritten front_length (λ table r. links_to c.relations table r - unlinked.fewer table r) counted_front
           (λ table r below. omega (arith, unlinked.links table r, some_of_all table r))
-          (λ r row at. ok.counted n.0 s r row there (before_at r row at))
+          (λ r here.
+          let row = held_tuple a.rows r here in
+          removed.counts r (λ h. none-some row.0 (sym (removed.gone r h) ∙ row.1)) ∙ ok.counted n.0 s r there (ap is_some (before_at r row.0 row.1)))
 
       module _ (picks : List Value → Bool) (picking : PicksThese keys s refs picks) where
         name : List ℕ

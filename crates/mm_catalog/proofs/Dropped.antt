@@ -1,5 +1,5 @@
 -- A catalog of one table less, to which no column refers.
-use Rattle.std.proofs.Common.{◌≡◌, ◌≢◌, ℕ, zero, suc, ◌+◌, ◌-◌, ◌<◌, false, List, [], ◌∷◌, ◌++◌, Option, Some, None, IsSome, refl, sym, ap, ◌∙◌, subst, arith, length, map, get_or}
+use Rattle.std.proofs.Common.{◌≡◌, ◌≢◌, ℕ, zero, suc, ◌+◌, ◌-◌, ◌<◌, false, List, [], ◌∷◌, ◌++◌, Option, Some, None, IsSome, refl, sym, ap, ◌∙◌, subst, arith, length, map, get_or, is_some}
 use Rattle.std.specs.List.{All, slice_get, remove, list_any, position, zip, flat_map, count_by}
 use Rattle.std.specs.Option.{option_and_then, option_map, option_map_or}
 use Rattle.std.specs.Str.{bytes_eq}
@@ -18,7 +18,7 @@ use Rattle.part_raw.specs.declared.tuple_ref.TupleRef.{TupleRef}
 use Rattle.plain_tables.specs.Tables.{Table}
 use Rattle.plain_tables.specs.References.{referred, refers_to, is_table_referenced, IsSound}
 use Rattle.plain_tables.specs.declared.schema.Column.{Column}
-use Rattle.mm_relation.specs.Rows.{Row}
+use Rattle.mm_relation.specs.Rows.{Row, referrers_at}
 use Rattle.mm_relation.specs.State.{RelationState, IsKept, IsCurrent, linked_keys}
 use Rattle.mm_catalog.specs.State.{CatalogState}
 use Rattle.mm_catalog.specs.Seen.{database_of, table_of, rows_of, plain_index}
@@ -27,11 +27,11 @@ use Rattle.mm_catalog.specs.Consistent.{IsAmong, IsConsistent, AreCounted}
 use Rattle.mm_catalog.specs.Recounted.{IsRecounted, AreRecounted}
 use Rattle.mm_catalog.specs.Dropped.{moved_up, renumbered}
 use Rattle.mm_catalog.proofs.Tables.{database-get}
-use Rattle.mm_catalog.proofs.Recounting.{row_before, current_recounted, rows_recounted, links_recounted}
+use Rattle.mm_catalog.proofs.Recounting.{current_recounted, rows_recounted, links_recounted}
 use Rattle.mm_catalog.proofs.Removing.{recounted_keys}
 use Rattle.mm_catalog.proofs.Gone.{moved_back, moved_back-other, moved_up-back, moved_up-injective, get-removed, position-remove}
 use Rattle.mm_catalog.proofs.Renumbered.{less_one, LeadElsewhere, target_at-map, keys_renumbered, kept_renumbered, current_renumbered, links_less_one, database-dropped}
-use Rattle.mm_catalog.proofs.Declared.{among_at}
+use Rattle.mm_catalog.proofs.Among.{among_at}
 use Rattle.mm_catalog.proofs.Back.{has_name}
 
 -- ---- relations that are recounted
@@ -65,10 +65,10 @@ module _ (c : CatalogState) (new : List RelationState) (h : AreRecounted c.relat
   unfolding table_of
   table_recounted k name s t e =
       let keys : linked_keys t.targets new ≡ linked_keys s.targets c.relations =
-      ap (λ targets. linked_keys targets new) (ap (λ (r : RelationState). r.targets) e.same) ∙ recounted_keys s.targets c.relations new h in
+      ap (λ targets. linked_keys targets new) (ap (λ (r : RelationState). r.targets) e) ∙ recounted_keys s.targets c.relations new h in
       let rows : rows_of (linked_keys t.targets new) t ≡ rows_of (linked_keys s.targets c.relations) s =
       ap (λ k. rows_of k t) keys ∙ rows_recounted s t e (linked_keys s.targets c.relations) in
-      λ j. record { name = name; columns = (e.same j).schema.columns; indexes = map plain_index (e.same j).declared; rows = rows j }
+      λ j. record { name = name; columns = (e j).schema.columns; indexes = map plain_index (e j).declared; rows = rows j }
 
   database-recounted : database_of (record c { relations = new }) ≡ database_of c
   unfolding database_of
@@ -121,7 +121,7 @@ module _ (c : CatalogState) (ok : IsConsistent c) (n : ℕ) (gone : List ℕ) (c
       found_elsewhere c.names n gone (referred col.0.kind) called (All-at (λ x. refers_to gone x ≡ false) s.schema.columns column col.0 (fails_where_none (refers_to gone) s.schema.columns (none_refer k s there)) col.1) t col.2
 
   -- its rows' links are no more counted
-  module _ (counted : List RelationState) (s : RelationState) (there : slice_get c.relations n ≡ Some s) (h : AreRecounted c.relations counted) (kept : All IsKept counted) (fewer : (k : ℕ) (t : RelationState) (r : TupleRef) (row : Row) → k ≢ n → slice_get counted k ≡ Some t → finite.get t.rows r ≡ Some row → row.referrers ≡ links_to c.relations k r - count_by (is_link_to k r) (relation_links s)) where
+  module _ (counted : List RelationState) (s : RelationState) (there : slice_get c.relations n ≡ Some s) (h : AreRecounted c.relations counted) (kept : All IsKept counted) (fewer : (k : ℕ) (t : RelationState) (r : TupleRef) → k ≢ n → slice_get counted k ≡ Some t → IsSome (finite.get t.rows r) → referrers_at t.referrers r ≡ links_to c.relations k r - count_by (is_link_to k r) (relation_links s)) where
     abbrev less : List RelationState
     less = less_one counted n
 
@@ -136,24 +136,21 @@ module _ (c : CatalogState) (ok : IsConsistent c) (n : ℕ) (gone : List ℕ) (c
     elsewhere_still : (k : ℕ) (t : RelationState) → slice_get counted k ≡ Some t → LeadElsewhere t.targets n
     elsewhere_still k t at =
         let u = before k t at in
-        subst (λ targets. LeadElsewhere targets n) (sym (ap (λ (r : RelationState). r.targets) u.2.same)) (elsewhere k u.0 u.1)
+        subst (λ targets. LeadElsewhere targets n) (sym (ap (λ (r : RelationState). r.targets) u.2)) (elsewhere k u.0 u.1)
 
     linked_left : (k : ℕ) (t : RelationState) → slice_get counted k ≡ Some t → (r : TupleRef) (row : Row) → finite.get t.rows r ≡ Some row → HasLinksOrNulls (map (option_map (moved_up n)) t.targets) row
     linked_left k t at r row e column value behind leads held =
         let u = before k t at in
-        let old = row_before u.0 t u.2 r row e in
-        let cells : row.cells ≡ old.0.cells = ap (λ (w : Row). w.cells) old.2 in
         let some : IsSome (target_at t.targets column) = some_before (moved_up n) (target_at t.targets column) (subst IsSome (target_at-map (moved_up n) t.targets column) leads) in
-        (among_at c ok k u.0 u.1).linked r old.0 old.1 column value behind
-        (subst (λ targets. IsSome (target_at targets column)) (ap (λ (r : RelationState). r.targets) u.2.same) some)
-        (ap (λ cells. slice_get cells (column - 1)) (sym cells) ∙ held)
+        (among_at c ok k u.0 u.1).linked r row (ap (λ (w : RelationState). finite.get w.rows r) (sym u.2) ∙ e) column value behind
+        (subst (λ targets. IsSome (target_at targets column)) (ap (λ (r : RelationState). r.targets) u.2) some) held
 
     among_left : (k : ℕ) (t : RelationState) → slice_get counted k ≡ Some t → IsAmong (remove c.names n) less (renumbered n t)
     among_left k t at =
         let u = before k t at in
         let a = among_at c ok k u.0 u.1 in
-        let targets : t.targets ≡ u.0.targets = ap (λ (r : RelationState). r.targets) u.2.same in
-        let columns : t.schema.columns ≡ u.0.schema.columns = ap (λ (r : RelationState). r.schema.columns) u.2.same in
+        let targets : t.targets ≡ u.0.targets = ap (λ (r : RelationState). r.targets) u.2 in
+        let columns : t.schema.columns ≡ u.0.schema.columns = ap (λ (r : RelationState). r.schema.columns) u.2 in
         let keys : linked_keys (map (option_map (moved_up n)) t.targets) less ≡ linked_keys u.0.targets c.relations =
         keys_renumbered counted n t.targets (elsewhere_still k t at) ∙ recounted_keys t.targets c.relations counted h ∙ ap (λ ts. linked_keys ts c.relations) targets in
         record {
@@ -167,7 +164,7 @@ module _ (c : CatalogState) (ok : IsConsistent c) (n : ℕ) (gone : List ℕ) (c
               (sym (slice_get-map (renumbered n) (remove counted n) table ∙ ap (option_map (renumbered n)) (get-removed counted n table)) ∙ here) in
               let same : moved_back n table ≡ old.0 = moved_up-injective n (moved_back n table) old.0 (moved_back-other n table) (elsewhere_still k t at column old.0 old.1) (moved_up-back n table ∙ sym old.2) in
               let was = before old.0 from.0 (ap (slice_get counted) (sym same) ∙ from.1) in
-              ap (λ (r : RelationState). r.counted) (sym from.2) ∙ ap (λ (r : RelationState). r.counted) was.2.same
+              ap (λ (r : RelationState). r.counted) (sym from.2) ∙ ap (λ (r : RelationState). r.counted) was.2
               ∙ a.counted column old.0 was.0 (ap (λ ts. target_at ts column) (sym targets) ∙ old.1) was.1;
           linked = linked_left k t at;
           current = current_renumbered n (linked_keys (map (option_map (moved_up n)) t.targets) less) t
@@ -175,20 +172,21 @@ module _ (c : CatalogState) (ok : IsConsistent c) (n : ℕ) (gone : List ℕ) (c
         }
 
     counted_left : AreCounted less
-    counted_left k v r row at e =
+    counted_left k v r at held =
         let j = moved_back n k in
         let t = slice_get-inside counted n (omega (arith, h.count, slice_get_within c.relations n s there)) in
         let from = option_map_some (renumbered n) (slice_get counted j) v
         (sym (slice_get-map (renumbered n) (remove counted n) k ∙ ap (option_map (renumbered n)) (get-removed counted n k)) ∙ at) in
-        let had : row.referrers ≡ links_to c.relations j r - count_by (is_link_to j r) (relation_links s) =
-        fewer j from.0 r row (moved_back-other n k) from.1 (ap (λ (w : RelationState). finite.get w.rows r) from.2 ∙ e) in
+        let same_number : referrers_at from.0.referrers r ≡ referrers_at v.referrers r = ap (λ (w : RelationState). referrers_at w.referrers r) from.2 in
+        let had : referrers_at from.0.referrers r ≡ links_to c.relations j r - count_by (is_link_to j r) (relation_links s) =
+        fewer j from.0 r (moved_back-other n k) from.1 (ap (λ (w : RelationState). is_some (finite.get w.rows r)) from.2 ∙ held) in
         let all : links_to counted j r ≡ links_to less (moved_up n j) r + count_by (is_link_to j r) (relation_links t.0) =
         links_less_one n j r (moved_back-other n k) counted t.0 t.1 elsewhere_still in
         let same : links_to counted j r ≡ links_to c.relations j r = count-recounted c counted h j r in
         let its : count_by (is_link_to j r) (relation_links t.0) ≡ count_by (is_link_to j r) (relation_links s) =
         ap (count_by (is_link_to j r)) (links_recounted s t.0 (h.each n s t.0 there t.1)) in
         let place : links_to less (moved_up n j) r ≡ links_to less k r = ap (λ m. links_to less m r) (moved_up-back n k) in
-        omega (arith, had, all, same, its, place)
+        omega (arith, same_number, had, all, same, its, place)
 
     pub database_left : database_of left ≡ remove (database_of c) n
     database_left =

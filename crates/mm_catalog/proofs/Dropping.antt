@@ -1,5 +1,5 @@
 -- A table that goes from a catalog: first the links of its rows, then the table, then the numbers of those behind it.
-use Rattle.std.proofs.Common.{◌≡◌, ◌≢◌, ℕ, zero, suc, ◌-◌, ◌<◌, ◌≤◌, false, List, [], ◌∷◌, ◌++◌, Option, Some, None, refl, sym, ap, ◌∙◌, subst, arith, length, map, take, drop, get_or, length-append, inl, inr}
+use Rattle.std.proofs.Common.{◌≡◌, ◌≢◌, ℕ, zero, suc, ◌-◌, ◌<◌, ◌≤◌, false, List, [], ◌∷◌, ◌++◌, Option, Some, None, IsSome, refl, sym, ap, ◌∙◌, subst, arith, length, map, take, drop, get_or, length-append, inl, inr}
 use Rattle.std.specs.List.{All, slice_get, remove, count_by}
 use Rattle.std.specs.Option.{option_and_then, option_map}
 use Rattle.std.specs.FinMap as finite
@@ -16,7 +16,7 @@ use Rattle.plain_tables.specs.ResolvedLaws.{IsMeant}
 use Rattle.plain_tables.specs.declared.numbers.TableNumber.{TableNumber}
 use Rattle.plain_tables.specs.declared.resolved.Resolved.TheVariants as resolved
 use Rattle.plain_tables.proofs.SoundLemmas.{done_keeps_sound}
-use Rattle.mm_relation.specs.Rows.{Row}
+use Rattle.mm_relation.specs.Rows.{referrers_at}
 use Rattle.mm_relation.specs.State.{RelationState, IsKept}
 use Rattle.mm_catalog.specs.State.{CatalogState}
 use Rattle.mm_catalog.specs.Seen.{database_of, table_of}
@@ -29,7 +29,7 @@ use Rattle.mm_catalog.specs.Dropped.{moved_up, renumbered, IsUnlinked}
 use Rattle.mm_catalog.proofs.Lists.{get-take}
 use Rattle.mm_catalog.proofs.Outlines.{LeadBack}
 use Rattle.mm_catalog.proofs.Back.{lead_back}
-use Rattle.mm_catalog.proofs.Declared.{there_at, table_at}
+use Rattle.mm_catalog.proofs.Among.{there_at, table_at}
 use Rattle.mm_catalog.proofs.Elsewhere.{relation_leads}
 use Rattle.mm_catalog.proofs.Counted.{IsRecounted-refl, counted_down}
 use Rattle.mm_catalog.proofs.Gone.{moved_up-before, moved_back-before, get-removed}
@@ -101,14 +101,14 @@ module _ (c : CatalogState) (ok : IsConsistent c) (number : TableNumber) (meant 
     kept_unlinked : All IsKept unlinked
     kept_unlinked = subst (All IsKept) (sym h.list) (All-append IsKept h.front (drop n c.relations) h.counted.kept (All-drop IsKept n c.relations all_kept))
 
-    fewer : (k : ℕ) (t : RelationState) (r : TupleRef) (row : Row) → k ≢ n → slice_get unlinked k ≡ Some t → finite.get t.rows r ≡ Some row → row.referrers ≡ links_to c.relations k r - count_by (is_link_to k r) (relation_links h.relation)
-    fewer k t r row other at e = elim (cases_lt k n) [
+    fewer : (k : ℕ) (t : RelationState) (r : TupleRef) → k ≢ n → slice_get unlinked k ≡ Some t → IsSome (finite.get t.rows r) → referrers_at t.referrers r ≡ links_to c.relations k r - count_by (is_link_to k r) (relation_links h.relation)
+    fewer k t r other at held = elim (cases_lt k n) [
       | inl below ↦
           counted_down (take n c.relations) h.front (naming (relation_links h.relation)) (links_to c.relations) h.counted
-          (λ table s q had there held. ok.counted table s q had (get-taken c.relations n table s there).1 held)
-          k t r row (sym (get-before k below) ∙ at) e
+          (λ table s q there had. ok.counted table s q (get-taken c.relations n table s there).1 had)
+          k t r (sym (get-before k below) ∙ at) held
       | inr past ↦
-          let had = ok.counted k t r row (sym (get-behind k past) ∙ at) e in
+          let had = ok.counted k t r (sym (get-behind k past) ∙ at) held in
           omega (arith, had, relation_leads h.relation n (lead_back c ok n h.relation h.there) k r past)
     ]
 
@@ -128,7 +128,7 @@ module _ (c : CatalogState) (ok : IsConsistent c) (number : TableNumber) (meant 
         let there = get-taken others n k s at in
         let here : slice_get unlinked k ≡ Some s = ap (slice_get unlinked) (sym (moved_back-before n k there.0)) ∙ sym (get-removed unlinked n k) ∙ there.1 in
         let old = slice_get-inside c.relations k (omega (arith, there.0, within)) in
-        let targets : s.targets ≡ old.0.targets = ap (λ (r : RelationState). r.targets) (recounted.each k old.0 s old.1 here).same in
+        let targets : s.targets ≡ old.0.targets = ap (λ (r : RelationState). r.targets) (recounted.each k old.0 s old.1 here) in
         let back : LeadBack s.targets n = λ column t e.
         omega (arith, there.0, lead_back c ok k old.0 old.1 column t (subst (λ ts. target_at ts column ≡ Some t) targets e)) in
         ap (λ ts. record s { targets = ts }) (targets_stay n s.targets back)

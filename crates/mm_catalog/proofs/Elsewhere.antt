@@ -1,5 +1,5 @@
 -- A catalog of which one relation's rows change and others are recounted: what it shows, and that it stays consistent.
-use Rattle.std.proofs.Common.{◌≡◌, ◌≢◌, ℕ, zero, suc, ◌+◌, ◌-◌, ◌<◌, ◌≤◌, ◌==◌, Bool, false, cond, List, [], ◌∷◌, ◌++◌, Option, Some, None, IsSome, refl, sym, ap, ◌∙◌, subst, arith, length, map, set, take, drop, get_or, length-append, length-set, length-take, length-drop, inl, inr}
+use Rattle.std.proofs.Common.{◌≡◌, ◌≢◌, ℕ, zero, suc, ◌+◌, ◌<◌, ◌≤◌, ◌==◌, Bool, false, cond, List, [], ◌∷◌, ◌++◌, Option, Some, None, IsSome, is_some, refl, sym, ap, ◌∙◌, subst, arith, length, map, set, take, drop, get_or, length-append, length-set, length-take, length-drop, inl, inr}
 use Rattle.std.specs.List.{All, count_by, flat_map, range_with_len, slice_get, zip}
 use Rattle.std.specs.Option.{option_and_then, option_map_or}
 use Rattle.std.specs.FinMap.{get}
@@ -18,7 +18,7 @@ use Rattle.plain_tables.specs.declared.schema.Schema.{Schema}
 use Rattle.plain_tables.specs.declared.value.Value.{Value}
 use Rattle.mm_relation.specs.Agreement.{stays_current, reads_alike}
 use Rattle.mm_relation.specs.Changes.{KeepsSchema}
-use Rattle.mm_relation.specs.Rows.{Row}
+use Rattle.mm_relation.specs.Rows.{Row, referrers_at}
 use Rattle.mm_relation.specs.Reading.{Keys, AgreeOnLinks, key_at, link_in, row_value}
 use Rattle.mm_relation.specs.State.{tree_list, RelationState, IsKept, IsCurrent, linked_keys}
 use Rattle.mm_catalog.specs.State.{CatalogState}
@@ -30,9 +30,9 @@ use Rattle.mm_catalog.specs.Recounted.{IsRecounted, AreRecounted, HaveReferrers,
 use Rattle.mm_catalog.proofs.Lists.{get-take}
 use Rattle.mm_catalog.proofs.Outlines.{LeadBack, keys_before}
 use Rattle.mm_catalog.proofs.Back.{lead_back}
-use Rattle.mm_catalog.proofs.Recounting.{row_before, key_recounted, current_recounted, rows_recounted, links_recounted}
+use Rattle.mm_catalog.proofs.Recounting.{key_recounted, current_recounted, links_recounted}
 use Rattle.mm_catalog.proofs.LinksHeld.{link_there, link_held, link_counted}
-use Rattle.mm_catalog.proofs.Declared.{among_at}
+use Rattle.mm_catalog.proofs.Among.{among_at}
 use Rattle.mm_catalog.proofs.Counted.{IsRecounted-refl}
 use Rattle.mm_catalog.proofs.Anywhere.{none_counted}
 use Rattle.mm_catalog.proofs.RowLinks.{each_link, link_parts}
@@ -57,7 +57,7 @@ length-joined before xs n a e l =
     omega (arith, e, l, both, rest, behind)
 
 -- the relations before one, recounted; that one, another; and those behind it
-pub rewritten_from : (old before : List RelationState) (n : ℕ) (b a : RelationState) → slice_get old n ≡ Some b → AreRecounted (take n old) before → KeepsSchema b a → ((r : TupleRef) (row : Row) → get b.rows r ≡ Some row → 0 < row.referrers → key_at a.rows r ≡ key_at b.rows r) → IsRewritten old (before ++ set (drop n old) 0 a) n b a
+pub rewritten_from : (old before : List RelationState) (n : ℕ) (b a : RelationState) → slice_get old n ≡ Some b → AreRecounted (take n old) before → KeepsSchema b a → ((r : TupleRef) → IsSome (get b.rows r) → 0 < referrers_at b.referrers r → key_at a.rows r ≡ key_at b.rows r) → IsRewritten old (before ++ set (drop n old) 0 a) n b a
 rewritten_from old before n b a there counts keeps keys =
     let within = slice_get_within old n b there in
     let front : length before ≡ n = let taken = length-take n old in omega (arith, within, counts.count, taken) in
@@ -175,12 +175,12 @@ module _ (c : CatalogState) (ok : IsConsistent c) (n : ℕ) (new : List Relation
       ap (key_in to) v.1 ∙ key_recounted u v.0 (h.others table u v.0 other at v.1) to ∙ ap (key_in to) (sym at)
 
   -- a row with referrers has the key that it had
-  same_key : (table : ℕ) (u : RelationState) (to : TupleRef) (named : Row) → slice_get c.relations table ≡ Some u → get u.rows to ≡ Some named → 0 < named.referrers → key_in to (slice_get new table) ≡ key_in to (slice_get c.relations table)
-  same_key table u to named at held some = elim (cases_eq table n) [
+  same_key : (table : ℕ) (u : RelationState) (to : TupleRef) → slice_get c.relations table ≡ Some u → IsSome (get u.rows to) → 0 < referrers_at u.referrers to → key_in to (slice_get new table) ≡ key_in to (slice_get c.relations table)
+  same_key table u to at held some = elim (cases_eq table n) [
     | inl e ↦
         let same : u ≡ b = same_Some u b (sym at ∙ ap (slice_get c.relations) e ∙ h.there) in
         ap (λ m. key_in to (slice_get new m)) e ∙ ap (key_in to) h.here
-        ∙ h.keys to named (subst (λ (s : RelationState). get s.rows to ≡ Some named) same held) some
+        ∙ h.keys to (subst (λ (s : RelationState). IsSome (get s.rows to)) same held) (subst (λ (s : RelationState). 0 < referrers_at s.referrers to) same some)
         ∙ ap (λ (s : RelationState). key_at s.rows to) (sym same) ∙ ap (key_in to) (sym at)
     | inr other ↦ same_key_other table u to other at
   ]
@@ -193,8 +193,8 @@ module _ (c : CatalogState) (ok : IsConsistent c) (n : ℕ) (new : List Relation
         | Some table ↦ λ e.
             let named = link_held c ok k s r row column table to at held e link in
             let some = link_counted c ok k s r row column table to at held e link in
-            let counted = ok.counted table named.0 to named.1 named.2 named.3 in
-            same_key table named.0 to named.1 named.2 named.3 (omega (arith, some, counted))
+            let there = ap is_some named.3 in
+            same_key table named.0 to named.2 there (omega (arith, some, ok.counted table named.0 to named.2 there))
       ] refl
 
   -- the keys of the relations before are those that they were
@@ -224,13 +224,10 @@ module _ (c : CatalogState) (ok : IsConsistent c) (n : ℕ) (new : List Relation
 
   -- a relation that is recounted at most shows the rows that it showed
   table_again : (k : ℕ) (name : List ℕ) (s t : RelationState) → slice_get c.relations k ≡ Some s → IsRecounted s t → table_of new name t ≡ table_of c.relations name s
-  unfolding table_of
+  unfolding table_of rows_of
   table_again k name s t at counts =
-      let now = linked_keys s.targets new in
-      let rows : rows_of now (record s { rows = t.rows }) ≡ rows_of (linked_keys s.targets c.relations) s =
-      ap (rows_of now) (sym counts.same) ∙ rows_recounted s t counts now ∙ shown_alike (linked_keys s.targets c.relations) now s (agree k s at) in
-      ap (table_of new name) counts.same
-      ∙ (λ i. record { name = name; columns = s.schema.columns; indexes = map plain_index s.declared; rows = rows i })
+      ap (table_of new name) counts
+      ∙ (λ i. record { name = name; columns = s.schema.columns; indexes = map plain_index s.declared; rows = shown_alike (linked_keys s.targets c.relations) (linked_keys s.targets new) s (agree k s at) i })
 
   table_here : (name : List ℕ) → table_of new name a ≡ table_of c.relations name a
   unfolding table_of
@@ -263,23 +260,21 @@ module _ (c : CatalogState) (ok : IsConsistent c) (n : ℕ) (new : List Relation
         (b, ap (slice_get c.relations) e ∙ h.there, ap (λ (r : RelationState). r.counted) (sym same) ∙ h.keeps.counted)
     | inr other ↦
         let u = old_at table t at in
-        (u.0, u.1, ap (λ (r : RelationState). r.counted) (h.others table u.0 t other u.1 at).same)
+        (u.0, u.1, ap (λ (r : RelationState). r.counted) (h.others table u.0 t other u.1 at))
   ]
 
   among_other : (k : ℕ) (s t : RelationState) → slice_get c.relations k ≡ Some s → IsRecounted s t → IsKept t → IsAmong c.names new t
   among_other k s t at counts kept =
       let old = among_at c ok k s at in
-      let targets : t.targets ≡ s.targets = ap (λ (r : RelationState). r.targets) counts.same in
+      let targets : t.targets ≡ s.targets = ap (λ (r : RelationState). r.targets) counts in
       record {
         kept = kept;
-        targets = targets ∙ old.targets ∙ ap (λ (r : RelationState). map (target_of c.names) r.schema.columns) (sym counts.same);
+        targets = targets ∙ old.targets ∙ ap (λ (r : RelationState). map (target_of c.names) r.schema.columns) (sym counts);
         counted = λ column table u e at.
             let was = counted_at table u at in
             was.2 ∙ old.counted column table was.0 (ap (λ ts. target_at ts column) (sym targets) ∙ e) was.1;
         linked = λ r row e column value behind leads cell.
-            let was = row_before s t counts r row e in
-            old.linked r was.0 was.1 column value behind (subst (λ ts. IsSome (target_at ts column)) targets leads)
-            (ap (λ (u : Row). slice_get u.cells (column - 1)) (sym was.2) ∙ cell);
+            old.linked r row (ap (λ (u : RelationState). get u.rows r) (sym counts) ∙ e) column value behind (subst (λ ts. IsSome (target_at ts column)) targets leads) cell;
         current = subst (λ ts. IsCurrent (linked_keys ts new) t) (sym targets)
             (current_recounted s t counts (linked_keys s.targets new) (stays_current (linked_keys s.targets c.relations) (linked_keys s.targets new) s (agree k s at) old.current));
       }
@@ -335,21 +330,21 @@ module _ (c : CatalogState) (ok : IsConsistent c) (n : ℕ) (before : List Relat
   abbrev joined : List RelationState
   joined = before ++ set (drop n c.relations) 0 a
 
-  pub counted_from : IsRewritten c.relations joined n b a → length before ≡ n → (count : ℕ → TupleRef → ℕ) → HaveReferrers before count → ((table : ℕ) (r : TupleRef) → table < n → count table r + count_by (is_link_to table r) (relation_links b) ≡ links_to c.relations table r + count_by (is_link_to table r) (relation_links a)) → ((r : TupleRef) (row : Row) → get a.rows r ≡ Some row → row.referrers ≡ links_to c.relations n r) → AreCounted joined
-  counted_from h front count have told own table s r row at held =
+  pub counted_from : IsRewritten c.relations joined n b a → length before ≡ n → (count : ℕ → TupleRef → ℕ) → HaveReferrers before count → ((table : ℕ) (r : TupleRef) → table < n → count table r + count_by (is_link_to table r) (relation_links b) ≡ links_to c.relations table r + count_by (is_link_to table r) (relation_links a)) → ((r : TupleRef) → IsSome (get a.rows r) → referrers_at a.referrers r ≡ links_to c.relations n r) → AreCounted joined
+  counted_from h front count have told own table s r at held =
       let within = slice_get_within c.relations n b h.there in
       elim (cases_lt table n) [
         | inl below ↦
-            let here : row.referrers ≡ count table r = have table s r row (sym (slice_get-front before (set (drop n c.relations) 0 a) table (omega (arith, below, front))) ∙ at) held in
+            let here : referrers_at s.referrers r ≡ count table r = have table s r (sym (slice_get-front before (set (drop n c.relations) 0 a) table (omega (arith, below, front))) ∙ at) held in
             let whole = links_rewritten c ok n joined b a h table r in
             omega (arith, here, whole, told table r below)
         | inr above ↦ elim (cases_eq table n) [
           | inl same ↦
               let it : s ≡ a = same_Some s a (sym at ∙ ap (slice_get joined) same ∙ h.here) in
-              let few = own r row (subst (λ (t : RelationState). get t.rows r ≡ Some row) it held) in
-              few ∙ ap (λ m. links_to c.relations m r) (sym same) ∙ sym (links_behind c ok n joined b a h table r above)
+              let few = own r (subst (λ (t : RelationState). IsSome (get t.rows r)) it held) in
+              ap (λ (t : RelationState). referrers_at t.referrers r) it ∙ few ∙ ap (λ m. links_to c.relations m r) (sym same) ∙ sym (links_behind c ok n joined b a h table r above)
           | inr other ↦
-              ok.counted table s r row (sym (get_behind before c.relations n table a front within (omega (arith, above, other))) ∙ at) held
+              ok.counted table s r (sym (get_behind before c.relations n table a front within (omega (arith, above, other))) ∙ at) held
               ∙ sym (links_behind c ok n joined b a h table r above)
         ]
       ]

@@ -21,5 +21,5 @@ empty_is_consistent limits few = record {
   rows = few;
   sound = no_tables_are_sound limits;
   each = λ k d h. absurd (omega arith);
-  counted = λ table s r row at e. absurd (none-some s at);
+  counted = λ table s r at held. absurd (none-some s at);
 }

@@ -1,22 +1,21 @@
 -- Relations that are as they were, but that some keep the numbers of their rows' referrers now.
-use Rattle.std.proofs.Common.{◌≡◌, ℕ, suc, ◌+◌, ◌<◌, Bool, true, false, List, [], ◌∷◌, Some, refl, sym, ap, ◌∙◌, subst, arith, length, map, set, get_or, length-set, inl, inr}
+use Rattle.std.proofs.Common.{◌≡◌, ℕ, ◌+◌, ◌<◌, Bool, true, false, List, Some, refl, sym, ap, ◌∙◌, subst, arith, length, map, set, get_or, length-set, inl, inr}
 use Rattle.std.specs.List.{slice_get}
 use Rattle.std.specs.Prelude.{Result, Ok, Err, OnOk}
-use Rattle.std.specs.FinMap as finite
 use Rattle.std.proofs.lemmas.Bool.{cases_eq}
 use Rattle.std.proofs.lemmas.List.{get_or_default, get_or-set_same, set-set, set-get_or}
 use Rattle.std.proofs.lemmas.Result.{on_ok_weaker}
-use Rattle.std.proofs.lemmas.Option.{same_Some, slice_get_within, slice_get-get_or}
+use Rattle.std.proofs.lemmas.Option.{same_Some, slice_get_within}
 use Rattle.common_lemmas.proofs.Places.{slice_get-inside, slice_get_set, slice_get-set_other}
 use Rattle.plain_tables.specs.References.{IsSound}
 use Rattle.mm_relation.specs.Reading.{Keys}
 use Rattle.mm_relation.specs.State.{RelationState, IsKept, IsCurrent, linked_keys}
 use Rattle.mm_catalog.specs.State.{CatalogState}
-use Rattle.mm_catalog.specs.Seen.{database_of, table_of, rows_of, plain_index}
+use Rattle.mm_catalog.specs.Seen.{database_of, table_of, plain_index}
 use Rattle.mm_catalog.specs.Linked.{target_at}
 use Rattle.mm_catalog.specs.Created.{aimed_relation, GainsCounts, GainCounts, LeadIntoCountedFrom}
-use Rattle.mm_catalog.specs.Consistent.{IsAmong, IsConsistent, AreCounted}
-use Rattle.mm_catalog.proofs.Declared.{among_at, same_counts}
+use Rattle.mm_catalog.specs.Consistent.{IsConsistent}
+use Rattle.mm_catalog.proofs.Among.{among_at}
 use Rattle.mm_catalog.proofs.Dropped.{same_zip}
 use Rattle.plain_tables.specs.Doing.{done}
 use Rattle.plain_tables.specs.ResolvedLaws.{IsDeclarable}
@@ -25,7 +24,8 @@ use Rattle.plain_tables.specs.declared.resolved.Resolved.TheVariants as resolved
 use Rattle.mm_catalog.specs.Changes.{IsDone}
 use Rattle.mm_catalog.specs.Counted.{LeadIntoCounted}
 use Rattle.mm_catalog.proofs.Created.{grown, consistent_more, done_more}
-use Rattle.mm_catalog.proofs.Outlines.{outline, outlines, same_keys}
+use Rattle.mm_catalog.proofs.Outlines.{outline}
+use Rattle.mm_catalog.proofs.Alike.{AreAlike, table_alike, consistent_alike}
 
 -- ---- one after another
 
@@ -83,57 +83,32 @@ kept_with s b kept = record { keyed = kept.keyed; few = kept.few; width = kept.w
 current_with : (keys : Keys) (s : RelationState) (b : Bool) → IsCurrent keys s → IsCurrent keys (record s { counted = b })
 current_with keys s b current = record { readable = current.readable; trees = current.trees; hashes = current.hashes }
 
-same_map : {A : Type 0} (f : RelationState → A) (xs ys : List RelationState) → length ys ≡ length xs → ((k : ℕ) (s t : RelationState) → slice_get xs k ≡ Some s → slice_get ys k ≡ Some t → f t ≡ f s) → map f ys ≡ map f xs
-same_map f [] [] e same = refl
-same_map f [] (y ∷ ys) e same = absurd (omega (arith, e))
-same_map f (x ∷ xs) [] e same = absurd (omega (arith, e))
-same_map f (x ∷ xs) (y ∷ ys) e same = (λ i. same 0 x y refl refl i ∷ map f ys) ∙ ap (λ l. f x ∷ l) (same_map f xs ys (omega (arith, e)) (λ k. same (suc k)))
-
 module _ (c : CatalogState) (ok : IsConsistent c) (mid : List RelationState) (h : GainCounts c.relations mid) where
   abbrev pub gained : CatalogState
   gained = record c { relations = mid }
 
-  before : (k : ℕ) (t : RelationState) → slice_get mid k ≡ Some t → (s : RelationState) × (slice_get c.relations k ≡ Some s) × GainsCounts s t
-  before k t at =
-      let s = slice_get-inside c.relations k (omega (arith, h.count, slice_get_within mid k t at)) in
-      (s.0, s.1, h.each k s.0 t s.1 at)
-
-  same_outlines : outlines mid ≡ outlines c.relations
-  same_outlines = same_map outline c.relations mid h.count (λ k s t at here. ap outline (h.each k s t at here).same)
-
-  among_gained : (k : ℕ) (t : RelationState) → slice_get mid k ≡ Some t → IsAmong c.names mid t
-  among_gained k t at =
-      let s = before k t at in
-      let a = among_at c ok k s.0 s.1 in
-      subst (IsAmong c.names mid) (sym s.2.same) (record {
-        kept = kept_with s.0 t.counted a.kept;
-        targets = a.targets;
-        counted = λ column table u e here. let was = before table u here in was.2.still (a.counted column table was.0 e was.1);
-        linked = a.linked;
-        current = current_with (linked_keys s.0.targets mid) s.0 t.counted (subst (λ keys. IsCurrent keys s.0) (sym (same_keys s.0.targets mid c.relations same_outlines)) a.current);
-      })
-
-  counted_gained : AreCounted mid
-  counted_gained table t r row at e =
-      let s = before table t at in
-      ok.counted table s.0 r row s.1 (ap (λ (u : RelationState). finite.get u.rows r) (sym s.2.same) ∙ e) ∙ sym (same_counts mid c.relations same_outlines table r)
+  all_alike : AreAlike c.relations mid
+  all_alike = record {
+    count = h.count;
+    each = λ k s t at here.
+        let gained = h.each k s t at here in
+        record { schema = ap (λ (u : RelationState). u.schema) gained.same; outline = ap outline gained.same; referrers = ap (λ (u : RelationState). u.referrers) gained.same; counted = gained.still };
+  }
 
   pub database_gained : database_of gained ≡ database_of c
-  unfolding database_of table_of rows_of
+  unfolding database_of table_of
   database_gained =
       same_zip (λ (t : List ℕ × RelationState). table_of c.relations t.0 t.1) (λ (t : List ℕ × RelationState). table_of mid t.0 t.1) c.names c.relations mid h.count
-      (λ k name s t at here.
-      ap (table_of mid name) (h.each k s t at here).same
-      ∙ (λ j. record { name = name; columns = s.schema.columns; indexes = map plain_index s.declared; rows = rows_of (same_keys s.targets mid c.relations same_outlines j) s }))
+      (λ k name s t at here. table_alike c ok mid all_alike k name s t at here ∙ ap (λ (u : RelationState). record (table_of c.relations name s) { indexes = map plain_index u.declared }) (h.each k s t at here).same)
+
+  still : (k : ℕ) (t : RelationState) → slice_get mid k ≡ Some t → IsKept t × IsCurrent (linked_keys t.targets c.relations) t
+  still k t at =
+      let s = slice_get-inside c.relations k (omega (arith, h.count, slice_get_within mid k t at)) in
+      let a = among_at c ok k s.0 s.1 in
+      subst (λ (u : RelationState). IsKept u × IsCurrent (linked_keys u.targets c.relations) u) (sym (h.each k s.0 t s.1 at).same) (kept_with s.0 t.counted a.kept, current_with (linked_keys s.0.targets c.relations) s.0 t.counted a.current)
 
   pub consistent_gained : IsConsistent gained
-  consistent_gained = record {
-    named = ok.named ∙ sym h.count;
-    rows = ok.rows;
-    sound = subst (IsSound c.limits) (sym database_gained) ok.sound;
-    each = λ k d l. among_gained k (get_or mid k d) (slice_get-get_or mid k d l);
-    counted = counted_gained;
-  }
+  consistent_gained = consistent_alike c ok mid all_alike still (subst (IsSound c.limits) (sym database_gained) ok.sound)
 
   -- ---- and one table more
 

@@ -21,7 +21,7 @@ use Rattle.plain_tables.specs.declared.schema.IndexKind.TheVariants.{Tree, Hash}
 use Rattle.mm_catalog.specs.Indexes.{key_tree, TellsHash}
 use Rattle.mm_catalog.specs.Seen.{database_of, plain_index, table_of}
 use Rattle.mm_catalog.specs.State.{CatalogState}
-use Rattle.mm_catalog.proofs.Declared.{among_at, named_at}
+use Rattle.mm_catalog.proofs.Among.{among_at, named_at}
 use Rattle.mm_catalog.proofs.Tables.{database-get}
 use Rattle.mm_catalog.proofs.TreeShapes.{database-rows}
 

@@ -1,17 +1,18 @@
 -- A catalog into which a row comes: what it shows, that it stays consistent, and why one does not come.
-use Rattle.std.proofs.Common.{◌≡◌, ◌≢◌, ℕ, ◌+◌, ◌<◌, ◌==◌, ◌⊎◌, false, List, ◌∷◌, ◌++◌, Some, None, refl, sym, ap, ◌∙◌, subst, arith, length, map, take, drop, set, get_or, length-take, inl, inr}
+use Rattle.std.proofs.Common.{◌≡◌, ◌≢◌, ℕ, ◌+◌, ◌<◌, ◌==◌, ◌⊎◌, false, List, ◌∷◌, ◌++◌, Some, None, refl, sym, ap, ◌∙◌, subst, arith, length, map, take, drop, set, get_or, length-take, inl, inr, is_some, Option, IsSome}
+use Rattle.part_raw.specs.Store.{Tuples}
 use Rattle.std.specs.List.{All, count_by, slice_get, flat_map}
 use Rattle.std.specs.Prelude.{Result, Ok, Err, IfOk, OnOk, OnErr, IfErr}
-use Rattle.std.specs.Option.{option_and_then}
+use Rattle.std.specs.Option.{option_and_then, unwrap_or}
 use Rattle.std.specs.Ordering.{is_eq}
 use Rattle.std.specs.FinMap as finite
-use Rattle.std.specs.FinMap.{get}
+use Rattle.std.specs.FinMap.{get, insert}
 use Rattle.std.proofs.lemmas.Bool.{and_left, and_right, cases_eq, ne_eqb}
 use Rattle.std.proofs.lemmas.Option.{none-some, same_Some, slice_get_within, slice_get-get_or}
 use Rattle.common_lemmas.proofs.Elements.{All-flat_map}
 use Rattle.part_raw.specs.TupleRefs.{ref_cmp}
 use Rattle.part_raw.specs.declared.tuple_ref.TupleRef.{TupleRef}
-use Rattle.part_raw.proofs.Tuples.{get-insert_same, get-insert_other, same_ref_other}
+use Rattle.part_raw.proofs.Tuples.{get-insert_same, get-insert_other, same_ref_other, held_tuple}
 use Rattle.part_raw.proofs.Lookup.{same_or_other}
 use Rattle.plain_tables.specs.Tables.{Table, with_row}
 use Rattle.plain_tables.specs.Doing.{done}
@@ -24,7 +25,7 @@ use Rattle.plain_tables.specs.declared.refusal.Refusal.TheVariants.{NoMemory}
 use Rattle.plain_tables.specs.declared.resolved.Resolved.TheVariants as resolved
 use Rattle.plain_tables.specs.declared.value.Value.{Value}
 use Rattle.plain_tables.proofs.SoundLemmas.{done_keeps_sound}
-use Rattle.mm_relation.specs.Rows.{Row}
+use Rattle.mm_relation.specs.Rows.{Row, referrers_at}
 use Rattle.mm_relation.specs.declared.row.Cell.{Cell}
 use Rattle.mm_relation.specs.Changes.{new_row}
 use Rattle.mm_relation.specs.State.{RelationState, HasKey, linked_keys}
@@ -42,7 +43,7 @@ use Rattle.mm_catalog.specs.Inserted.{IsKeptOut, no_memory, key_there, none_name
 use Rattle.mm_catalog.proofs.Lists.{get-take}
 use Rattle.mm_catalog.proofs.Outlines.{keys_before}
 use Rattle.mm_catalog.proofs.Back.{lead_back}
-use Rattle.mm_catalog.proofs.Declared.{among_at, named_at, table_at}
+use Rattle.mm_catalog.proofs.Among.{among_at, named_at, table_at}
 use Rattle.mm_catalog.proofs.Counting.{links_inserted}
 use Rattle.mm_catalog.proofs.Shown.{rows_inserted}
 use Rattle.mm_catalog.proofs.LinksHeld.{link_held}
@@ -130,8 +131,8 @@ module _ (c : CatalogState) (ok : IsConsistent c) (n : TableNumber) (key : Value
   other_rows : (r : TupleRef) → r ≢ q → get a.rows r ≡ get b.rows r
   other_rows r other = ap (λ m. get m r) taken.inserted.rows ∙ get-insert_other b.rows q r t other
 
-  not_new : (r : TupleRef) (u : Row) → get b.rows r ≡ Some u → r ≢ q
-  not_new r u found e = none-some u (sym taken.inserted.free ∙ ap (get b.rows) (sym e) ∙ found)
+  not_new : (r : TupleRef) → IsSome (get b.rows r) → r ≢ q
+  not_new r held e = let found = held_tuple b.rows r held in none-some found.0 (sym taken.inserted.free ∙ ap (get b.rows) (sym e) ∙ found.1)
 
   this_row : (u : Row) → get a.rows q ≡ Some u → t ≡ u
   this_row u found = same_Some t u (sym (ap (λ m. get m q) taken.inserted.rows ∙ get-insert_same b.rows q t) ∙ found)
@@ -139,7 +140,7 @@ module _ (c : CatalogState) (ok : IsConsistent c) (n : TableNumber) (key : Value
   rewritten : IsRewritten c.relations new n.0 b a
   rewritten =
       rewritten_from c.relations front n.0 b a there taken.counted.recounted taken.inserted.keeps
-      (λ r u found some. ap (option_and_then (λ (v : Row). Some v.key)) (other_rows r (not_new r u found)))
+      (λ r held some. ap (option_and_then (λ (v : Row). Some v.key)) (other_rows r (not_new r held)))
 
   keys_here : linked_keys b.targets (take n.0 c.relations) ≡ linked_keys b.targets c.relations
   keys_here = keys_before b.targets c.relations n.0 (lead_back c ok n.0 b there)
@@ -183,7 +184,7 @@ module _ (c : CatalogState) (ok : IsConsistent c) (n : TableNumber) (key : Value
   count = λ table r. links_to c.relations table r + count_by (is_link_to table r) (row_links b.targets t)
 
   have : HaveReferrers front count
-  have = counted_up (take n.0 c.relations) front (naming (row_links b.targets t)) (links_to c.relations) taken.counted (λ table s r u at found. ok.counted table s r u (before_get table s at) found)
+  have = counted_up (take n.0 c.relations) front (naming (row_links b.targets t)) (links_to c.relations) taken.counted (λ table s r at held. ok.counted table s r (before_get table s at) held)
     where
       before_get : (table : ℕ) (s : RelationState) → slice_get (take n.0 c.relations) table ≡ Some s → slice_get c.relations table ≡ Some s
       before_get table s at =
@@ -194,12 +195,13 @@ module _ (c : CatalogState) (ok : IsConsistent c) (n : TableNumber) (key : Value
   counts table r below =
       omega (arith, links_inserted b a (among_at c ok n.0 b there).kept taken.kept q t taken.inserted fresh (is_link_to table r))
 
-  own : (r : TupleRef) (u : Row) → get a.rows r ≡ Some u → u.referrers ≡ links_to c.relations n.0 r
-  own r u found = elim (same_or_other r q) [
+  own : (r : TupleRef) → IsSome (get a.rows r) → referrers_at a.referrers r ≡ links_to c.relations n.0 r
+  own r held = ap (λ (numbers : Tuples ℕ). referrers_at numbers r) taken.inserted.referrers ∙ elim (same_or_other r q) [
     | inl same ↦
-        ap (λ (v : Row). v.referrers) (sym (this_row u (ap (get a.rows) (sym same) ∙ found)))
+        ap (referrers_at (insert b.referrers q 0)) same ∙ ap (λ (o : Option ℕ). unwrap_or o 0) (get-insert_same b.referrers q 0)
         ∙ sym (no_links_to c ok n.0 b there q taken.inserted.free) ∙ ap (links_to c.relations n.0) (sym same)
-    | inr other ↦ ok.counted n.0 b r u there (sym (other_rows r other) ∙ found)
+    | inr other ↦
+        ap (λ (o : Option ℕ). unwrap_or o 0) (get-insert_other b.referrers q r 0 other) ∙ ok.counted n.0 b r there (ap is_some (sym (other_rows r other)) ∙ held)
   ]
 
   front_length : length front ≡ n.0

@@ -2,6 +2,8 @@ pub mod Lists
 pub mod Tables
 pub mod Outlines
 pub mod Back
+pub mod Among
+pub mod Alike
 pub mod Declared
 pub mod Empty
 pub mod Finding

@@ -1,5 +1,5 @@
 -- Lists, by what they have at each place.
-use Rattle.std.proofs.Common.{◌≡◌, ◌≢◌, ℕ, zero, suc, ◌+◌, ◌<◌, List, [], ◌∷◌, Some, refl, sym, ap, ◌∙◌, arith, length, map, set, take, drop, get_or, add-one, ◌++◌}
+use Rattle.std.proofs.Common.{◌≡◌, ◌≢◌, ℕ, zero, suc, ◌+◌, ◌<◌, List, [], ◌∷◌, Some, refl, sym, ap, ◌∙◌, subst, arith, length, map, set, take, drop, get_or, add-one, ◌++◌}
 use Rattle.std.specs.List.{slice_get, zip, All}
 use Rattle.std.proofs.Math.Seq.{take-append_seam}
 use Rattle.std.proofs.lemmas.List.{length-drop}
@@ -92,3 +92,11 @@ module _ {A : Type 0} (all : List A) {left : List A} (n : ℕ) (are : left ≡ d
 
   pub drop-next : drop 1 left ≡ drop (n + 1) all
   drop-next = ap (drop 1) are ∙ drop-one all n
+
+-- what holds of each place before and after one element is another
+pub each_set : {A : Type 0} (P : A → A → Type 0) → ((x : A) → P x x) → (xs : List A) (n : ℕ) (x y : A) → slice_get xs n ≡ Some x → P x y → (k : ℕ) (u v : A) → slice_get xs k ≡ Some u → slice_get (set xs n y) k ≡ Some v → P u v
+each_set P itself [] n x y at changed k u v here there = absurd (none-some u here)
+each_set P itself (z ∷ xs) zero x y at changed zero u v here there = subst (λ w. P w v) (sym (same_Some z x at) ∙ same_Some z u here) (subst (P x) (same_Some y v there) changed)
+each_set P itself (z ∷ xs) zero x y at changed (suc k) u v here there = subst (P u) (same_Some u v (sym here ∙ there)) (itself u)
+each_set P itself (z ∷ xs) (suc n) x y at changed zero u v here there = subst (P u) (same_Some u v (sym here ∙ there)) (itself u)
+each_set P itself (z ∷ xs) (suc n) x y at changed (suc k) u v here there = each_set P itself xs n x y at changed k u v here there

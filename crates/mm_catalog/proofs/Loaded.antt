@@ -1,18 +1,19 @@
 -- Rows that come into a table one after the other.
-use Rattle.std.proofs.Common.{◌≡◌, ◌≢◌, ℕ, List, [], ◌∷◌, ◌++◌, Some, None, IsSome, is_some, refl, sym, ap, ◌∙◌, subst, arith, get_or}
+use Rattle.std.proofs.Common.{◌≡◌, ◌≢◌, ℕ, List, [], ◌∷◌, ◌++◌, Some, None, IsSome, is_some, refl, sym, ap, ◌∙◌, subst, arith, get_or, Option}
+use Rattle.part_raw.specs.Store.{Tuples}
 use Rattle.std.specs.List.{Contains, slice_get}
-use Rattle.std.specs.Option.{option_and_then}
+use Rattle.std.specs.Option.{option_and_then, unwrap_or}
 use Rattle.std.specs.FinMap.{get, insert}
 use Rattle.std.proofs.lemmas.Bool.{false≢true}
 use Rattle.std.proofs.lemmas.List.Elements.{All-contains, All-push, Contains-append_left, Contains-push}
 use Rattle.std.proofs.lemmas.List.Quantifiers.{all_pairs_push}
-use Rattle.std.proofs.lemmas.Option.{none-some, same_Some, slice_get_within}
+use Rattle.std.proofs.lemmas.Option.{same_Some, slice_get_within}
 use Rattle.common_lemmas.proofs.Places.{slice_get-inside}
 use Rattle.common_lemmas.proofs.Pairs.{AllPairs-nil}
 use Rattle.part_raw.specs.declared.tuple_ref.TupleRef.{TupleRef}
 use Rattle.part_raw.proofs.Tuples.{get-insert_same, get-insert_other}
 use Rattle.plain_tables.specs.declared.value.Value.{Value}
-use Rattle.mm_relation.specs.Rows.{Row}
+use Rattle.mm_relation.specs.Rows.{Row, referrers_at}
 use Rattle.mm_relation.specs.Changes.{KeepsSchema, new_row}
 use Rattle.mm_relation.specs.Reading.{key_at}
 use Rattle.mm_relation.specs.State.{RelationState}
@@ -25,7 +26,7 @@ use Rattle.mm_catalog.proofs.Counted.{AreRecounted-refl, IsRecounted-trans}
 
 -- ---- one relation is another one, twice
 
-pub rewritten_then : (old mid new : List RelationState) (n : ℕ) (b m a : RelationState) → IsRewritten old mid n b m → IsRewritten mid new n m a → ((r : TupleRef) (row : Row) → get b.rows r ≡ Some row → key_at a.rows r ≡ key_at b.rows r) → IsRewritten old new n b a
+pub rewritten_then : (old mid new : List RelationState) (n : ℕ) (b m a : RelationState) → IsRewritten old mid n b m → IsRewritten mid new n m a → ((r : TupleRef) → IsSome (get b.rows r) → key_at a.rows r ≡ key_at b.rows r) → IsRewritten old new n b a
 rewritten_then old mid new n b m a h l keys = record {
   there = h.there;
   here = l.here;
@@ -39,7 +40,7 @@ rewritten_then old mid new n b m a h l keys = record {
     declared = l.keeps.declared ∙ h.keeps.declared;
     counted = l.keeps.counted ∙ h.keeps.counted;
   };
-  keys = λ r row found some. keys r row found;
+  keys = λ r held some. keys r held;
 }
 
 -- ---- rows that come in
@@ -54,7 +55,7 @@ more_none c n s there = record {
     count = refl;
     others = λ k t u other at now. (AreRecounted-refl c.relations).each k t u at now;
     keeps = record { schema = refl; targets = refl; declared = refl; counted = refl };
-    keys = λ r row found some. refl;
+    keys = λ r held some. refl;
   };
   same = refl;
   held = λ k d l. absurd (omega arith);
@@ -105,28 +106,33 @@ module _ (c d e : CatalogState) (n : ℕ) (values : List Value) (refs : List Tup
   step =
       subst (λ rs. IsRewritten d.relations rs n m a) (sym come.inserted.list)
       (rewritten_from d.relations come.inserted.front n m a h.rewritten.here come.inserted.taken.counted.recounted keeps
-      (λ q t found some. ap (option_and_then (λ (u : Row). Some u.key)) (still q (ap is_some found))))
+      (λ q held some. ap (option_and_then (λ (u : Row). Some u.key)) (still q held)))
 
-  not_among : (q : TupleRef) (t : Row) → get b.rows q ≡ Some t → Contains refs q → ⊥
-  not_among q t found there = none-some t (sym (All-contains (λ p. get b.rows p ≡ None) refs q h.fresh there) ∙ found)
+  not_among : (q : TupleRef) → IsSome (get b.rows q) → Contains refs q → ⊥
+  not_among q held there = false≢true (sym (ap is_some (All-contains (λ p. get b.rows p ≡ None) refs q h.fresh there)) ∙ held)
 
-  old_rows : (q : TupleRef) (t : Row) → get b.rows q ≡ Some t → get a.rows q ≡ get b.rows q
-  old_rows q t found =
-      let same : get m.rows q ≡ get b.rows q = h.others q (not_among q t found) in
-      still q (subst IsSome (sym (same ∙ found)) refl) ∙ same
+  old_rows : (q : TupleRef) → IsSome (get b.rows q) → get a.rows q ≡ get b.rows q
+  old_rows q held =
+      let same : get m.rows q ≡ get b.rows q = h.others q (not_among q held) in
+      still q (subst IsSome (sym same) held) ∙ same
+
+  numbers_now : a.referrers ≡ insert m.referrers r 0
+  numbers_now = come.inserted.taken.inserted.referrers ∙ ap (λ (s : RelationState). insert s.referrers r 0) this
 
   pub more_then : HasMore c e n (refs ++ r ∷ [])
   more_then = record {
     before = b;
     after = a;
-    rewritten = rewritten_then c.relations d.relations e.relations n b m a h.rewritten step (λ q t found. ap (option_and_then (λ (u : Row). Some u.key)) (old_rows q t found));
+    rewritten = rewritten_then c.relations d.relations e.relations n b m a h.rewritten step (λ q held. ap (option_and_then (λ (u : Row). Some u.key)) (old_rows q held));
     same = come.same ∙ ap (λ (x : CatalogState). record x { relations = e.relations }) h.same;
     held = All-push (λ q. IsSome (get a.rows q)) refs r
         (λ k d l. subst IsSome (sym (still (get_or refs k d) (h.held k d l))) (h.held k d l))
         (subst IsSome (sym itself) refl);
     free = All-push (IsFree a) refs r
-        (λ k d l t found. h.free k d l t (sym (still (get_or refs k d) (h.held k d l)) ∙ found))
-        (λ t found. ap (λ (u : Row). u.referrers) (same_Some t row (sym found ∙ itself)));
+        (λ k d l.
+        ap (λ (numbers : Tuples ℕ). referrers_at numbers (get_or refs k d)) numbers_now
+        ∙ ap (λ (o : Option ℕ). unwrap_or o 0) (get-insert_other m.referrers r (get_or refs k d) 0 (not_new (get_or refs k d) (h.held k d l))) ∙ h.free k d l)
+        (ap (λ (numbers : Tuples ℕ). referrers_at numbers r) numbers_now ∙ ap (λ (o : Option ℕ). unwrap_or o 0) (get-insert_same m.referrers r 0));
     fresh = All-push (λ q. get b.rows q ≡ None) refs r h.fresh (sym (h.others r new_here) ∙ is_free);
     once = all_pairs_push (λ p q. p ≢ q) refs r h.once (λ k d l. not_new (get_or refs k d) (h.held k d l));
     others = λ q no.

@@ -86,7 +86,7 @@ kept_out_at : (relations : List RelationState) (s : RelationState) (most : ℕ) 
 kept_out_at relations s most key rest [] value refusal first at none = absurd (omega (arith, none.0))
 kept_out_at relations s most key rest (c ∷ cells) value refusal first at none =
     let start = key_first relations s.targets key rest (c ∷ cells) first none.0 in
-    let same : (row_of (c ∷ cells) 0).key ≡ key = ap (λ cs. (row_of cs 0).key) start.1 in
+    let same : (row_of (c ∷ cells)).key ≡ key = ap (λ cs. (row_of cs).key) start.1 in
     elim none.1 [
       | inl held ↦ subst (IsKeptOut relations s most key rest) (sym held.1) (key_there (subst (HasKey s.rows) same held.0))
       | inr new ↦

@@ -35,7 +35,7 @@ use Rattle.mm_catalog.proofs.Lists.{get-take}
 use Rattle.mm_catalog.proofs.Tables.{database-get}
 use Rattle.mm_catalog.proofs.Finding.{is_some-find, found-front, position-map}
 use Rattle.mm_catalog.proofs.Back.{RefersInto, names-database, refers_before, lead_back, has_name}
-use Rattle.mm_catalog.proofs.Declared.{among_at}
+use Rattle.mm_catalog.proofs.Among.{among_at}
 
 -- ---- keys
 

@@ -30,7 +30,7 @@ use Rattle.plain_tables.specs.declared.value.Value.{Value}
 use Rattle.plain_tables.specs.declared.value.Value.TheVariants as value
 use Rattle.plain_tables.specs.declared.value.Value.TheVariants.{Null}
 use Rattle.plain_tables.proofs.ValueLemmas.{value_cmp-exact}
-use Rattle.mm_relation.specs.Rows.{Row}
+use Rattle.mm_relation.specs.Rows.{Row, referrers_at}
 use Rattle.mm_relation.specs.declared.row.Cell.{Cell}
 use Rattle.mm_relation.specs.declared.row.Cell.TheVariants.{Held, Link}
 use Rattle.mm_relation.specs.Reading.{Keys, cell_value, key_at, link_in, link_of, row_value}
@@ -42,7 +42,7 @@ use Rattle.mm_catalog.specs.Linked.{target_of, target_at, link_at, row_links, re
 use Rattle.mm_catalog.specs.Consistent.{IsConsistent}
 use Rattle.mm_catalog.proofs.Anywhere.{any_flat, any_filter_map, any_alike, any_zip, any_numbered, none_counted, same_tests, and_alike}
 use Rattle.mm_catalog.proofs.Back.{RefersInto, refers_before, names-database}
-use Rattle.mm_catalog.proofs.Declared.{among_at, named_at}
+use Rattle.mm_catalog.proofs.Among.{among_at, named_at}
 use Rattle.mm_catalog.proofs.Finding.{is_some-find, found-front}
 use Rattle.mm_catalog.proofs.LinksHeld.{link_held, linked_value}
 use Rattle.mm_catalog.proofs.Tables.{database-get}
@@ -283,7 +283,7 @@ module _ (c : CatalogState) (ok : IsConsistent c) where
         ∙ sym (any_flat (is_link_to n r) relation_links c.relations)
 
     -- a row without referrers is referred to by none
-    pub not_referenced : row.referrers ≡ 0 → is_referenced (database_of c) name values ≡ false
+    pub not_referenced : referrers_at s.referrers r ≡ 0 → is_referenced (database_of c) name values ≡ false
     unfolding links_to
     not_referenced none =
         all_alike
@@ -291,13 +291,13 @@ module _ (c : CatalogState) (ok : IsConsistent c) where
         let link = get_or (links c.relations) k d in
         false_from_ne_true (is_link_to n r link) (λ e.
         let some = count_by-member (is_link_to n r) (links c.relations) link (All-contains_itself (links c.relations) k d l) e in
-        omega (arith, none, some, ok.counted n s r row there at)))
+        omega (arith, none, some, ok.counted n s r there (ap is_some at))))
 
     -- one with referrers is
-    pub referenced : 0 < row.referrers → is_referenced (database_of c) name values ≡ true
+    pub referenced : 0 < referrers_at s.referrers r → is_referenced (database_of c) name values ≡ true
     unfolding links_to
     referenced some =
         all_alike
         ∙ true_from_ne_false (list_any (is_link_to n r) (links c.relations)) (λ e.
         let none = none_counted (is_link_to n r) (links c.relations) (fails_where_none (is_link_to n r) (links c.relations) e) in
-        omega (arith, some, none, ok.counted n s r row there at))
+        omega (arith, some, none, ok.counted n s r there (ap is_some at)))

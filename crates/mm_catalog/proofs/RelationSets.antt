@@ -1,5 +1,5 @@
 -- A relation in some of whose rows cells are set: the order of its keys, its links, and what it shows.
-use Rattle.std.proofs.Common.{◌≡◌, ◌≢◌, ℕ, ◌+◌, ◌-◌, ◌*◌, ◌≤◌, Bool, true, false, cond, List, [], ◌∷◌, Option, Some, None, IsSome, IsTrue, is_some, refl, sym, ap, ◌∙◌, subst, arith, length, map, inl, inr, get_or}
+use Rattle.std.proofs.Common.{◌≡◌, ◌≢◌, ℕ, ◌+◌, ◌-◌, ◌*◌, ◌≤◌, Bool, true, false, cond, List, [], Option, Some, None, IsSome, IsTrue, is_some, refl, sym, ap, ◌∙◌, subst, arith, length, map, inl, inr, get_or}
 use Rattle.std.specs.List.{All, AllPairs, Contains, count_by, slice_get, sum_by}
 use Rattle.std.specs.Option.{option_and_then, option_cmp, option_map, option_map_or}
 use Rattle.std.specs.Ordering.{then_cmp, on}
@@ -8,7 +8,7 @@ use Rattle.std.specs.declared.cmp.Ordering.TheVariants.{Less}
 use Rattle.std.proofs.lemmas.Bool.{cases_lt}
 use Rattle.std.proofs.lemmas.List.Elements.{All-contains}
 use Rattle.std.proofs.lemmas.Simd.{map-map}
-use Rattle.std.proofs.lemmas.Option.{none-some, same_Some}
+use Rattle.std.proofs.lemmas.Option.{same_Some}
 use Rattle.common_lemmas.proofs.Counts.{count_by-flat_map}
 use Rattle.part_raw.proofs.Tuples.{held_tuple}
 use Rattle.part_raw.specs.declared.tuple_ref.TupleRef.{TupleRef}
@@ -29,7 +29,7 @@ use Rattle.mm_catalog.specs.Cells.{IsLinkOrNull}
 use Rattle.mm_catalog.specs.Linked.{HasLinksOrNulls, Linked, relation_links, row_links, target_at}
 use Rattle.mm_catalog.specs.Seen.{row_values, rows_of, values_of}
 use Rattle.mm_catalog.proofs.Rising.{rising_same}
-use Rattle.mm_catalog.proofs.RowSets.{AreApart, with_cell, row_linked, row_links_set, values_set}
+use Rattle.mm_catalog.proofs.RowSets.{AreApart, row_linked, row_links_set, values_set}
 use Rattle.mm_catalog.proofs.SumsApart.{sum_changed, sum_shifted}
 use Rattle.mm_catalog.proofs.Lists.{map_agree_on}
 use Rattle.mm_relation.proofs.Listings.{rising_apart}
@@ -57,21 +57,6 @@ module _ (b a : RelationState) (rs : List TupleRef) (sets : List CellSet) (chang
   keys_set r = elim (among_or_not rs r) [
     | inl h ↦ ap (option_and_then (λ (t : Row). Some t.key)) (changed.rows.changed r h) ∙ key_set (get b.rows r)
     | inr never ↦ ap (option_and_then (λ (t : Row). Some t.key)) (changed.rows.others r never)
-  ]
-
-  referrers_set : (cells : List CellSet) (t : Row) → (with_cells cells t).referrers ≡ t.referrers
-  referrers_set [] t = refl
-  referrers_set (s ∷ cells) t = referrers_set cells (with_cell s t)
-
-  some_set : (o : Option Row) (row : Row) → option_map (with_cells sets) o ≡ Some row → (old : Row) × (o ≡ Some old) × (row.referrers ≡ old.referrers)
-  some_set None row e = absurd (none-some row e)
-  some_set (Some old) row e = (old, refl, ap (λ (t : Row). t.referrers) (sym (same_Some (with_cells sets old) row e)) ∙ referrers_set sets old)
-
-  -- a row that is held was held, with as many referrers
-  pub row_was : (r : TupleRef) (row : Row) → get a.rows r ≡ Some row → (old : Row) × (get b.rows r ≡ Some old) × (row.referrers ≡ old.referrers)
-  row_was r row at = elim (among_or_not rs r) [
-    | inl h ↦ some_set (get b.rows r) row (sym (changed.rows.changed r h) ∙ at)
-    | inr never ↦ (row, sym (changed.rows.others r never) ∙ at, refl)
   ]
 
   held_set : (o : Option Row) → is_some (option_map (with_cells sets) o) ≡ is_some o

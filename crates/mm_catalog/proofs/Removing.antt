@@ -1,7 +1,7 @@
 -- Rows that go out of a relation one after another, and the links that go with them.
 use Rattle.std.proofs.Common.{◌≡◌, ◌≢◌, ℕ, suc, ◌<◌, ◌≤◌, ◌+◌, Bool, List, [], ◌∷◌, ◌++◌, Option, Some, None, IsSome, is_some, refl, sym, ap, ◌∙◌, subst, arith, length, get_or, take, drop, zero-add, inl, inr}
 use Rattle.std.specs.List.{range_with_len, All, AllPairs, Contains, count_by, slice_get, sum_by}
-use Rattle.std.specs.Option.{option_and_then, option_map_or}
+use Rattle.std.specs.Option.{option_and_then, option_map_or, unwrap_or}
 use Rattle.std.specs.FinMap.{get, remove}
 use Rattle.std.proofs.lemmas.List.{take_more}
 use Rattle.std.proofs.lemmas.List.Elements.{Contains-push, Contains-push_cases, Contains-append_left}
@@ -14,7 +14,7 @@ use Rattle.part_raw.specs.Store.{Tuples}
 use Rattle.part_raw.proofs.Lookup.{same_or_other}
 use Rattle.part_raw.proofs.Tuples.{get-remove_same, get-remove_other, held_tuple}
 use Rattle.mm_index.proofs.Placed.{remove_by_member}
-use Rattle.mm_relation.specs.Rows.{Row}
+use Rattle.mm_relation.specs.Rows.{Row, referrers_at}
 use Rattle.mm_relation.specs.Changes.{IsRemoved}
 use Rattle.mm_relation.specs.Order.{column_cmp, column_cmp_strict}
 use Rattle.mm_relation.specs.Reading.{key_at, row_value, value_at}
@@ -107,6 +107,7 @@ pub AreRemoved-none : (s : RelationState) → AreRemoved s s []
 AreRemoved-none s = record {
   gone = λ r h. absurd (omega (arith, h.1));
   others = λ r h. refl;
+  counts = λ r h. refl;
   keeps = record { schema = refl; targets = refl; declared = refl; counted = refl };
 }
 
@@ -126,6 +127,12 @@ AreRemoved-more s t u refs i r within is so_far removed =
       others = λ q h. elim (same_or_other q r) [
         | inl same ↦ absurd (h (subst (Contains (take i refs ++ r ∷ [])) (sym same) (Contains-push (take i refs) r)))
         | inr ne ↦ other q ne ∙ so_far.others q (λ before. h (Contains-append_left (take i refs) (r ∷ []) q before))
+      ];
+      counts = λ q h. elim (same_or_other q r) [
+        | inl same ↦ absurd (h (subst (Contains (take i refs ++ r ∷ [])) (sym same) (Contains-push (take i refs) r)))
+        | inr ne ↦
+            ap (λ (numbers : Tuples ℕ). referrers_at numbers q) removed.referrers ∙ ap (λ (o : Option ℕ). unwrap_or o 0) (get-remove_other t.referrers r q ne)
+            ∙ so_far.counts q (λ before. h (Contains-append_left (take i refs) (r ∷ []) q before))
       ];
       keeps = record {
         schema = removed.keeps.schema ∙ so_far.keeps.schema;

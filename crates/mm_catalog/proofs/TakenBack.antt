@@ -10,7 +10,7 @@ use Rattle.std.proofs.lemmas.List.Folds.{Any-from_list_any, list_any-from_Any}
 use Rattle.std.proofs.lemmas.Option.{same_Some, slice_get_within, get_or_from_slice_get}
 use Rattle.part_raw.specs.declared.tuple_ref.TupleRef.{TupleRef}
 use Rattle.part_raw.proofs.Tuples.{same_ref, same_ref_self, same_ref_true, same_tuples}
-use Rattle.mm_relation.specs.Rows.{Row}
+use Rattle.mm_relation.specs.Rows.{Row, referrers_at}
 use Rattle.mm_relation.specs.Changes.{KeepsSchema}
 use Rattle.mm_relation.specs.Reading.{key_at}
 use Rattle.mm_relation.specs.State.{tree_list, RelationState, IsKeyed, linked_keys}
@@ -21,7 +21,7 @@ use Rattle.mm_catalog.specs.Changes.{KeepsDatabase}
 use Rattle.mm_catalog.specs.Deleted.{AreRemoved, IsFree}
 use Rattle.mm_catalog.specs.Loaded.{HaveGone, HasMore}
 use Rattle.mm_catalog.specs.Recounted.{IsRewritten}
-use Rattle.mm_catalog.proofs.Declared.{among_at, named_at}
+use Rattle.mm_catalog.proofs.Among.{among_at, named_at}
 use Rattle.mm_catalog.proofs.Elsewhere.{rewritten_from, database_rewritten}
 use Rattle.mm_catalog.proofs.Loaded.{rewritten_then}
 use Rattle.mm_catalog.proofs.Keyed.{keyed_unique}
@@ -72,11 +72,11 @@ module _ (c : CatalogState) (ok : IsConsistent c) (d e : CatalogState) (n : ℕ)
   step =
       subst (λ rs. IsRewritten d.relations rs n m z) (sym gone.deleted.list)
       (rewritten_from d.relations gone.deleted.front n m z h.rewritten.here gone.deleted.unlinked.counted.recounted removed.keeps
-      (λ q t found some. ap (option_and_then (λ (u : Row). Some u.key))
-      (removed.others q (λ there. let zero = All-contains (IsFree m) refs q h.free there t found in absurd (omega (arith, zero, some))))))
+      (λ q held some. ap (option_and_then (λ (u : Row). Some u.key))
+      (removed.others q (λ there. let zero : referrers_at m.referrers q ≡ 0 = All-contains (IsFree m) refs q h.free there in absurd (omega (arith, zero, some))))))
 
   all : IsRewritten c.relations e.relations n b z
-  all = rewritten_then c.relations d.relations e.relations n b m z h.rewritten step (λ q t found. ap (λ rows. key_at rows q) rows_again)
+  all = rewritten_then c.relations d.relations e.relations n b m z h.rewritten step (λ q held. ap (λ rows. key_at rows q) rows_again)
 
   table_again : (name : List ℕ) → table_of c.relations name z ≡ table_of c.relations name b
   unfolding table_of rows_of

@@ -15,7 +15,7 @@ use Rattle.mm_catalog.specs.Consistent.{IsConsistent}
 use Rattle.mm_catalog.specs.Seen.{database_of, table_of, rows_of}
 use Rattle.mm_catalog.specs.State.{CatalogState}
 use Rattle.mm_catalog.specs.Trees.{TellsTree}
-use Rattle.mm_catalog.proofs.Declared.{among_at}
+use Rattle.mm_catalog.proofs.Among.{among_at}
 use Rattle.mm_catalog.proofs.Tables.{database-get}
 
 -- a table has as many rows as its relation

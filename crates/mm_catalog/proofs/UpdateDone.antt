@@ -33,7 +33,7 @@ use Rattle.mm_catalog.specs.Picked.{ArePicked, HoldsRows}
 use Rattle.mm_catalog.specs.Seen.{database_of, plain_index, rows_of, table_of}
 use Rattle.mm_catalog.specs.State.{CatalogState}
 use Rattle.mm_catalog.proofs.Back.{lead_back}
-use Rattle.mm_catalog.proofs.Declared.{among_at, named_at, table_at}
+use Rattle.mm_catalog.proofs.Among.{among_at, named_at, table_at}
 use Rattle.mm_catalog.proofs.Deleting.{choice, choice_picks}
 use Rattle.mm_catalog.proofs.Elsewhere.{consistent_rewritten, database_rewritten}
 use Rattle.mm_catalog.proofs.Outlines.{keys_before}

@@ -1,5 +1,6 @@
 -- What an update asks of the relations among which it sets rows.
 use Rattle.std.proofs.Common.{◌≡◌, ◌≢◌, ℕ, zero, suc, ◌+◌, ◌-◌, ◌*◌, ◌<◌, ◌≤◌, Bool, List, [], ◌∷◌, ◌++◌, Option, Some, None, IsSome, is_some, refl, sym, ap, ◌∙◌, subst, arith, length, map, set, take, drop, get_or, length-take}
+use Rattle.part_raw.specs.Store.{Tuples}
 use Rattle.std.specs.Bool.{Decides}
 use Rattle.std.specs.List.{All, AllPairs, Contains, count_by, range_with_len, slice_get}
 use Rattle.std.specs.Option.{option_and_then, option_map, option_map_or}
@@ -25,7 +26,7 @@ use Rattle.mm_relation.specs.Reading.{cell_value, key_at, link_of}
 use Rattle.mm_relation.specs.State.{tree_list, RelationState, IsCurrent, IsKept, linked_keys}
 use Rattle.mm_relation.specs.declared.row.Cell.{Cell}
 use Rattle.mm_relation.specs.declared.row.Cell.TheVariants.{Held, Link as Named}
-use Rattle.mm_relation.specs.Rows.{Row}
+use Rattle.mm_relation.specs.Rows.{Row, referrers_at}
 use Rattle.mm_catalog.specs.declared.references.link.Link.{Link}
 use Rattle.mm_catalog.specs.Assigned.{AreSetBy, AreToColumns, CellSet, IsUpdated, links_at, row_links_at, set_link, set_links}
 use Rattle.mm_catalog.specs.Cells.{read_in, target_in}
@@ -36,13 +37,13 @@ use Rattle.mm_catalog.specs.Recounted.{AreRecounted, HaveReferrers, IsRewritten}
 use Rattle.mm_catalog.specs.State.{CatalogState}
 use Rattle.mm_catalog.proofs.Back.{lead_back}
 use Rattle.mm_catalog.proofs.Bounded.{few_columns, few_links}
-use Rattle.mm_catalog.proofs.Declared.{among_at, current_at}
+use Rattle.mm_catalog.proofs.Among.{among_at, current_at}
 use Rattle.mm_catalog.proofs.Elsewhere.{counted_from, current_beside_old, kept_from, rewritten_from}
 use Rattle.mm_catalog.proofs.Counted as later
 use Rattle.mm_catalog.proofs.Counted.{AreRecounted-trans, all_held_still}
 use Rattle.mm_catalog.proofs.LinksHeld.{Contains-range}
 use Rattle.mm_catalog.proofs.Lists.{get-take}
-use Rattle.mm_catalog.proofs.RelationSets.{keys_set, links_set, row_wide, row_was}
+use Rattle.mm_catalog.proofs.RelationSets.{keys_set, links_set, row_wide, held_same}
 use Rattle.mm_catalog.proofs.Removing.{link_held_at, links_within}
 use Rattle.mm_catalog.proofs.RowLinks.{All-filter_map}
 use Rattle.mm_catalog.proofs.RowSets.{AreApart}
@@ -107,7 +108,7 @@ module _ (k : CatalogState) (ok : IsConsistent k) (n : ℕ) (b : RelationState) 
   keeps_front column table s e at = (among_at k ok n b there).counted column table s e (front_at table s at)
 
   pub counted_front : HaveReferrers front (links_to k.relations)
-  counted_front table s r row at held = ok.counted table s r row (front_at table s at) held
+  counted_front table s r at held = ok.counted table s r (front_at table s at) held
 
   module _ (assignments : List Assignment) (to : AreToColumns (length b.targets) assignments) (sets : List CellSet) (cells : AreSetBy front b.targets assignments sets) where
     set_from : (i : ℕ) (d : CellSet) → i < length sets → (a : Assignment) × (slice_get assignments i ≡ Some a) × ((get_or sets i d).0 ≡ a.column) × IsSome (read_in front (target_at b.targets a.column.0) (get_or sets i d).1)
@@ -172,8 +173,8 @@ module _ (k : CatalogState) (ok : IsConsistent k) (n : ℕ) (b : RelationState) 
 
       -- there is room for the links that come
       pub room_front : HaveRoom front (length rs * length sets)
-      room_front table s r row at found =
-          let counted = counted_front table s r row at found in
+      room_front table s r at named =
+          let counted = counted_front table s r at named in
           let few = few_links k ok table r in
           let product : length rs * length sets ≤ 16777216 * 16 = mul-le-mul few_rows few_sets in
           let bound : 17179869184 + 16777216 * 16 < 18446744073709551616 = omega arith in
@@ -215,8 +216,8 @@ module _ (k : CatalogState) (ok : IsConsistent k) (n : ℕ) (b : RelationState) 
 
           pub gone_enough : HaveAtLeast raised (naming (map linked_of gone))
           unfolding links_to
-          gone_enough t s q row at found =
-              let counted = counted_up t s q row at found in
+          gone_enough t s q at named =
+              let counted = counted_up t s q at named in
               let whole = links_now (is_link_to t q) in
               let part = links_within (is_link_to t q) k.relations n b there in
               let less : naming (map linked_of gone) t q ≡ count_by (is_link_to t q) (links_at b sets rs) = ap (count_by (is_link_to t q)) listed in
@@ -233,13 +234,11 @@ module _ (k : CatalogState) (ok : IsConsistent k) (n : ℕ) (b : RelationState) 
             new = lowered ++ set (drop n k.relations) 0 a
 
             rewritten : IsRewritten k.relations new n b a
-            rewritten = rewritten_from k.relations lowered n b a there recounted changed.keeps (λ r row at some. keys_set b a rs sets changed r)
+            rewritten = rewritten_from k.relations lowered n b a there recounted changed.keeps (λ r named some. keys_set b a rs sets changed r)
 
             -- rows that no cell of a link touches keep their numbers
-            own_counts : (r : TupleRef) (row : Row) → get a.rows r ≡ Some row → row.referrers ≡ links_to k.relations n r
-            own_counts r row at =
-                let was = row_was b a rs sets changed r row at in
-                was.2 ∙ ok.counted n b r was.0 there was.1
+            own_counts : (r : TupleRef) → IsSome (get a.rows r) → referrers_at a.referrers r ≡ links_to k.relations n r
+            own_counts r here = ap (λ (numbers : Tuples ℕ). referrers_at numbers r) changed.referrers ∙ ok.counted n b r there (sym (held_same b a rs sets changed r) ∙ here)
 
             counts : (t : ℕ) (q : TupleRef) → t < n → links_to k.relations t q + length rs * naming (set_links a.targets sets) t q - naming (map linked_of gone) t q + count_by (is_link_to t q) (relation_links b) ≡ links_to k.relations t q + count_by (is_link_to t q) (relation_links a)
             unfolding links_to

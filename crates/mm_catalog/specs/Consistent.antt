@@ -1,5 +1,5 @@
 -- What a catalog keeps.
-use Rattle.std.specs.Prelude.{◌≡◌, ℕ, ◌≤◌, List, Some, length, map, slice_get}
+use Rattle.std.specs.Prelude.{◌≡◌, ◌≤◌, ℕ, List, Some, length, map}
 use Rattle.std.specs.List.{All}
 use Rattle.std.specs.FinMap as finite
 use Rattle.part_raw.specs.declared.tuple_ref.TupleRef.{TupleRef}
@@ -10,6 +10,7 @@ use Rattle.mm_catalog.specs.State.{CatalogState}
 use Rattle.mm_catalog.specs.Seen.{database_of}
 use Rattle.mm_catalog.specs.Linked.{target_of, links_to, HasLinksOrNulls}
 use Rattle.mm_catalog.specs.Counted.{LeadIntoCounted}
+use Rattle.mm_catalog.specs.Recounted.{HaveReferrers}
 
 -- A relation among the others, under these names: it keeps what a relation keeps, its links lead into the tables that
 -- its columns refer to, which keep the numbers of their rows' referrers, its rows have links or nulls there, and it is current
@@ -23,8 +24,7 @@ pub record IsAmong (names : List (List ℕ)) (relations : List RelationState) (s
 
 -- each row's number of referrers is the number of links that name it
 abbrev pub AreCounted : List RelationState → Type 0
-AreCounted relations =
-    (table : ℕ) (s : RelationState) (r : TupleRef) (row : Row) → slice_get relations table ≡ Some s → finite.get s.rows r ≡ Some row → row.referrers ≡ links_to relations table r
+AreCounted relations = HaveReferrers relations (links_to relations)
 
 -- Each relation has a name, the database is sound, and each relation stands rightly among the others. The limit is none
 -- that a relation cannot keep, and each row's referrers are counted.

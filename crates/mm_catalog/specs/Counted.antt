@@ -2,7 +2,7 @@
 use Rattle.std.specs.Prelude.{◌≡◌, ℕ, ◌+◌, ◌^◌, ◌<◌, ◌≤◌, List, Option, Some, IsSome, IsTrue, All, slice_get, count_by}
 use Rattle.std.specs.FinMap as finite
 use Rattle.part_raw.specs.declared.tuple_ref.TupleRef.{TupleRef}
-use Rattle.mm_relation.specs.Rows.{Row}
+use Rattle.mm_relation.specs.Rows.{referrers_at}
 use Rattle.mm_relation.specs.State.{RelationState, IsKept}
 use Rattle.mm_catalog.specs.declared.references.link.Link.{Link}
 use Rattle.mm_catalog.specs.Linked.{Linked, is_link_to, target_at}
@@ -32,16 +32,15 @@ naming links table r = count_by (is_link_to table r) links
 -- each row can have so many referrers more
 abbrev pub HaveRoom : List RelationState → ℕ → Type 0
 HaveRoom relations n =
-    (table : ℕ) (s : RelationState) (r : TupleRef) (row : Row) → slice_get relations table ≡ Some s → finite.get s.rows r ≡ Some row → row.referrers + n < 2 ^ 64
+    (table : ℕ) (s : RelationState) (r : TupleRef) → slice_get relations table ≡ Some s → IsSome (finite.get s.rows r) → referrers_at s.referrers r + n < 2 ^ 64
 
 -- each row has so many referrers at least
 abbrev pub HaveAtLeast : List RelationState → (ℕ → TupleRef → ℕ) → Type 0
 HaveAtLeast relations count =
-    (table : ℕ) (s : RelationState) (r : TupleRef) (row : Row) → slice_get relations table ≡ Some s → finite.get s.rows r ≡ Some row → count table r ≤ row.referrers
+    (table : ℕ) (s : RelationState) (r : TupleRef) → slice_get relations table ≡ Some s → IsSome (finite.get s.rows r) → count table r ≤ referrers_at s.referrers r
 
 -- each row has so many referrers more, and so many fewer, and nothing else differs
 pub record AreCountedBy (old new : List RelationState) (more fewer : ℕ → TupleRef → ℕ) : Type 0 where
   pub recounted : AreRecounted old new
   pub kept : All IsKept new
-  pub counts : (table : ℕ) (s t : RelationState) (r : TupleRef) (row now : Row) → slice_get old table ≡ Some s → slice_get new table ≡ Some t
-      → finite.get s.rows r ≡ Some row → finite.get t.rows r ≡ Some now → now.referrers + fewer table r ≡ row.referrers + more table r
+  pub counts : (table : ℕ) (s t : RelationState) (r : TupleRef) → slice_get old table ≡ Some s → slice_get new table ≡ Some t → referrers_at t.referrers r + fewer table r ≡ referrers_at s.referrers r + more table r

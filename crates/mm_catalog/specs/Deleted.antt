@@ -2,7 +2,7 @@
 use Rattle.std.specs.Prelude.{◌≡◌, ℕ, ◌+◌, ◌<◌, ◌++◌, List, Some, None, All, Any, Contains, drop, slice_get, slice_set, take}
 use Rattle.std.specs.FinMap as finite
 use Rattle.part_raw.specs.declared.tuple_ref.TupleRef.{TupleRef}
-use Rattle.mm_relation.specs.Rows.{Row}
+use Rattle.mm_relation.specs.Rows.{Row, referrers_at}
 use Rattle.mm_relation.specs.Changes.{KeepsSchema}
 use Rattle.mm_relation.specs.State.{RelationState, IsKept, IsCurrent, linked_keys}
 use Rattle.mm_catalog.specs.Linked.{relation_links}
@@ -10,16 +10,17 @@ use Rattle.mm_catalog.specs.Counted.{AreCountedBy, naming, none}
 
 -- links name this row
 abbrev pub IsReferenced : RelationState → TupleRef → Type 0
-IsReferenced s r = (row : Row) × (finite.get s.rows r ≡ Some row) × (0 < row.referrers)
+IsReferenced s r = (row : Row) × (finite.get s.rows r ≡ Some row) × (0 < referrers_at s.referrers r)
 
 -- no link does
 abbrev pub IsFree : RelationState → TupleRef → Type 0
-IsFree s r = (row : Row) → finite.get s.rows r ≡ Some row → row.referrers ≡ 0
+IsFree s r = referrers_at s.referrers r ≡ 0
 
 -- these rows less, and no other differs
 pub record AreRemoved (old new : RelationState) (refs : List TupleRef) : Type 0 where
   pub gone : (r : TupleRef) → Contains refs r → finite.get new.rows r ≡ None
   pub others : (r : TupleRef) → (Contains refs r → ⊥) → finite.get new.rows r ≡ finite.get old.rows r
+  pub counts : (r : TupleRef) → (Contains refs r → ⊥) → referrers_at new.referrers r ≡ referrers_at old.referrers r
   pub keeps : KeepsSchema old new
 
 -- each row has as many referrers fewer as the one relation has links to it fewer than the other

@@ -16,7 +16,7 @@ use Rattle.mm_catalog.specs.Counted.{AreCountedBy, naming, none}
 -- why the value behind these cells has none: their key is there, or the value is to name a row and names none
 abbrev pub IsNotNamed : List RelationState → RelationState → List Cell → Value → Refusal → Type 0
 IsNotNamed relations s cells value refusal =
-    (0 < length cells) × ((HasKey s.rows (row_of cells 0).key × (refusal ≡ KeyExists None)) ⊎ ((HasKey s.rows (row_of cells 0).key → ⊥) × (refusal ≡ NoReferencedRow None) × NamesNone relations (target_at s.targets (length cells)) value))
+    (0 < length cells) × ((HasKey s.rows (row_of cells).key × (refusal ≡ KeyExists None)) ⊎ ((HasKey s.rows (row_of cells).key → ⊥) × (refusal ≡ NoReferencedRow None) × NamesNone relations (target_at s.targets (length cells)) value))
 
 -- the row of these values can come in: its key is new, each row that it is to name is there, and there are fewer rows than the most
 pub record CanComeIn (relations : List RelationState) (s : RelationState) (most : ℕ) (values : List Value) (key : Value) (behind : List Cell) : Type 0 where

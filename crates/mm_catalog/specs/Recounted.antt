@@ -1,17 +1,15 @@
 -- Relations whose rows are counted anew as links come and go.
-use Rattle.std.specs.Prelude.{◌≡◌, ◌≢◌, ℕ, ◌<◌, List, Some, length, slice_get}
-use Rattle.std.specs.Option.{option_map}
+use Rattle.std.specs.Prelude.{◌≡◌, ◌≢◌, ℕ, ◌<◌, List, IsSome, Some, length, slice_get}
 use Rattle.std.specs.FinMap as finite
 use Rattle.part_raw.specs.declared.tuple_ref.TupleRef.{TupleRef}
-use Rattle.mm_relation.specs.Rows.{Row}
-use Rattle.mm_relation.specs.Changes.{KeepsSchema, with_referrers}
+use Rattle.mm_relation.specs.Rows.{referrers_at}
+use Rattle.mm_relation.specs.Changes.{KeepsSchema}
 use Rattle.mm_relation.specs.Reading.{key_at}
 use Rattle.mm_relation.specs.State.{RelationState}
 
--- the rows differ in their numbers of referrers at most, and nothing else differs
-pub record IsRecounted (old new : RelationState) : Type 0 where
-  pub rows : (r : TupleRef) → option_map (with_referrers 0) (finite.get new.rows r) ≡ option_map (with_referrers 0) (finite.get old.rows r)
-  pub same : new ≡ record old { rows = new.rows }
+-- the numbers of the rows' referrers are others, and nothing else
+abbrev pub IsRecounted : RelationState → RelationState → Type 0
+IsRecounted old new = new ≡ record old { referrers = new.referrers }
 
 -- as many relations, and each is the old one but for numbers of referrers
 pub record AreRecounted (old new : List RelationState) : Type 0 where
@@ -21,7 +19,7 @@ pub record AreRecounted (old new : List RelationState) : Type 0 where
 -- each row has so many referrers
 abbrev pub HaveReferrers : List RelationState → (ℕ → TupleRef → ℕ) → Type 0
 HaveReferrers relations count =
-    (table : ℕ) (s : RelationState) (r : TupleRef) (row : Row) → slice_get relations table ≡ Some s → finite.get s.rows r ≡ Some row → row.referrers ≡ count table r
+    (table : ℕ) (s : RelationState) (r : TupleRef) → slice_get relations table ≡ Some s → IsSome (finite.get s.rows r) → referrers_at s.referrers r ≡ count table r
 
 -- The relation of a number is another one over the same columns, in which each row that has referrers keeps its key. All
 -- others are recounted at most.
@@ -31,4 +29,4 @@ pub record IsRewritten (old new : List RelationState) (n : ℕ) (before after : 
   pub count : length new ≡ length old
   pub others : (k : ℕ) (s t : RelationState) → k ≢ n → slice_get old k ≡ Some s → slice_get new k ≡ Some t → IsRecounted s t
   pub keeps : KeepsSchema before after
-  pub keys : (r : TupleRef) (row : Row) → finite.get before.rows r ≡ Some row → 0 < row.referrers → key_at after.rows r ≡ key_at before.rows r
+  pub keys : (r : TupleRef) → IsSome (finite.get before.rows r) → 0 < referrers_at before.referrers r → key_at after.rows r ≡ key_at before.rows r

@@ -25,7 +25,7 @@ use std::alloc::Global;
 // The refusal of a row of these cells that cannot come in: its key is held already, or there is this reason.
 fn kept_out(relation: &Relation, cells: &[StoredCell], reason: Refusal) -> Refusal
     requires { StartsWithKey cells.now }
-    ensures { (HasKey relation.now.rows (row_of cells.now 0).key × (result ≡ Refusal.KeyExists None)) ⊎ ((HasKey relation.now.rows (row_of cells.now 0).key → ⊥) × (result ≡ reason)) }
+    ensures { (HasKey relation.now.rows (row_of cells.now).key × (result ≡ Refusal.KeyExists None)) ⊎ ((HasKey relation.now.rows (row_of cells.now).key → ⊥) × (result ≡ reason)) }
 {
     if relation.has_key_of(cells) {
         Refusal::KeyExists { record: None }
@@ -104,14 +104,14 @@ fn take_in(
     requires kept { All IsKept before.old }
     requires starts { StartsWithKey cells.old.items }
     requires width { length cells.old.items ≡ length relation.old.targets }
-    requires readable { IsReadable (linked_keys relation.old.targets before.old) (length relation.old.targets) (row_of cells.old.items 0) }
+    requires readable { IsReadable (linked_keys relation.old.targets before.old) (length relation.old.targets) (row_of cells.old.items) }
     requires current { IsCurrent (linked_keys relation.old.targets before.old) relation.old }
     requires few { finite.len relation.old.rows < 16777216 }
-    requires links { All (IsHeldIn before.old) (row_links relation.old.targets (row_of cells.old.items 0)) }
+    requires links { All (IsHeldIn before.old) (row_links relation.old.targets (row_of cells.old.items)) }
     requires room { HaveRoom before.old (length relation.old.targets) }
-    ensures taken { IfOk result (λ r. IsTakenIn before.old before.new relation.old relation.new r (row_of cells.old.items 0)) }
-    ensures fresh { IfOk result (λ _. HasKey relation.old.rows (row_of cells.old.items 0).key → ⊥) }
-    ensures refused { IfErr result (λ refusal. (most : ℕ) (rest : List Value) → IsKeptOut before.old relation.old most (row_of cells.old.items 0).key rest refusal) }
+    ensures taken { IfOk result (λ r. IsTakenIn before.old before.new relation.old relation.new r (row_of cells.old.items)) }
+    ensures fresh { IfOk result (λ _. HasKey relation.old.rows (row_of cells.old.items).key → ⊥) }
+    ensures refused { IfErr result (λ refusal. (most : ℕ) (rest : List Value) → IsKeptOut before.old relation.old most (row_of cells.old.items).key rest refusal) }
     ensures others { OnErr result (before.new ≡ before.old) }
     ensures unchanged { OnErr result (relation.new ≡ relation.old) }
 {

@@ -12,13 +12,13 @@ use Rattle.mm_catalog.proofs.insert.take_in.Goals as goal
 
 pub count_up_links-requires-clause-held : goal.count_up_links-requires-clause-held
 count_up_links-requires-clause-held c =
-    ap is_some (row_here c.args.relation.now c.insert_row-taken.new.self c.in-Ok.r (row_of c.args.cells.now.items 0) c.in-Ok.ensures.inserted)
+    ap is_some (row_here c.args.relation.now c.insert_row-taken.new.self c.in-Ok.r (row_of c.args.cells.now.items) c.in-Ok.ensures.inserted)
 
 pub count_up_links-requires-clause-named : goal.count_up_links-requires-clause-named
 count_up_links-requires-clause-named c row found =
     let old = c.args.relation.now in
     let new = c.insert_row-taken.new.self in
-    let t = row_of c.args.cells.now.items 0 in
+    let t = row_of c.args.cells.now.items in
     let same : t ≡ row = same_Some t row (sym (row_here old new c.in-Ok.r t c.in-Ok.ensures.inserted) ∙ found) in
     subst (All (IsHeldIn c.args.before.now)) (λ i. row_links (sym c.in-Ok.ensures.inserted.keeps.targets i) (same i)) c.requires.links
 
@@ -26,7 +26,7 @@ pub returns-in-Ok-clause-taken : goal.returns-in-Ok-clause-taken
 returns-in-Ok-clause-taken c =
     let old = c.args.relation.now in
     let new = c.insert_row-taken.new.self in
-    let t = row_of c.args.cells.now.items 0 in
+    let t = row_of c.args.cells.now.items in
     record {
       inserted = c.in-Ok.ensures.inserted;
       kept = c.a_relation_is_kept.ensures;
@@ -38,7 +38,7 @@ returns-in-Ok-clause-taken c =
 pub returns-in-Err-KeyExists-clause-refused : goal.returns-in-Err-KeyExists-clause-refused
 returns-in-Err-KeyExists-clause-refused c most rest =
     let refused : c.in-Err-KeyExists.field-0 ≡ KeyExists = rw c.in-Err-KeyExists.is at c.in-Err-KeyExists.field-0-is in
-    key_there (subst (IsToldRightly c.args.relation.now (row_of c.args.cells.now.items 0).key) (c.in-Err-KeyExists.is ∙ ap Err refused) c.insert_row-taken.ensures.told)
+    key_there (subst (IsToldRightly c.args.relation.now (row_of c.args.cells.now.items).key) (c.in-Err-KeyExists.is ∙ ap Err refused) c.insert_row-taken.ensures.told)
 
 pub returns-in-Err-NoMemory-clause-refused : goal.returns-in-Err-NoMemory-clause-refused
 returns-in-Err-NoMemory-clause-refused c most rest = no_memory

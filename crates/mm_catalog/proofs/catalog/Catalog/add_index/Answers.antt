@@ -8,7 +8,8 @@ use Rattle.plain_tables.specs.ResolvedLaws.{IsMeant}
 use Rattle.mm_catalog.specs.Consistent.{IsConsistent}
 use Rattle.mm_catalog.specs.Changes.{IsDone}
 use Rattle.mm_catalog.proofs.Lists.{whole}
-use Rattle.mm_catalog.proofs.Declared.{there_at, column_at, current_at, indexed_consistent, indexed_done}
+use Rattle.mm_catalog.proofs.Among.{there_at, column_at, current_at}
+use Rattle.mm_catalog.proofs.Declared.{indexed_consistent, indexed_done}
 use Rattle.mm_catalog.proofs.catalog.Catalog.add_index.Goals as goal
 
 pub declare-requires : goal.declare-requires

@@ -5,7 +5,8 @@ use Rattle.mm_catalog.specs.State.{CatalogState}
 use Rattle.mm_catalog.specs.Seen.{database_of}
 use Rattle.plain_tables.specs.ResolvedLaws.{IsMeant}
 use Rattle.mm_catalog.proofs.Lists.{whole}
-use Rattle.mm_catalog.proofs.Declared.{there_at, current_at, IsLeft, left_undeclared}
+use Rattle.mm_catalog.proofs.Among.{there_at, current_at}
+use Rattle.mm_catalog.proofs.Declared.{IsLeft, left_undeclared}
 use Rattle.mm_catalog.proofs.catalog.Catalog.drop_index.Goals as goal
 use Rattle.mm_catalog.proofs.catalog.Catalog.drop_index.Goals.{After-undeclare}
 

@@ -10,7 +10,7 @@ use Rattle.plain_tables.specs.declared.refusal.Refusal.TheVariants.{NoMemory}
 use Rattle.mm_catalog.specs.Loaded.{HasMore, HaveGone}
 use Rattle.mm_catalog.specs.Seen.{database_of}
 use Rattle.mm_catalog.specs.State.{CatalogState}
-use Rattle.mm_catalog.proofs.Declared.{there_at}
+use Rattle.mm_catalog.proofs.Among.{there_at}
 use Rattle.mm_catalog.proofs.Lists.{drop-next, drop-some, get-drop}
 use Rattle.mm_catalog.proofs.Loaded.{more_none, more_then}
 use Rattle.mm_catalog.proofs.LoadSteps.{under_way_none, under_way_meant, under_way_then, under_way_refused}

@@ -8,7 +8,7 @@ use Rattle.mm_catalog.specs.Seen.{database_of}
 use Rattle.mm_catalog.specs.LoadOrder.{KeyPlace, row_at}
 use Rattle.mm_catalog.specs.State.{CatalogState}
 use Rattle.mm_catalog.proofs.ComeIn.{meant_moved, loaded_moved}
-use Rattle.mm_catalog.proofs.Declared.{there_at}
+use Rattle.mm_catalog.proofs.Among.{there_at}
 use Rattle.mm_catalog.proofs.catalog.Catalog.load_by_key.Goals as goal
 
 pub at-requires : goal.at-requires

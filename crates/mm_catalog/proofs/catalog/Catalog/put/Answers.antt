@@ -6,7 +6,7 @@ use Rattle.plain_tables.specs.declared.resolved.Resolved.TheVariants as resolved
 use Rattle.mm_catalog.specs.State.{CatalogState}
 use Rattle.mm_catalog.specs.Seen.{database_of}
 use Rattle.mm_catalog.proofs.Lists.{whole}
-use Rattle.mm_catalog.proofs.Declared.{there_at}
+use Rattle.mm_catalog.proofs.Among.{there_at}
 use Rattle.mm_catalog.proofs.Inserted.{IsInsertedSo, inserted_so, some_value, values_width}
 use Rattle.mm_catalog.proofs.catalog.Catalog.put.Given.{Over}
 use Rattle.mm_catalog.proofs.catalog.Catalog.put.Goals as goal

@@ -6,7 +6,7 @@ use Rattle.mm_relation.specs.State.{linked_keys}
 use Rattle.mm_catalog.specs.State.{CatalogState}
 use Rattle.mm_catalog.specs.Seen.{database_of}
 use Rattle.mm_catalog.proofs.Tables.{database-length}
-use Rattle.mm_catalog.proofs.Declared.{among_at}
+use Rattle.mm_catalog.proofs.Among.{among_at}
 use Rattle.mm_catalog.proofs.TreeShapes.{tells_tree}
 use Rattle.mm_catalog.proofs.catalog.Catalog.tree_shape.Goals as goal
 

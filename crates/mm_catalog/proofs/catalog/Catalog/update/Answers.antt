@@ -12,7 +12,7 @@ use Rattle.mm_catalog.specs.Consistent.{IsConsistent}
 use Rattle.mm_catalog.specs.Picked.{ArePicked, HoldsRows}
 use Rattle.mm_catalog.specs.Seen.{database_of}
 use Rattle.mm_catalog.specs.State.{CatalogState}
-use Rattle.mm_catalog.proofs.Declared.{there_at}
+use Rattle.mm_catalog.proofs.Among.{there_at}
 use Rattle.mm_catalog.proofs.Lists.{whole}
 use Rattle.mm_catalog.proofs.UpdateDone.{columns_of, updated_consistent, updated_effect, updated_refused}
 use Rattle.mm_catalog.proofs.catalog.Catalog.update.Goals as goal
