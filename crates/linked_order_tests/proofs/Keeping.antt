@@ -6,7 +6,7 @@ use Rattle.std.proofs.lemmas.List.Elements.{All-contains, Contains-get_or}
 use Rattle.std.specs.Prelude.{slice_get, slice_set}
 use Rattle.std.specs.FinMap.{get, insert, remove, empty}
 use Rattle.part_raw.specs.declared.tuple_ref.TupleRef.{TupleRef}
-use Rattle.part_raw.specs.Store.{Tuple, Tuples, Store, tuple, with_tuple}
+use Rattle.part_raw.specs.Store.{Tuples, Store, with_cells}
 use Rattle.part_raw.specs.TupleRefs.{ref_cmp}
 use Rattle.part_raw.proofs.Lookup.{same_or_other}
 use Rattle.part_raw.proofs.Tuples.{held_at_first, get-insert_same, get-insert_other, get-remove_same, get-remove_other, held_tuple, same_tuples}
@@ -31,7 +31,7 @@ Contains-same_entries xs ys key r same held =
     Contains-from_with_hash key ys r
     (Contains-same_refs (with_hash key xs) (with_hash key ys) r (IsSameBag-with_hash key same) (Contains-with_hash key xs r held))
 
-module _ (authors : Tuples (Tuple Author)) (books : Tuples (Tuple Book)) (r : TupleRef) where
+module _ (authors : Tuples (List Author)) (books : Tuples (List Book)) (r : TupleRef) where
   abbrev rank : TupleRef → Option (ℕ × ℕ)
   rank = rank_at authors books
 
@@ -112,7 +112,7 @@ module _ (authors : Tuples (Tuple Author)) (books : Tuples (Tuple Book)) (r : Tu
             keys q y e same = let f : Some x ≡ Some y = sym ranked ∙ sym (ap rank same) ∙ e in let g : x ≡ y = cc in ap (λ (p : ℕ × ℕ). p.0) g
 
 -- Two stores that differ at one reference alone.
-module _ (authors : Tuples (Tuple Author)) (books after : Tuples (Tuple Book)) (r : TupleRef) (same : (q : TupleRef) → q ≢ r → get after q ≡ get books q) where
+module _ (authors : Tuples (List Author)) (books after : Tuples (List Book)) (r : TupleRef) (same : (q : TupleRef) → q ≢ r → get after q ≡ get books q) where
   rank_same : (q : TupleRef) → q ≢ r → rank_at authors after q ≡ rank_at authors books q
   rank_same q other = ap (option_and_then (book_rank authors)) (same q other)
 
@@ -146,7 +146,7 @@ module _ (authors : Tuples (Tuple Author)) (books after : Tuples (Tuple Book)) (
   }
 
 -- a shelf with no books
-pub kept_at_first : (authors : Tuples (Tuple Author)) (entries : List (ℕ × TupleRef)) → IsKept authors (empty {X = Tuple Book} {R = ref_cmp}) [] entries
+pub kept_at_first : (authors : Tuples (List Author)) (entries : List (ℕ × TupleRef)) → IsKept authors (empty {X = List Book} {R = ref_cmp}) [] entries
 kept_at_first authors entries = record {
   differ = record { apart = λ a b held _. absurd (nothing a (held_from_rank authors empty a held)) };
   ranked = λ k d l. absurd (omega arith);
@@ -155,11 +155,11 @@ kept_at_first authors entries = record {
   hashed = λ q x e. absurd (nothing q (held_from_rank authors empty q (ap is_some e)));
 }
   where
-    nothing : (q : TupleRef) → IsSome (get (empty {X = Tuple Book} {R = ref_cmp}) q) → ⊥
-    nothing q held = let e : true ≡ false = sym held ∙ ap is_some (held_at_first {T = Tuple Book} q) in cc
+    nothing : (q : TupleRef) → IsSome (get (empty {X = List Book} {R = ref_cmp}) q) → ⊥
+    nothing q held = let e : true ≡ false = sym held ∙ ap is_some (held_at_first {T = List Book} q) in cc
 
 -- the order of the entries plays no part
-pub kept_same_bag : (authors : Tuples (Tuple Author)) (books : Tuples (Tuple Book)) (items : List TupleRef) (entries others : List (ℕ × TupleRef)) → IsKept authors books items entries → IsSameBag others entries → IsKept authors books items others
+pub kept_same_bag : (authors : Tuples (List Author)) (books : Tuples (List Book)) (items : List TupleRef) (entries others : List (ℕ × TupleRef)) → IsKept authors books items entries → IsSameBag others entries → IsKept authors books items others
 kept_same_bag authors books items entries others kept bag = record {
   differ = kept.differ;
   ranked = kept.ranked;
@@ -169,33 +169,29 @@ kept_same_bag authors books items entries others kept bag = record {
 }
 
 -- the rank of a book whose author is found
-pub rank_of : (authors : Tuples (Tuple Author)) (t : Tuple Book) (book : Book) (a : Tuple Author) (author : Author) → slice_get t.cells 0 ≡ Some book → get authors book.by ≡ Some a → slice_get a.cells 0 ≡ Some author
+pub rank_of : (authors : Tuples (List Author)) (t : List Book) (book : Book) (a : List Author) (author : Author) → slice_get t 0 ≡ Some book → get authors book.by ≡ Some a → slice_get a 0 ≡ Some author
     → book_rank authors t ≡ Some (author.key, book.key)
 rank_of authors t book a author first found its =
     ap (option_and_then (link_rank authors)) first
-    ∙ ap (λ o. option_and_then (λ key. Some (key, book.key)) (option_and_then (λ (x : Tuple Author). option_and_then (λ (y : Author). Some y.key) (slice_get x.cells 0)) o)) found
+    ∙ ap (λ o. option_and_then (λ key. Some (key, book.key)) (option_and_then (λ (x : List Author). option_and_then (λ (y : Author). Some y.key) (slice_get x 0)) o)) found
     ∙ ap (λ o. option_and_then (λ key. Some (key, book.key)) (option_and_then (λ (y : Author). Some y.key) o)) its
 
 -- the first cell of a tuple that was read
-pub first_of : {T : Type 0} (tuples : Tuples (Tuple T)) (r : TupleRef) (cells : List T) (x : T) → IsSome (get tuples r) → IfSome (get tuples r) (λ t. t.cells ≡ cells) → Some x ≡ slice_get cells 0
-    → (t : Tuple T) × (get tuples r ≡ Some t) × (slice_get t.cells 0 ≡ Some x)
-first_of tuples r cells x held told first =
-    let found = held_tuple tuples r held in
-    let same : found.0.cells ≡ cells = subst (λ o. IfSome o (λ t. t.cells ≡ cells)) found.1 told in
-    (found.0, found.1, ap (λ l. slice_get l 0) same ∙ sym first)
+pub first_of : {T : Type 0} (tuples : Tuples (List T)) (r : TupleRef) (cells : List T) (x : T) → get tuples r ≡ Some cells → Some x ≡ slice_get cells 0
+    → (t : List T) × (get tuples r ≡ Some t) × (slice_get t 0 ≡ Some x)
+first_of tuples r cells x told first = (cells, told, sym first)
 
 pub set_first : {T : Type 0} (cells : List T) (old x : T) → slice_get cells 0 ≡ Some old → slice_get (slice_set cells 0 x) 0 ≡ Some x
 set_first [] old x first = absurd (let e : true ≡ false = sym (ap is_some first) in cc)
 set_first (y ∷ rest) old x first = refl
 
 -- the tuple whose first cell was replaced
-pub replaced : {T : Type 0} (before now : Store T) (r : TupleRef) (t : Tuple T) (x : T) → get before.tuples r ≡ Some t → IfSome (get before.tuples r) (λ u. now ≡ with_tuple before r (tuple (slice_set u.cells 0 x) u.count))
-    → now.tuples ≡ insert before.tuples r (tuple (slice_set t.cells 0 x) t.count)
-replaced before now r t x found told = ap (λ s. s.tuples) (subst (λ o. IfSome o (λ u. now ≡ with_tuple before r (tuple (slice_set u.cells 0 x) u.count))) found told)
+pub replaced : {T : Type 0} (before now : Store T) (r : TupleRef) (t : List T) (x : T) → get before.tuples r ≡ Some t → IfSome (get before.tuples r) (λ cells. now ≡ with_cells before r (slice_set cells 0 x)) → now.tuples ≡ insert before.tuples r (slice_set t 0 x)
+replaced before now r t x found told = ap (λ s. s.tuples) (subst (λ o. IfSome o (λ cells. now ≡ with_cells before r (slice_set cells 0 x))) found told)
 
 -- A book is written to the store: a new one, or one in the place of another.
-module _ (authors : Tuples (Tuple Author)) (books : Tuples (Tuple Book)) (r : TupleRef) (book : Tuple Book) where
-  abbrev written : Tuples (Tuple Book)
+module _ (authors : Tuples (List Author)) (books : Tuples (List Book)) (r : TupleRef) (book : List Book) where
+  abbrev written : Tuples (List Book)
   written = insert books r book
 
   pub kept_beside : (items : List TupleRef) (entries : List (ℕ × TupleRef)) → IsKeptBut authors books r items entries → IsKeptBut authors written r items entries
@@ -249,7 +245,7 @@ module _ (authors : Tuples (Tuple Author)) (books : Tuples (Tuple Book)) (r : Tu
       ]
 
 -- a book is taken out of the store, once it is out of the indexes
-pub kept_taken : (authors : Tuples (Tuple Author)) (books : Tuples (Tuple Book)) (r : TupleRef) (items : List TupleRef) (entries : List (ℕ × TupleRef)) → IsKeptBut authors books r items entries → RanksDiffer authors books → IsKept authors (remove books r) items entries
+pub kept_taken : (authors : Tuples (List Author)) (books : Tuples (List Book)) (r : TupleRef) (items : List TupleRef) (entries : List (ℕ × TupleRef)) → IsKeptBut authors books r items entries → RanksDiffer authors books → IsKept authors (remove books r) items entries
 kept_taken authors books r items entries but differ =
     kept_without authors (remove books r) r items entries
     (kept_elsewhere authors books (remove books r) r (λ q other. get-remove_other books r q other) items entries but)

@@ -3,7 +3,6 @@ ghost use Rattle.std.specs.Prelude.{◌≡◌, ◌≢◌, ◌<◌, ◌≤◌, []
 ghost use Rattle.std.specs.FinMap as map;
 ghost use Rattle.part_raw.specs.declared.tuple_ref.TupleRef.{TupleRef};
 ghost use Rattle.linked_order_tests.specs.Kept.{IsKept, IsKeptBut};
-ghost use Rattle.part_raw.specs.Store.{tuple};
 ghost use Rattle.linked_order_tests.specs.Ranks.{rank_at};
 
 use crate::order::{Author, Book, RankOrder, RankProbe, rank};
@@ -65,7 +64,7 @@ impl<'a, I: OrderedIndex, E: ExactIndex> Shelf<'a, I, E> {
     // Puts a book into the store, and into no index.
     fn put(&mut self, book: Book) -> Result<TupleRef, Refused>
         requires { 0 < self.old.books.free }
-        ensures put { IfOk result (λ r. (map.get self.old.books.tuples r ≡ None) × (self.new.books.tuples ≡ map.insert self.old.books.tuples r (tuple (book ∷ []) 0))) }
+        ensures put { IfOk result (λ r. (map.get self.old.books.tuples r ≡ None) × (self.new.books.tuples ≡ map.insert self.old.books.tuples r (book ∷ []))) }
         ensures err { OnErr result (self.new ≡ self.old) }
         ensures rest { self.new ≡ record self.old { books = self.new.books } }
     {

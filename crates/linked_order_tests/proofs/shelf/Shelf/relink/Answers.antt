@@ -1,7 +1,6 @@
 use Rattle.std.proofs.Common.{◌≡◌, ℕ, is_some, ap, sym, ◌∙◌}
 use Rattle.std.specs.Prelude.{slice_set}
 use Rattle.std.specs.FinMap.{get, insert}
-use Rattle.part_raw.specs.Store.{tuple}
 use Rattle.linked_order_tests.specs.declared.order.Book.{Book}
 use Rattle.linked_order_tests.proofs.Keeping.{first_of, set_first, replaced, rank_of, rank_written, differ_written, kept_beside, kept_written}
 use Rattle.linked_order_tests.proofs.shelf.Shelf.relink.Goals as goal
@@ -9,12 +8,12 @@ use Rattle.linked_order_tests.proofs.shelf.Shelf.relink.Goals as goal
 pub insert-requires-clause-sound : goal.insert-requires-clause-sound
 insert-requires-clause-sound g c =
     let self = c.reserve.new.self in
-    let was = first_of self.books.tuples c.args.r c.get.result.now c.in-Some.field-0.now (sym c.holds.ensures ∙ c.if-not-holds.false) c.get.ensures.tuple (rw c.in-Some.is at c.first.ensures.value) in
-    let author = first_of self.authors.now.tuples c.args.to c.get-2.result.now c.in-Some-first.author.now (sym c.holds-2.ensures ∙ c.if-not-holds-2.false) c.get-2.ensures.tuple (rw c.in-Some-first.is at c.first-2.ensures.value) in
+    let was = first_of self.books.tuples c.args.r c.get.result.now c.in-Some.field-0.now c.get.ensures.tuple (rw c.in-Some.is at c.first.ensures.value) in
+    let author = first_of self.authors.now.tuples c.args.to c.get-2.result.now c.in-Some-first.author.now c.get-2.ensures.tuple (rw c.in-Some-first.is at c.first-2.ensures.value) in
     let book : Book = record { by = c.args.to; key = c.in-Some.field-0.now.key } in
-    let row = tuple (slice_set was.0.cells 0 book) was.0.count in
+    let row = slice_set was.0 0 book in
     let rank : ℕ × ℕ = (c.in-Some-first.author.now.key, c.in-Some.field-0.now.key) in
-    let ranked = rank_of self.authors.now.tuples row book author.0 c.in-Some-first.author.now (set_first was.0.cells c.in-Some.field-0.now book was.2) author.1 author.2 in
+    let ranked = rank_of self.authors.now.tuples row book author.0 c.in-Some-first.author.now (set_first was.0 c.in-Some.field-0.now book was.2) author.1 author.2 in
     let put : c.replace.new.self.tuples ≡ insert self.books.tuples c.args.r row =
     replaced c.unlist.new.self.books c.replace.new.self c.args.r was.0 book (ap (λ b. get b.tuples c.args.r) c.unlist.ensures.books ∙ was.1) c.replace.ensures.tuples
     ∙ ap (λ b. insert b.tuples c.args.r row) c.unlist.ensures.books in
@@ -24,12 +23,12 @@ insert-requires-clause-sound g c =
 pub insert-requires-clause-covered : goal.insert-requires-clause-covered
 insert-requires-clause-covered g c =
     let self = c.reserve.new.self in
-    let was = first_of self.books.tuples c.args.r c.get.result.now c.in-Some.field-0.now (sym c.holds.ensures ∙ c.if-not-holds.false) c.get.ensures.tuple (rw c.in-Some.is at c.first.ensures.value) in
-    let author = first_of self.authors.now.tuples c.args.to c.get-2.result.now c.in-Some-first.author.now (sym c.holds-2.ensures ∙ c.if-not-holds-2.false) c.get-2.ensures.tuple (rw c.in-Some-first.is at c.first-2.ensures.value) in
+    let was = first_of self.books.tuples c.args.r c.get.result.now c.in-Some.field-0.now c.get.ensures.tuple (rw c.in-Some.is at c.first.ensures.value) in
+    let author = first_of self.authors.now.tuples c.args.to c.get-2.result.now c.in-Some-first.author.now c.get-2.ensures.tuple (rw c.in-Some-first.is at c.first-2.ensures.value) in
     let book : Book = record { by = c.args.to; key = c.in-Some.field-0.now.key } in
-    let row = tuple (slice_set was.0.cells 0 book) was.0.count in
+    let row = slice_set was.0 0 book in
     let rank : ℕ × ℕ = (c.in-Some-first.author.now.key, c.in-Some.field-0.now.key) in
-    let ranked = rank_of self.authors.now.tuples row book author.0 c.in-Some-first.author.now (set_first was.0.cells c.in-Some.field-0.now book was.2) author.1 author.2 in
+    let ranked = rank_of self.authors.now.tuples row book author.0 c.in-Some-first.author.now (set_first was.0 c.in-Some.field-0.now book was.2) author.1 author.2 in
     let put : c.replace.new.self.tuples ≡ insert self.books.tuples c.args.r row =
     replaced c.unlist.new.self.books c.replace.new.self c.args.r was.0 book (ap (λ b. get b.tuples c.args.r) c.unlist.ensures.books ∙ was.1) c.replace.ensures.tuples
     ∙ ap (λ b. insert b.tuples c.args.r row) c.unlist.ensures.books in
@@ -39,12 +38,12 @@ insert-requires-clause-covered g c =
 pub insert-requires-clause-r_covered : goal.insert-requires-clause-r_covered
 insert-requires-clause-r_covered g c =
     let self = c.reserve.new.self in
-    let was = first_of self.books.tuples c.args.r c.get.result.now c.in-Some.field-0.now (sym c.holds.ensures ∙ c.if-not-holds.false) c.get.ensures.tuple (rw c.in-Some.is at c.first.ensures.value) in
-    let author = first_of self.authors.now.tuples c.args.to c.get-2.result.now c.in-Some-first.author.now (sym c.holds-2.ensures ∙ c.if-not-holds-2.false) c.get-2.ensures.tuple (rw c.in-Some-first.is at c.first-2.ensures.value) in
+    let was = first_of self.books.tuples c.args.r c.get.result.now c.in-Some.field-0.now c.get.ensures.tuple (rw c.in-Some.is at c.first.ensures.value) in
+    let author = first_of self.authors.now.tuples c.args.to c.get-2.result.now c.in-Some-first.author.now c.get-2.ensures.tuple (rw c.in-Some-first.is at c.first-2.ensures.value) in
     let book : Book = record { by = c.args.to; key = c.in-Some.field-0.now.key } in
-    let row = tuple (slice_set was.0.cells 0 book) was.0.count in
+    let row = slice_set was.0 0 book in
     let rank : ℕ × ℕ = (c.in-Some-first.author.now.key, c.in-Some.field-0.now.key) in
-    let ranked = rank_of self.authors.now.tuples row book author.0 c.in-Some-first.author.now (set_first was.0.cells c.in-Some.field-0.now book was.2) author.1 author.2 in
+    let ranked = rank_of self.authors.now.tuples row book author.0 c.in-Some-first.author.now (set_first was.0 c.in-Some.field-0.now book was.2) author.1 author.2 in
     let put : c.replace.new.self.tuples ≡ insert self.books.tuples c.args.r row =
     replaced c.unlist.new.self.books c.replace.new.self c.args.r was.0 book (ap (λ b. get b.tuples c.args.r) c.unlist.ensures.books ∙ was.1) c.replace.ensures.tuples
     ∙ ap (λ b. insert b.tuples c.args.r row) c.unlist.ensures.books in
@@ -54,12 +53,12 @@ insert-requires-clause-r_covered g c =
 pub insert-requires-clause-rising : goal.insert-requires-clause-rising
 insert-requires-clause-rising g c =
     let self = c.reserve.new.self in
-    let was = first_of self.books.tuples c.args.r c.get.result.now c.in-Some.field-0.now (sym c.holds.ensures ∙ c.if-not-holds.false) c.get.ensures.tuple (rw c.in-Some.is at c.first.ensures.value) in
-    let author = first_of self.authors.now.tuples c.args.to c.get-2.result.now c.in-Some-first.author.now (sym c.holds-2.ensures ∙ c.if-not-holds-2.false) c.get-2.ensures.tuple (rw c.in-Some-first.is at c.first-2.ensures.value) in
+    let was = first_of self.books.tuples c.args.r c.get.result.now c.in-Some.field-0.now c.get.ensures.tuple (rw c.in-Some.is at c.first.ensures.value) in
+    let author = first_of self.authors.now.tuples c.args.to c.get-2.result.now c.in-Some-first.author.now c.get-2.ensures.tuple (rw c.in-Some-first.is at c.first-2.ensures.value) in
     let book : Book = record { by = c.args.to; key = c.in-Some.field-0.now.key } in
-    let row = tuple (slice_set was.0.cells 0 book) was.0.count in
+    let row = slice_set was.0 0 book in
     let rank : ℕ × ℕ = (c.in-Some-first.author.now.key, c.in-Some.field-0.now.key) in
-    let ranked = rank_of self.authors.now.tuples row book author.0 c.in-Some-first.author.now (set_first was.0.cells c.in-Some.field-0.now book was.2) author.1 author.2 in
+    let ranked = rank_of self.authors.now.tuples row book author.0 c.in-Some-first.author.now (set_first was.0 c.in-Some.field-0.now book was.2) author.1 author.2 in
     let put : c.replace.new.self.tuples ≡ insert self.books.tuples c.args.r row =
     replaced c.unlist.new.self.books c.replace.new.self c.args.r was.0 book (ap (λ b. get b.tuples c.args.r) c.unlist.ensures.books ∙ was.1) c.replace.ensures.tuples
     ∙ ap (λ b. insert b.tuples c.args.r row) c.unlist.ensures.books in
@@ -69,12 +68,12 @@ insert-requires-clause-rising g c =
 pub returns : goal.returns
 returns g c =
     let self = c.reserve.new.self in
-    let was = first_of self.books.tuples c.args.r c.get.result.now c.in-Some.field-0.now (sym c.holds.ensures ∙ c.if-not-holds.false) c.get.ensures.tuple (rw c.in-Some.is at c.first.ensures.value) in
-    let author = first_of self.authors.now.tuples c.args.to c.get-2.result.now c.in-Some-first.author.now (sym c.holds-2.ensures ∙ c.if-not-holds-2.false) c.get-2.ensures.tuple (rw c.in-Some-first.is at c.first-2.ensures.value) in
+    let was = first_of self.books.tuples c.args.r c.get.result.now c.in-Some.field-0.now c.get.ensures.tuple (rw c.in-Some.is at c.first.ensures.value) in
+    let author = first_of self.authors.now.tuples c.args.to c.get-2.result.now c.in-Some-first.author.now c.get-2.ensures.tuple (rw c.in-Some-first.is at c.first-2.ensures.value) in
     let book : Book = record { by = c.args.to; key = c.in-Some.field-0.now.key } in
-    let row = tuple (slice_set was.0.cells 0 book) was.0.count in
+    let row = slice_set was.0 0 book in
     let rank : ℕ × ℕ = (c.in-Some-first.author.now.key, c.in-Some.field-0.now.key) in
-    let ranked = rank_of self.authors.now.tuples row book author.0 c.in-Some-first.author.now (set_first was.0.cells c.in-Some.field-0.now book was.2) author.1 author.2 in
+    let ranked = rank_of self.authors.now.tuples row book author.0 c.in-Some-first.author.now (set_first was.0 c.in-Some.field-0.now book was.2) author.1 author.2 in
     let put : c.replace.new.self.tuples ≡ insert self.books.tuples c.args.r row =
     replaced c.unlist.new.self.books c.replace.new.self c.args.r was.0 book (ap (λ b. get b.tuples c.args.r) c.unlist.ensures.books ∙ was.1) c.replace.ensures.tuples
     ∙ ap (λ b. insert b.tuples c.args.r row) c.unlist.ensures.books in
