@@ -31,7 +31,7 @@ use Rattle.mm_catalog.specs.State.{CatalogState}
 use Rattle.mm_catalog.specs.Seen.{database_of, table_of, values_of, row_values, or_null}
 use Rattle.mm_catalog.specs.Consistent.{IsConsistent}
 use Rattle.mm_catalog.specs.Picked.{seen_values}
-use Rattle.mm_catalog.proofs.Declared.{there_at, named_at, table_at}
+use Rattle.mm_catalog.proofs.Among.{there_at, named_at, table_at}
 use Rattle.plain_tables.specs.declared.refusal.Refusal.{Refusal}
 use Rattle.plain_tables.specs.declared.refusal.Refusal.TheVariants as refusal
 use Rattle.mm_session.specs.Dumps.{IsWithin, IsPast, GoesOnWithin, GoesPast, IsGivenUp}

@@ -33,7 +33,7 @@ use Rattle.mm_catalog.specs.State.{CatalogState}
 use Rattle.mm_catalog.specs.Seen.{database_of, table_of}
 use Rattle.mm_catalog.specs.Consistent.{IsConsistent}
 use Rattle.mm_catalog.specs.Picked.{seen_values}
-use Rattle.mm_catalog.proofs.Declared.{among_at, named_at}
+use Rattle.mm_catalog.proofs.Among.{among_at, named_at}
 use Rattle.mm_catalog.proofs.Tables.{database-get}
 use Rattle.temp_list.specs.Reading as lists
 use Rattle.temp_list.specs.Reading.{value_in}

@@ -26,7 +26,7 @@ use Rattle.mm_catalog.specs.State.{CatalogState}
 use Rattle.mm_catalog.specs.Seen.{database_of}
 use Rattle.mm_catalog.specs.Consistent.{IsConsistent}
 use Rattle.mm_catalog.specs.Picked.{seen_values}
-use Rattle.mm_catalog.proofs.Declared.{among_at}
+use Rattle.mm_catalog.proofs.Among.{among_at}
 use Rattle.temp_list.specs.Reading.{value_in}
 use Rattle.temp_list.proofs.SelectLemmas.{passing_held}
 use Rattle.mm_session.specs.OnlyRow.{ShowsOnly, columns_shown, values_shown}

@@ -25,7 +25,7 @@ use Rattle.mm_catalog.specs.State.{CatalogState}
 use Rattle.mm_catalog.specs.Seen.{database_of}
 use Rattle.mm_catalog.specs.Consistent.{IsConsistent}
 use Rattle.mm_catalog.specs.Picked.{seen_values}
-use Rattle.mm_catalog.proofs.Declared.{among_at}
+use Rattle.mm_catalog.proofs.Among.{among_at}
 use Rattle.temp_list.specs.Reading.{HasColumns, row_passes, passing}
 use Rattle.join_ops.proofs.SideLemmas.{All-same_bag}
 use Rattle.mm_session.specs.Passing.{ArePassing}

@@ -11,7 +11,7 @@ use Rattle.mm_relation.specs.State.{RelationState}
 use Rattle.mm_catalog.specs.State.{CatalogState}
 use Rattle.mm_catalog.specs.Seen.{database_of}
 use Rattle.mm_catalog.specs.Consistent.{IsConsistent}
-use Rattle.mm_catalog.proofs.Declared.{there_at}
+use Rattle.mm_catalog.proofs.Among.{there_at}
 use Rattle.temp_list.specs.Lists.{ListState, HasPlace}
 use Rattle.temp_list.specs.Reading.{OfRelation, passing}
 use Rattle.project_hash.specs.Distinct.{IsDistinctOf}

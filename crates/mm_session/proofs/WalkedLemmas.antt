@@ -19,7 +19,7 @@ use Rattle.mm_relation.specs.State.{RelationState}
 use Rattle.mm_catalog.specs.State.{CatalogState}
 use Rattle.mm_catalog.specs.Seen.{database_of}
 use Rattle.mm_catalog.specs.Consistent.{IsConsistent}
-use Rattle.mm_catalog.proofs.Declared.{among_at}
+use Rattle.mm_catalog.proofs.Among.{among_at}
 use Rattle.temp_list.specs.Reading.{HasColumns, passing, value_in}
 use Rattle.temp_list.specs.Lists.{ListState, IsRowOver, HasPlace, value_of, keys_cmp, relation_of}
 use Rattle.temp_list.proofs.ListLemmas.{place_read}

@@ -7,7 +7,7 @@ use Rattle.mm_relation.specs.State.{RelationState}
 use Rattle.mm_relation.specs.Changes.{HasTree}
 use Rattle.mm_catalog.specs.State.{CatalogState}
 use Rattle.mm_catalog.specs.Consistent.{IsConsistent}
-use Rattle.mm_catalog.proofs.Declared.{among_at}
+use Rattle.mm_catalog.proofs.Among.{among_at}
 use Rattle.temp_list.specs.Reading.{AreSound, HasColumns}
 use Rattle.plan_chooser.specs.declared.plans.JoinInput.{JoinInput}
 use Rattle.join_ops.specs.Joins.{IsThere, HasSideTree}

@@ -1,7 +1,7 @@
 use Rattle.std.proofs.Common.{IsSome, sym, subst}
 use Rattle.std.specs.FinMap as finite
 use Rattle.std.specs.List.{All}
-use Rattle.mm_catalog.proofs.Declared.{there_at}
+use Rattle.mm_catalog.proofs.Among.{there_at}
 use Rattle.mm_reason.proofs.referrers.passing_named.Goals as goal
 
 pub at-requires : goal.at-requires

@@ -2,7 +2,7 @@ use Rattle.std.proofs.Common.{◌≡◌, ◌∙◌, ◌<◌, ap, sym, subst, ref
 use Rattle.std.specs.Option.{option_map}
 use Rattle.plain_tables.specs.declared.numbers.ColumnNumber.{ColumnNumber}
 use Rattle.plain_tables.specs.declared.numbers.TableNumber.{TableNumber}
-use Rattle.mm_catalog.proofs.Declared.{among_at}
+use Rattle.mm_catalog.proofs.Among.{among_at}
 use Rattle.query_tests.proofs.LinkLemmas.{joinable}
 use Rattle.query_tests.proofs.linked.find_link.Goals as goal
 

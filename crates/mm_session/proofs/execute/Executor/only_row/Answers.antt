@@ -5,7 +5,7 @@ use Rattle.std.proofs.lemmas.Option.{IfSome_then}
 use Rattle.mm_relation.specs.State.{RelationState}
 use Rattle.plain_tables.specs.declared.resolved.Test.{Test}
 use Rattle.plan_chooser.specs.Plans.{Fits}
-use Rattle.mm_catalog.proofs.Declared.{among_at, there_at}
+use Rattle.mm_catalog.proofs.Among.{among_at, there_at}
 use Rattle.temp_list.specs.Reading.{HasColumns, passing}
 use Rattle.temp_list.proofs.ListLemmas.{same_at}
 use Rattle.mm_session.proofs.PickLemmas.{test_columns}

@@ -1,5 +1,5 @@
 use Rattle.std.proofs.Common.{◌∙◌, arith, subst, refl}
-use Rattle.mm_catalog.proofs.Declared.{there_at}
+use Rattle.mm_catalog.proofs.Among.{there_at}
 use Rattle.mm_session.specs.Sinks.{PutsRows}
 use Rattle.mm_session.proofs.OnlyRowLemmas.{columns_there, none_shown, one_shown, only_held, width_shown, width_some}
 use Rattle.mm_session.proofs.SinkLemmas.{rows_none}

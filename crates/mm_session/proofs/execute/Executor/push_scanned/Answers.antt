@@ -7,7 +7,7 @@ use Rattle.plain_tables.specs.declared.numbers.Place.{Place}
 use Rattle.plain_tables.specs.declared.numbers.TableNumber.{TableNumber}
 use Rattle.plain_tables.specs.declared.resolved.Test.{Test}
 use Rattle.mm_relation.specs.State.{RelationState}
-use Rattle.mm_catalog.proofs.Declared.{there_at}
+use Rattle.mm_catalog.proofs.Among.{there_at}
 use Rattle.temp_list.specs.Lists.{HasPlace}
 use Rattle.temp_list.specs.Reading.{HasColumns}
 use Rattle.mm_session.specs.Members.{tables_at}

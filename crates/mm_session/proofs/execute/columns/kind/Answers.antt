@@ -13,7 +13,7 @@ use Rattle.mm_relation.specs.State.{RelationState}
 use Rattle.mm_catalog.specs.State.{CatalogState}
 use Rattle.mm_catalog.specs.Consistent.{IsConsistent}
 use Rattle.mm_catalog.specs.Seen.{database_of, table_of}
-use Rattle.mm_catalog.proofs.Declared.{named_at}
+use Rattle.mm_catalog.proofs.Among.{named_at}
 use Rattle.mm_catalog.proofs.Tables.{database-get}
 use Rattle.mm_session.specs.Columns.{column_at}
 use Rattle.mm_session.specs.Members.{tables_at}

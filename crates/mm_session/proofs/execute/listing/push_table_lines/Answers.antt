@@ -4,7 +4,7 @@ use Rattle.std.proofs.lemmas.Result.{on_ok_weaker}
 use Rattle.plain_tables.specs.AnswerText.{declaration_lines}
 use Rattle.plain_tables.specs.Tables.{Table}
 use Rattle.mm_catalog.specs.Seen.{table_of}
-use Rattle.mm_catalog.proofs.Declared.{among_at, named_at, table_at}
+use Rattle.mm_catalog.proofs.Among.{among_at, named_at, table_at}
 use Rattle.mm_catalog.proofs.Tables.{database-length, database-name}
 use Rattle.mm_session.proofs.ListingLemmas.{table_step}
 use Rattle.mm_session.proofs.execute.listing.push_table_lines.Goals as goal

@@ -3,7 +3,7 @@ use Rattle.std.proofs.lemmas.List.{map_more}
 use Rattle.plain_tables.specs.Stored.{link_number}
 use Rattle.plain_tables.specs.declared.numbers.Place.{Place}
 use Rattle.plain_tables.specs.declared.value.Value.{Value}
-use Rattle.mm_catalog.proofs.Declared.{among_at}
+use Rattle.mm_catalog.proofs.Among.{among_at}
 use Rattle.temp_list.specs.Reading.{value_in}
 use Rattle.temp_list.proofs.ReadingLemmas.{can_read, lent_value}
 use Rattle.mm_session.specs.Sinks.{PutsValues}

@@ -5,7 +5,7 @@ use Rattle.plain_tables.specs.Stored.{link_number}
 use Rattle.plain_tables.specs.declared.schema.Schema.{Schema}
 use Rattle.plain_tables.specs.declared.value.Value.{Value}
 use Rattle.plain_tables.specs.declared.value.Value.TheVariants as value
-use Rattle.mm_catalog.proofs.Declared.{among_at}
+use Rattle.mm_catalog.proofs.Among.{among_at}
 use Rattle.mm_catalog.specs.Picked.{seen_values}
 use Rattle.temp_list.specs.Reading.{value_in}
 use Rattle.temp_list.proofs.ReadingLemmas.{can_read, lent_value}

@@ -3,7 +3,7 @@ use Rattle.part_raw.specs.declared.tuple_ref.TupleRef.{TupleRef}
 use Rattle.std.proofs.Common.{List}
 use Rattle.mm_index.specs.Bag.{IsSameBag}
 use Rattle.mm_index.proofs.Bags.{IsSameBag-from_same}
-use Rattle.mm_catalog.proofs.Declared.{among_at, there_at}
+use Rattle.mm_catalog.proofs.Among.{among_at, there_at}
 use Rattle.temp_list.specs.Reading.{passing}
 use Rattle.mm_session.proofs.PickLemmas.{test_columns, are_passing}
 use Rattle.mm_session.proofs.execute.search.rows_passing.Goals as goal

@@ -6,7 +6,7 @@ use Rattle.plain_tables.specs.declared.numbers.TableNumber.{TableNumber}
 use Rattle.plain_tables.specs.declared.schema.Column.{Column}
 use Rattle.plain_tables.specs.declared.schema.Schema.{Schema}
 use Rattle.mm_relation.specs.State.{RelationState}
-use Rattle.mm_catalog.proofs.Declared.{named_at}
+use Rattle.mm_catalog.proofs.Among.{named_at}
 use Rattle.mm_catalog.proofs.Tables.{database-length, database-name}
 use Rattle.mm_session.proofs.PlaceLemmas.{source_at, source_inside, heading_at}
 use Rattle.mm_session.proofs.execute.select.full_name.Goals as goal
