@@ -1,6 +1,6 @@
 -- A catalog of relations that show the rows that they showed: their declared indexes may be others, and they may keep the numbers
 -- of their rows' referrers now.
-use Rattle.std.proofs.Common.{◌≡◌, ℕ, suc, IsTrue, List, [], ◌∷◌, Some, is_some, refl, sym, ap, ◌∙◌, subst, arith, length, map, set, get_or, length-set}
+use Rattle.std.proofs.Common.{◌≡◌, ℕ, IsTrue, List, Some, is_some, refl, sym, ap, ◌∙◌, subst, arith, length, map, set, get_or, length-set}
 use Rattle.std.specs.List.{slice_get, count_by}
 use Rattle.std.specs.FinMap as finite
 use Rattle.std.proofs.lemmas.Option.{slice_get_within, slice_get-get_or}
@@ -14,7 +14,7 @@ use Rattle.mm_catalog.specs.Seen.{database_of, table_of, rows_of, values_of, pla
 use Rattle.mm_catalog.specs.Linked.{target_of, target_at, links_to, is_link_to, HasLinksOrNulls}
 use Rattle.mm_catalog.specs.Consistent.{IsAmong, IsConsistent, AreCounted}
 use Rattle.mm_catalog.proofs.Among.{among_at}
-use Rattle.mm_catalog.proofs.Lists.{each_set}
+use Rattle.mm_catalog.proofs.Lists.{each_set, map_alike}
 use Rattle.mm_catalog.proofs.Outlines.{Outline, outline, outlines, same_keys, same_links}
 
 pub record IsAlike (old new : RelationState) : Type 0 where
@@ -34,12 +34,6 @@ AreAlike-set relations n s t at alike = record {
   each = each_set IsAlike (λ u. record { schema = refl; outline = refl; referrers = refl; counted = λ counted. counted }) relations n s t at alike;
 }
 
-same_map : {A : Type 0} (f : RelationState → A) (xs ys : List RelationState) → length ys ≡ length xs → ((k : ℕ) (s t : RelationState) → slice_get xs k ≡ Some s → slice_get ys k ≡ Some t → f t ≡ f s) → map f ys ≡ map f xs
-same_map f [] [] e same = refl
-same_map f [] (y ∷ ys) e same = absurd (omega (arith, e))
-same_map f (x ∷ xs) [] e same = absurd (omega (arith, e))
-same_map f (x ∷ xs) (y ∷ ys) e same = (λ i. same 0 x y refl refl i ∷ map f ys) ∙ ap (λ l. f x ∷ l) (same_map f xs ys (omega (arith, e)) (λ k. same (suc k)))
-
 module _ (c : CatalogState) (ok : IsConsistent c) (new : List RelationState) (h : AreAlike c.relations new) where
   before : (k : ℕ) (t : RelationState) → slice_get new k ≡ Some t → (s : RelationState) × (slice_get c.relations k ≡ Some s) × IsAlike s t
   before k t at =
@@ -47,7 +41,7 @@ module _ (c : CatalogState) (ok : IsConsistent c) (new : List RelationState) (h 
       (s.0, s.1, h.each k s.0 t s.1 at)
 
   pub same_outlines : outlines new ≡ outlines c.relations
-  same_outlines = same_map outline c.relations new h.count (λ k s t at here. (h.each k s t at here).outline)
+  same_outlines = map_alike outline c.relations new h.count (λ k s t at here. (h.each k s t at here).outline)
 
   among_alike : (k : ℕ) (t : RelationState) → slice_get new k ≡ Some t → IsKept t → IsCurrent (linked_keys t.targets c.relations) t → IsAmong c.names new t
   among_alike k t at kept current =

@@ -1,6 +1,6 @@
 -- A catalog of one table less, to which no column refers.
-use Rattle.std.proofs.Common.{◌≡◌, ◌≢◌, ℕ, zero, suc, ◌+◌, ◌-◌, ◌<◌, false, List, [], ◌∷◌, ◌++◌, Option, Some, None, IsSome, refl, sym, ap, ◌∙◌, subst, arith, length, map, get_or, is_some}
-use Rattle.std.specs.List.{All, slice_get, remove, list_any, position, zip, flat_map, count_by}
+use Rattle.std.proofs.Common.{◌≡◌, ◌≢◌, ℕ, zero, suc, ◌+◌, ◌-◌, ◌<◌, false, List, [], ◌∷◌, Option, Some, None, IsSome, refl, sym, ap, ◌∙◌, subst, arith, length, map, get_or, is_some}
+use Rattle.std.specs.List.{All, slice_get, remove, list_any, position, count_by}
 use Rattle.std.specs.Option.{option_and_then, option_map, option_map_or}
 use Rattle.std.specs.Str.{bytes_eq}
 use Rattle.std.specs.FinMap as finite
@@ -32,30 +32,16 @@ use Rattle.mm_catalog.proofs.Removing.{recounted_keys}
 use Rattle.mm_catalog.proofs.Gone.{moved_back, moved_back-other, moved_up-back, moved_up-injective, get-removed, position-remove}
 use Rattle.mm_catalog.proofs.Renumbered.{less_one, LeadElsewhere, target_at-map, keys_renumbered, kept_renumbered, current_renumbered, links_less_one, database-dropped}
 use Rattle.mm_catalog.proofs.Among.{among_at}
+use Rattle.mm_catalog.proofs.Lists.{flat_map_alike, map-zip-all}
 use Rattle.mm_catalog.proofs.Back.{has_name}
 
 -- ---- relations that are recounted
-
-same_flat : (xs ys : List RelationState) → length ys ≡ length xs → ((k : ℕ) (s t : RelationState) → slice_get xs k ≡ Some s → slice_get ys k ≡ Some t → relation_links t ≡ relation_links s) → flat_map relation_links ys ≡ flat_map relation_links xs
-same_flat [] [] e same = refl
-same_flat (x ∷ xs) (y ∷ ys) e same =
-    ap (λ ls. ls ++ flat_map relation_links ys) (same 0 x y refl refl)
-    ∙ ap (λ ls. relation_links x ++ ls) (same_flat xs ys (omega arith) (λ k. same (suc k)))
-same_flat xs ys e same = absurd (omega arith)
-
-pub same_zip : {A : Type 0} (f g : List ℕ × RelationState → A) (names : List (List ℕ)) (xs ys : List RelationState) → length ys ≡ length xs → ((k : ℕ) (name : List ℕ) (s t : RelationState) → slice_get xs k ≡ Some s → slice_get ys k ≡ Some t → g (name, t) ≡ f (name, s)) → map g (zip names ys) ≡ map f (zip names xs)
-same_zip f g [] xs ys e same = refl
-same_zip f g (name ∷ names) [] [] e same = refl
-same_zip f g (name ∷ names) (x ∷ xs) (y ∷ ys) e same =
-    ap (λ z. z ∷ map g (zip names ys)) (same 0 name x y refl refl)
-    ∙ ap (λ zs. f (name, x) ∷ zs) (same_zip f g names xs ys (omega arith) (λ k. same (suc k)))
-same_zip f g names xs ys e same = absurd (omega arith)
 
 module _ (c : CatalogState) (new : List RelationState) (h : AreRecounted c.relations new) where
   -- they have the same links, and show the same tables
   links-recounted : links new ≡ links c.relations
   unfolding links
-  links-recounted = same_flat c.relations new h.count (λ k s t at here. links_recounted s t (h.each k s t at here))
+  links-recounted = flat_map_alike relation_links c.relations new h.count (λ k s t at here. links_recounted s t (h.each k s t at here))
 
   count-recounted : (table : ℕ) (r : TupleRef) → links_to new table r ≡ links_to c.relations table r
   unfolding links_to
@@ -73,8 +59,8 @@ module _ (c : CatalogState) (new : List RelationState) (h : AreRecounted c.relat
   database-recounted : database_of (record c { relations = new }) ≡ database_of c
   unfolding database_of
   database-recounted =
-      same_zip (λ (t : List ℕ × RelationState). table_of c.relations t.0 t.1) (λ (t : List ℕ × RelationState). table_of new t.0 t.1) c.names c.relations new h.count
-      (λ k name s t at here. table_recounted k name s t (h.each k s t at here))
+      map-zip-all (λ (t : List ℕ × RelationState). table_of c.relations t.0 t.1) (λ (t : List ℕ × RelationState). table_of new t.0 t.1) c.names c.relations new h.count
+      (λ k name s t named at here. table_recounted k name s t (h.each k s t at here))
 
 -- ---- where links lead, once a table to which none lead is gone
 

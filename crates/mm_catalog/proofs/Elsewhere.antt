@@ -27,7 +27,7 @@ use Rattle.mm_catalog.specs.Linked.{target_of, target_at, relation_links, links,
 use Rattle.mm_catalog.specs.Consistent.{IsAmong, IsConsistent, AreCounted}
 use Rattle.mm_catalog.specs.Changes.{IsCurrentAt}
 use Rattle.mm_catalog.specs.Recounted.{IsRecounted, AreRecounted, HaveReferrers, IsRewritten}
-use Rattle.mm_catalog.proofs.Lists.{get-take}
+use Rattle.mm_catalog.proofs.Lists.{get-take, flat_map_alike, map-zip-all}
 use Rattle.mm_catalog.proofs.Outlines.{LeadBack, keys_before}
 use Rattle.mm_catalog.proofs.Back.{lead_back}
 use Rattle.mm_catalog.proofs.Recounting.{key_recounted, current_recounted, links_recounted}
@@ -83,13 +83,6 @@ kept_from c ok n before a front kept =
 
 -- ---- what is the same elsewhere
 
-map-zip-all : {A B C : Type 0} (f g : A × B → C) (xs : List A) (ys zs : List B) → length zs ≡ length ys → ((i : ℕ) (a : A) (b d : B) → slice_get xs i ≡ Some a → slice_get ys i ≡ Some b → slice_get zs i ≡ Some d → g (a, d) ≡ f (a, b)) → map g (zip xs zs) ≡ map f (zip xs ys)
-map-zip-all f g [] ys zs e same = refl
-map-zip-all f g (a ∷ xs) [] [] e same = refl
-map-zip-all f g (a ∷ xs) (b ∷ ys) (d ∷ zs) e same =
-    ap (λ z. z ∷ map g (zip xs zs)) (same 0 a b d refl refl refl) ∙ ap (λ all. f (a, b) ∷ all) (map-zip-all f g xs ys zs (omega arith) (λ i. same (suc i)))
-map-zip-all f g xs ys zs e same = absurd (omega arith)
-
 map-zip-other : {A B C : Type 0} (f g : A × B → C) (xs : List A) (ys zs : List B) (n : ℕ) (x : A) (z : B) → length xs ≡ length ys → length zs ≡ length ys → slice_get xs n ≡ Some x → slice_get zs n ≡ Some z → ((i : ℕ) (a : A) (b d : B) → i ≢ n → slice_get xs i ≡ Some a → slice_get ys i ≡ Some b → slice_get zs i ≡ Some d → g (a, d) ≡ f (a, b)) → map g (zip xs zs) ≡ set (map f (zip xs ys)) n (g (x, z))
 map-zip-other f g [] ys zs n x z e l at here same = absurd (none-some x at)
 map-zip-other f g (a ∷ xs) [] zs n x z e l at here same = absurd (omega arith)
@@ -110,14 +103,8 @@ counted_other {A} test f (a ∷ xs) (b ∷ ys) zero x y l at here same =
     let right = sum_by-append (λ z. cond (test z) 1 0) (f a) (flat_map f xs) in
     let first : count_by test (f a) ≡ count_by test (f x) = ap (λ (z : A). count_by test (f z)) (same_Some a x at) in
     let other : count_by test (f b) ≡ count_by test (f y) = ap (λ (z : A). count_by test (f z)) (same_Some b y here) in
-    let rest : count_by test (flat_map f ys) ≡ count_by test (flat_map f xs) = ap (count_by test) (flat_same xs ys (omega arith) (λ k s t. same (suc k) s t (omega arith))) in
+    let rest : count_by test (flat_map f ys) ≡ count_by test (flat_map f xs) = ap (count_by test) (flat_map_alike f xs ys (omega arith) (λ k s t. same (suc k) s t (omega arith))) in
     omega (arith, left, right, first, other, rest)
-  where
-    flat_same : (us vs : List A) → length vs ≡ length us → ((k : ℕ) (s t : A) → slice_get us k ≡ Some s → slice_get vs k ≡ Some t → f t ≡ f s) → flat_map f vs ≡ flat_map f us
-    flat_same [] [] m alike = refl
-    flat_same (u ∷ us) (v ∷ vs) m alike =
-        ap (λ z. z ++ flat_map f vs) (alike 0 u v refl refl) ∙ ap (λ zs. f u ++ zs) (flat_same us vs (omega arith) (λ k. alike (suc k)))
-    flat_same us vs m alike = absurd (omega arith)
 counted_other test f (a ∷ xs) (b ∷ ys) (suc n) x y l at here same =
     let left = sum_by-append (λ z. cond (test z) 1 0) (f b) (flat_map f ys) in
     let right = sum_by-append (λ z. cond (test z) 1 0) (f a) (flat_map f xs) in

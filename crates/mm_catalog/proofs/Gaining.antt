@@ -16,7 +16,7 @@ use Rattle.mm_catalog.specs.Linked.{target_at}
 use Rattle.mm_catalog.specs.Created.{aimed_relation, GainsCounts, GainCounts, LeadIntoCountedFrom}
 use Rattle.mm_catalog.specs.Consistent.{IsConsistent}
 use Rattle.mm_catalog.proofs.Among.{among_at}
-use Rattle.mm_catalog.proofs.Dropped.{same_zip}
+use Rattle.mm_catalog.proofs.Lists.{map-zip-all}
 use Rattle.plain_tables.specs.Doing.{done}
 use Rattle.plain_tables.specs.ResolvedLaws.{IsDeclarable}
 use Rattle.plain_tables.specs.declared.schema.Schema.{Schema}
@@ -98,8 +98,8 @@ module _ (c : CatalogState) (ok : IsConsistent c) (mid : List RelationState) (h 
   pub database_gained : database_of gained ≡ database_of c
   unfolding database_of table_of
   database_gained =
-      same_zip (λ (t : List ℕ × RelationState). table_of c.relations t.0 t.1) (λ (t : List ℕ × RelationState). table_of mid t.0 t.1) c.names c.relations mid h.count
-      (λ k name s t at here. table_alike c ok mid all_alike k name s t at here ∙ ap (λ (u : RelationState). record (table_of c.relations name s) { indexes = map plain_index u.declared }) (h.each k s t at here).same)
+      map-zip-all (λ (t : List ℕ × RelationState). table_of c.relations t.0 t.1) (λ (t : List ℕ × RelationState). table_of mid t.0 t.1) c.names c.relations mid h.count
+      (λ k name s t named at here. table_alike c ok mid all_alike k name s t at here ∙ ap (λ (u : RelationState). record (table_of c.relations name s) { indexes = map plain_index u.declared }) (h.each k s t at here).same)
 
   still : (k : ℕ) (t : RelationState) → slice_get mid k ≡ Some t → IsKept t × IsCurrent (linked_keys t.targets c.relations) t
   still k t at =

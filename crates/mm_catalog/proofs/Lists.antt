@@ -1,6 +1,7 @@
 -- Lists, by what they have at each place.
 use Rattle.std.proofs.Common.{◌≡◌, ◌≢◌, ℕ, zero, suc, ◌+◌, ◌<◌, List, [], ◌∷◌, Some, refl, sym, ap, ◌∙◌, subst, arith, length, map, set, take, drop, get_or, add-one, ◌++◌}
-use Rattle.std.specs.List.{slice_get, zip, All}
+use Rattle.std.specs.List.{slice_get, zip, All, flat_map}
+use Rattle.std.proofs.lemmas.List.Folds.{flat_map-map}
 use Rattle.std.proofs.Math.Seq.{take-append_seam}
 use Rattle.std.proofs.lemmas.List.{length-drop}
 use Rattle.std.proofs.lemmas.Option.{none-some, same_Some}
@@ -92,6 +93,23 @@ module _ {A : Type 0} (all : List A) {left : List A} (n : ℕ) (are : left ≡ d
 
   pub drop-next : drop 1 left ≡ drop (n + 1) all
   drop-next = ap (drop 1) are ∙ drop-one all n
+
+-- lists that a function sees alike at each place
+pub map_alike : {A B : Type 0} (f : A → B) (xs ys : List A) → length ys ≡ length xs → ((k : ℕ) (x y : A) → slice_get xs k ≡ Some x → slice_get ys k ≡ Some y → f y ≡ f x) → map f ys ≡ map f xs
+map_alike f [] [] e same = refl
+map_alike f [] (y ∷ ys) e same = absurd (omega (arith, e))
+map_alike f (x ∷ xs) [] e same = absurd (omega (arith, e))
+map_alike f (x ∷ xs) (y ∷ ys) e same = (λ i. same 0 x y refl refl i ∷ map f ys) ∙ ap (λ l. f x ∷ l) (map_alike f xs ys (omega (arith, e)) (λ k. same (suc k)))
+
+pub flat_map_alike : {A B : Type 0} (f : A → List B) (xs ys : List A) → length ys ≡ length xs → ((k : ℕ) (x y : A) → slice_get xs k ≡ Some x → slice_get ys k ≡ Some y → f y ≡ f x) → flat_map f ys ≡ flat_map f xs
+flat_map_alike f xs ys e same = sym (flat_map-map (λ l. l) f ys) ∙ ap (flat_map (λ l. l)) (map_alike f xs ys e same) ∙ flat_map-map (λ l. l) f xs
+
+pub map-zip-all : {A B C : Type 0} (f g : A × B → C) (xs : List A) (ys zs : List B) → length zs ≡ length ys → ((i : ℕ) (a : A) (b d : B) → slice_get xs i ≡ Some a → slice_get ys i ≡ Some b → slice_get zs i ≡ Some d → g (a, d) ≡ f (a, b)) → map g (zip xs zs) ≡ map f (zip xs ys)
+map-zip-all f g [] ys zs e same = refl
+map-zip-all f g (a ∷ xs) [] [] e same = refl
+map-zip-all f g (a ∷ xs) (b ∷ ys) (d ∷ zs) e same =
+    ap (λ z. z ∷ map g (zip xs zs)) (same 0 a b d refl refl refl) ∙ ap (λ all. f (a, b) ∷ all) (map-zip-all f g xs ys zs (omega arith) (λ i. same (suc i)))
+map-zip-all f g xs ys zs e same = absurd (omega arith)
 
 -- what holds of each place before and after one element is another
 pub each_set : {A : Type 0} (P : A → A → Type 0) → ((x : A) → P x x) → (xs : List A) (n : ℕ) (x y : A) → slice_get xs n ≡ Some x → P x y → (k : ℕ) (u v : A) → slice_get xs k ≡ Some u → slice_get (set xs n y) k ≡ Some v → P u v
