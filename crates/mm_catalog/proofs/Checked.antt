@@ -32,8 +32,8 @@ use Rattle.mm_catalog.specs.Linked.{target_of, target_at}
 use Rattle.mm_catalog.specs.Consistent.{IsConsistent}
 use Rattle.mm_catalog.specs.Cells.{IsCellOf, NamesNone, AreCellsOf, SomeNamesNone}
 use Rattle.mm_catalog.proofs.Tables.{database-get}
-use Rattle.mm_catalog.proofs.Among.{among_at}
-use Rattle.mm_catalog.proofs.Referenced.{key_shown, no_key_shown, some_column, target_here, reference_held, reference_missing}
+use Rattle.mm_catalog.proofs.Among.{among_at, some_columns, target_column}
+use Rattle.mm_catalog.proofs.Referenced.{key_shown, no_key_shown, reference_held, reference_missing}
 use Rattle.mm_catalog.proofs.Anywhere.{all_pass, not_all_pass}
 use Rattle.mm_catalog.proofs.Lists.{get-zip}
 use Rattle.mm_catalog.proofs.LinksHeld.{Contains-at, Contains-filter_map}
@@ -86,14 +86,14 @@ module _ (c : CatalogState) (ok : IsConsistent c) (n : TableNumber) (s : Relatio
             let cell = slice_get-inside cells k (omega (arith, are.count, slice_get_within rest k v e)) in
             let is : IsCellOf (take n.0 c.relations) (target_at s.targets (k + 1)) v cell.0 = are.each k v cell.0 e cell.1 in
             let next : k + 1 ≡ suc k = omega arith in
-            let target : target_at s.targets (k + 1) ≡ target_of c.names column = ap (target_at s.targets) next ∙ target_here c ok n.0 s there (suc k) column at v in
+            let target : target_at s.targets (k + 1) ≡ target_of c.names column = ap (target_at s.targets) next ∙ target_column c ok n.0 s (suc k) column there at in
             reference_held c ok n.0 s there (suc k) column at v cell.0 (subst (λ o. IsCellOf (take n.0 c.relations) o v cell.0) target is) ref f
 
     references_missing : length values ≡ length s.schema.columns → SomeNamesNone (take n.0 c.relations) s.targets rest → list_all (is_held db) (references s.schema.columns values) ≡ false
     references_missing wide (k, v, at, none) =
         let column = slice_get-inside s.schema.columns (suc k) (omega (arith, wide, slice_get_within rest k v at)) in
         let next : k + 1 ≡ suc k = omega arith in
-        let target : target_at s.targets (k + 1) ≡ target_of c.names column.0 = ap (target_at s.targets) next ∙ target_here c ok n.0 s there (suc k) column.0 column.1 v in
+        let target : target_at s.targets (k + 1) ≡ target_of c.names column.0 = ap (target_at s.targets) next ∙ target_column c ok n.0 s (suc k) column.0 there column.1 in
         let missing = reference_missing c ok n.0 s there (suc k) column.0 column.1 v (subst (λ o. NamesNone (take n.0 c.relations) o v) target none) in
         let there : Contains (zip s.schema.columns values) (column.0, v) = Contains-at (zip s.schema.columns values) (suc k) (column.0, v) (get-zip s.schema.columns values (suc k) column.0 v column.1 at) in
         not_all_pass (is_held db) (references s.schema.columns values) missing.0
@@ -120,11 +120,11 @@ module _ (c : CatalogState) (ok : IsConsistent c) (n : TableNumber) (s : Relatio
 
     key_yes : HasKey s.rows key → has_key_of values table.rows ≡ true
     unfolding table_of
-    key_yes h = key_shown s (among_at c ok n.0 s there).kept (linked_keys s.targets c.relations) (some_column c ok n.0 s there) key rest h
+    key_yes h = key_shown s (among_at c ok n.0 s there).kept (linked_keys s.targets c.relations) (some_columns c ok n.0 s there) key rest h
 
     key_no : (HasKey s.rows key → ⊥) → has_key_of values table.rows ≡ false
     unfolding table_of
-    key_no h = no_key_shown s (among_at c ok n.0 s there).kept (linked_keys s.targets c.relations) (some_column c ok n.0 s there) key rest h
+    key_no h = no_key_shown s (among_at c ok n.0 s there).kept (linked_keys s.targets c.relations) (some_columns c ok n.0 s there) key rest h
 
     columns_here : table.columns ≡ s.schema.columns
     unfolding table_of

@@ -39,10 +39,10 @@ use Rattle.mm_catalog.specs.Picked.{ArePicked}
 use Rattle.mm_catalog.specs.Recounted.{HaveReferrers, IsRewritten}
 use Rattle.mm_catalog.specs.Deleted.{AreDeleted, AreRemoved, AreUnlinked, AllFree, AnyReferenced, IsFree, IsReferenced}
 use Rattle.mm_catalog.proofs.Lists.{get-take}
-use Rattle.mm_catalog.proofs.Among.{among_at, named_at}
+use Rattle.mm_catalog.proofs.Among.{among_at, named_at, some_columns}
 use Rattle.mm_catalog.proofs.Elsewhere.{rewritten_from, kept_from, counted_from, current_beside_old, consistent_rewritten, database_rewritten}
 use Rattle.mm_catalog.proofs.Counted.{counted_down}
-use Rattle.mm_catalog.proofs.Referrers.{some_columns, not_referenced, referenced}
+use Rattle.mm_catalog.proofs.Referrers.{not_referenced, referenced}
 use Rattle.mm_catalog.proofs.Removing.{links_within}
 use Rattle.mm_catalog.proofs.Shown.{compared}
 use Rattle.mm_catalog.proofs.Shrunk.{PicksThese, length_picked, rows_left}

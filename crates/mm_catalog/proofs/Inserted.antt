@@ -43,14 +43,13 @@ use Rattle.mm_catalog.specs.Inserted.{IsKeptOut, no_memory, key_there, none_name
 use Rattle.mm_catalog.proofs.Lists.{get-take}
 use Rattle.mm_catalog.proofs.Outlines.{keys_before}
 use Rattle.mm_catalog.proofs.Back.{lead_back}
-use Rattle.mm_catalog.proofs.Among.{among_at, named_at, table_at}
+use Rattle.mm_catalog.proofs.Among.{among_at, named_at, table_at, some_columns}
 use Rattle.mm_catalog.proofs.Counting.{links_inserted}
 use Rattle.mm_catalog.proofs.Shown.{rows_inserted}
 use Rattle.mm_catalog.proofs.LinksHeld.{link_held}
 use Rattle.mm_catalog.proofs.Elsewhere.{rewritten_from, kept_from, database_rewritten, consistent_rewritten, current_beside_old, counted_from}
 use Rattle.mm_catalog.proofs.CellRows.{cells_shown, cells_linked}
 use Rattle.mm_catalog.proofs.RowLinks.{link_parts, each_link}
-use Rattle.mm_catalog.proofs.Referenced.{some_column}
 use Rattle.mm_catalog.proofs.Checked.{key_refuses, reference_refuses, full_refuses, nothing_refuses}
 use Rattle.mm_catalog.proofs.Anywhere.{none_counted}
 
@@ -93,7 +92,7 @@ module _ (c : CatalogState) (ok : IsConsistent c) where
 
   pub some_value : (n : TableNumber) (values : List Value) → IsMeant c.limits (database_of c) (resolved.Insert n values) → (s : RelationState) → slice_get c.relations n.0 ≡ Some s → 0 < length values
   some_value n values meant s there =
-      omega (arith, values_width n values meant s there, (among_at c ok n.0 s there).kept.width, some_column c ok n.0 s there)
+      omega (arith, values_width n values meant s there, (among_at c ok n.0 s there).kept.width, some_columns c ok n.0 s there)
 
 -- ---- a row that came
 
@@ -153,7 +152,7 @@ module _ (c : CatalogState) (ok : IsConsistent c) (n : TableNumber) (key : Value
   rows_now : rows_of (linked_keys a.targets c.relations) a ≡ with_row values (rows_of (linked_keys b.targets c.relations) b)
   rows_now =
       (λ i. rows_of (linked_keys (taken.inserted.keeps.targets i) c.relations) (record a { schema = taken.inserted.keeps.schema i }))
-      ∙ rows_inserted b a (among_at c ok n.0 b there).kept taken.kept q t taken.inserted fresh (linked_keys b.targets c.relations) (some_column c ok n.0 b there)
+      ∙ rows_inserted b a (among_at c ok n.0 b there).kept taken.kept q t taken.inserted fresh (linked_keys b.targets c.relations) (some_columns c ok n.0 b there)
       ∙ ap (λ v. with_row v (rows_of (linked_keys b.targets c.relations) b)) values_here
 
   table_now : table_of c.relations name.0 a ≡ grown_by values (table_of c.relations name.0 b)

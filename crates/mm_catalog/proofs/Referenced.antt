@@ -1,11 +1,11 @@
 -- What plain tables hold of keys and references, told by the relations that they are shown of.
-use Rattle.std.proofs.Common.{◌≡◌, ◌≢◌, ℕ, zero, suc, ◌<◌, Bool, true, false, List, [], ◌∷◌, Option, Some, None, IsSome, is_some, refl, sym, ap, ◌∙◌, subst, arith, length, take, get_or}
+use Rattle.std.proofs.Common.{◌≡◌, ◌≢◌, ℕ, zero, suc, ◌<◌, Bool, true, false, List, [], ◌∷◌, Option, Some, None, is_some, refl, sym, ap, ◌∙◌, subst, arith, length, take, get_or}
 use Rattle.std.specs.List.{slice_get, list_any, position}
 use Rattle.std.specs.Option.{option_and_then, option_map, option_map_or}
 use Rattle.std.specs.Ordering.{is_eq}
 use Rattle.std.specs.FinMap.{get}
-use Rattle.std.proofs.lemmas.Bool.{false_from_ne_true, false≢true}
-use Rattle.std.proofs.lemmas.Option.{none-some, same_Some, slice_get_within, slice_get-map}
+use Rattle.std.proofs.lemmas.Bool.{false_from_ne_true}
+use Rattle.std.proofs.lemmas.Option.{none-some, same_Some, slice_get_within}
 use Rattle.std.proofs.lemmas.List.Folds.{list_any_at, list_any_none}
 use Rattle.common_lemmas.proofs.Places.{slice_get-inside}
 use Rattle.common_lemmas.proofs.Elements.{All-at}
@@ -15,7 +15,7 @@ use Rattle.part_raw.specs.declared.tuple_ref.TupleRef.{TupleRef}
 use Rattle.part_raw.proofs.Tuples.{held_tuple}
 use Rattle.plain_tables.specs.Tables.{Table, key_cmp, has_key_of}
 use Rattle.plain_tables.specs.Databases.{is_named, table_named}
-use Rattle.plain_tables.specs.References.{Reference, IsSoundTable, referred, own_type, reference_of, is_held}
+use Rattle.plain_tables.specs.References.{Reference, referred, reference_of, is_held}
 use Rattle.plain_tables.specs.Values.{value_cmp}
 use Rattle.plain_tables.specs.declared.schema.Column.{Column}
 use Rattle.plain_tables.specs.declared.value.Value.{Value}
@@ -28,19 +28,19 @@ use Rattle.mm_relation.specs.Reading.{Keys, key_at}
 use Rattle.mm_relation.specs.State.{tree_list, RelationState, IsKept, HasKey, linked_keys}
 use Rattle.mm_catalog.specs.State.{CatalogState}
 use Rattle.mm_catalog.specs.Seen.{database_of, table_of, rows_of, values_of, row_values}
-use Rattle.mm_catalog.specs.Linked.{target_of, target_at}
+use Rattle.mm_catalog.specs.Linked.{target_of}
 use Rattle.mm_catalog.specs.Consistent.{IsConsistent}
 use Rattle.mm_catalog.specs.Cells.{IsCellOf, NamesNone, target_in}
 use Rattle.mm_catalog.proofs.Lists.{get-take}
 use Rattle.mm_catalog.proofs.Tables.{database-get}
 use Rattle.mm_catalog.proofs.Finding.{is_some-find, found-front, position-map}
 use Rattle.mm_catalog.proofs.Back.{RefersInto, names-database, refers_before, lead_back, has_name}
-use Rattle.mm_catalog.proofs.Among.{among_at}
+use Rattle.mm_catalog.proofs.Among.{among_at, some_columns, target_column}
 
 -- ---- keys
 
 -- a row stands to values as its key does to the first of them
-beside_values : (keys : Keys) (width : ℕ) (t : Row) (key : Value) (rest : List Value) → 0 < width → key_cmp (row_values keys width t) (key ∷ rest) ≡ value_cmp t.key key
+pub beside_values : (keys : Keys) (width : ℕ) (t : Row) (key : Value) (rest : List Value) → 0 < width → key_cmp (row_values keys width t) (key ∷ rest) ≡ value_cmp t.key key
 unfolding row_values
 beside_values keys zero t key rest some = absurd (omega arith)
 beside_values keys (suc width) t key rest some = then-Equal (value_cmp t.key key)
@@ -96,18 +96,6 @@ module _ (c : CatalogState) (ok : IsConsistent c) where
       let there = position_where_some (is_named name) (database_of c) (sym (is_some-find (is_named name) (database_of c)) ∙ found-front (is_named name) (database_of c) n h) in
       (there.0, position_named name ∙ there.1)
 
-  -- each relation has a column
-  pub some_column : (n : ℕ) (s : RelationState) → slice_get c.relations n ≡ Some s → 0 < length s.schema.columns
-  unfolding table_of
-  some_column n s there =
-      let name = slice_get-inside c.names n (omega (arith, ok.named, slice_get_within c.relations n s there)) in
-      let sound : IsSoundTable c.limits (table_of c.relations name.0 s) = All-at (IsSoundTable c.limits) (database_of c) n (table_of c.relations name.0 s) ok.sound.each (database-get c ok.named n name.0 s name.1 there) in
-      within (λ (d : Column). own_type d.kind) s.schema.columns sound.keyed
-    where
-      within : {B : Type 0} (f : Column → Option B) (columns : List Column) → IsSome (option_and_then f (slice_get columns 0)) → 0 < length columns
-      within f [] h = absurd (false≢true h)
-      within f (x ∷ xs) h = omega arith
-
   held_is : (name : List ℕ) (i : ℕ) (u : RelationState) (v : Value) → position (has_name name) c.names ≡ Some i → slice_get c.relations i ≡ Some u → is_held (database_of c) (name, v) ≡ has_key_of (v ∷ []) (rows_of (linked_keys u.targets c.relations) u)
   unfolding table_of
   held_is name i u v e there =
@@ -116,20 +104,15 @@ module _ (c : CatalogState) (ok : IsConsistent c) where
 
   held_by_key : (name : List ℕ) (i : ℕ) (u : RelationState) (v : Value) → position (has_name name) c.names ≡ Some i → slice_get c.relations i ≡ Some u → HasKey u.rows v → is_held (database_of c) (name, v) ≡ true
   held_by_key name i u v e there h =
-      held_is name i u v e there ∙ key_shown u (among_at c ok i u there).kept (linked_keys u.targets c.relations) (some_column i u there) v [] h
+      held_is name i u v e there ∙ key_shown u (among_at c ok i u there).kept (linked_keys u.targets c.relations) (some_columns c ok i u there) v [] h
 
   not_held : (name : List ℕ) (i : ℕ) (u : RelationState) (v : Value) → position (has_name name) c.names ≡ Some i → slice_get c.relations i ≡ Some u → (HasKey u.rows v → ⊥) → is_held (database_of c) (name, v) ≡ false
   not_held name i u v e there h =
-      held_is name i u v e there ∙ no_key_shown u (among_at c ok i u there).kept (linked_keys u.targets c.relations) (some_column i u there) v [] h
+      held_is name i u v e there ∙ no_key_shown u (among_at c ok i u there).kept (linked_keys u.targets c.relations) (some_columns c ok i u there) v [] h
 
   module _ (n : ℕ) (s : RelationState) (there : slice_get c.relations n ≡ Some s) (k : ℕ) (column : Column) (at : slice_get s.schema.columns k ≡ Some column) (value : Value) where
-    pub target_here : target_at s.targets k ≡ target_of c.names column
-    target_here =
-        ap (λ targets. target_at targets k) (among_at c ok n s there).targets
-        ∙ ap (option_and_then (λ t. t)) (slice_get-map (target_of c.names) s.schema.columns k ∙ ap (option_map (target_of c.names)) at)
-
     leads_back : (i : ℕ) → target_of c.names column ≡ Some i → i < n
-    leads_back i e = lead_back c ok n s there k i (target_here ∙ e)
+    leads_back i e = lead_back c ok n s there k i (target_column c ok n s k column there at ∙ e)
 
     -- the relation that a name leads to
     relation_at : (i : ℕ) → target_of c.names column ≡ Some i → (u : RelationState) × (slice_get c.relations i ≡ Some u) × (target_in (take n c.relations) (target_of c.names column) ≡ Some u)

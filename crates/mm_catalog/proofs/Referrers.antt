@@ -1,5 +1,5 @@
 -- Which rows of a catalog are referenced: those that links name.
-use Rattle.std.proofs.Common.{◌≡◌, ◌≢◌, ℕ, zero, suc, ◌<◌, ◌+◌, ◌-◌, ◌==◌, ◌&&◌, true, false, cond, IsTrue, List, [], ◌∷◌, Option, Some, None, IsSome, is_some, refl, sym, ap, ◌∙◌, subst, arith, length, map, take, get_or, inl, inr}
+use Rattle.std.proofs.Common.{◌≡◌, ◌≢◌, ℕ, ◌<◌, ◌+◌, ◌-◌, ◌==◌, ◌&&◌, true, false, cond, IsTrue, List, [], ◌∷◌, Option, Some, None, IsSome, is_some, refl, sym, ap, ◌∙◌, subst, arith, length, map, take, get_or, inl, inr}
 use Rattle.std.specs.List.{All, list_any, position, range_with_len, slice_get, zip}
 use Rattle.std.specs.Option.{option_and_then, option_map, option_map_or}
 use Rattle.std.specs.Ordering.{is_eq}
@@ -7,14 +7,14 @@ use Rattle.std.specs.Str.{bytes_eq}
 use Rattle.std.specs.FinMap.{get}
 use Rattle.std.proofs.lemmas.Bool.{false≢true, cases_order, eq-eqb, eqb-true, false_from_ne_true, true_from_ne_false}
 use Rattle.std.proofs.lemmas.List.Quantifiers.{position-Some}
-use Rattle.std.proofs.lemmas.Option.{none-some, same_Some, slice_get-map, slice_get_within, slice_get-get_or, get_or_from_slice_get}
+use Rattle.std.proofs.lemmas.Option.{none-some, same_Some, slice_get_within, slice_get-get_or, get_or_from_slice_get}
 use Rattle.std.proofs.lemmas.Slice.Eq.{bytes_eq-Decides}
 use Rattle.std.proofs.lemmas.List.Folds.{list_any_none}
 use Rattle.std.proofs.lemmas.List.Elements.{All-contains_itself}
 use Rattle.common_lemmas.proofs.Places.{slice_get-inside}
 use Rattle.common_lemmas.proofs.Elements.{All-at}
 use Rattle.common_lemmas.proofs.Tests.{position_where_some, list_any-map, fails_where_none}
-use Rattle.common_lemmas.proofs.Orders.{then-Equal, is_eq-Equal}
+use Rattle.common_lemmas.proofs.Orders.{is_eq-Equal}
 use Rattle.common_lemmas.proofs.Counts.{count_by-member}
 use Rattle.part_raw.specs.declared.tuple_ref.TupleRef.{TupleRef}
 use Rattle.part_raw.specs.TupleRefs.{ref_cmp}
@@ -22,7 +22,7 @@ use Rattle.part_raw.proofs.Tuples.{same_ref_self, same_ref_true, held_tuple}
 use Rattle.plain_tables.specs.Values.{value_cmp}
 use Rattle.plain_tables.specs.Tables.{Table, key_cmp}
 use Rattle.plain_tables.specs.Databases.{Database, is_named, table_named}
-use Rattle.plain_tables.specs.References.{CanHold, IsRowOf, IsSoundTable, is_referenced, is_to, own_type, reference_of, references, referred, takes_null, table_references}
+use Rattle.plain_tables.specs.References.{CanHold, IsRowOf, is_referenced, is_to, own_type, reference_of, references, referred, takes_null, table_references}
 use Rattle.plain_tables.specs.declared.schema.ColKind.{ColKind}
 use Rattle.plain_tables.specs.declared.schema.ColKind.TheVariants as kind
 use Rattle.plain_tables.specs.declared.schema.Column.{Column}
@@ -42,7 +42,8 @@ use Rattle.mm_catalog.specs.Linked.{target_of, target_at, link_at, row_links, re
 use Rattle.mm_catalog.specs.Consistent.{IsConsistent}
 use Rattle.mm_catalog.proofs.Anywhere.{any_flat, any_filter_map, any_alike, any_zip, any_numbered, none_counted, same_tests, and_alike}
 use Rattle.mm_catalog.proofs.Back.{RefersInto, refers_before, names-database}
-use Rattle.mm_catalog.proofs.Among.{among_at, named_at}
+use Rattle.mm_catalog.proofs.Among.{among_at, named_at, key_typed, some_columns, target_column}
+use Rattle.mm_catalog.proofs.Referenced.{beside_values}
 use Rattle.mm_catalog.proofs.Finding.{is_some-find, found-front}
 use Rattle.mm_catalog.proofs.LinksHeld.{link_held, linked_value}
 use Rattle.mm_catalog.proofs.Tables.{database-get}
@@ -75,12 +76,6 @@ first_not_null tables [] keys row keyed fits e = false≢true keyed
 first_not_null tables (column ∷ columns) keys row keyed fits e =
     no_null_key column.kind keyed (subst (CanHold tables column.kind) e fits.0)
 
--- a row beside a key
-pub key_beside : (keys : Keys) (width : ℕ) (row : Row) (key : Value) → 0 < width → key_cmp (row_values keys width row) (key ∷ []) ≡ value_cmp row.key key
-unfolding row_values
-key_beside keys zero row key some = absurd (omega arith)
-key_beside keys (suc width) row key some = then-Equal (value_cmp row.key key)
-
 -- where the cell of a column links to no row, it is null, or there is none
 null_cell : (keys : Keys) (column : ℕ) (row : Row) → column ≢ 0 → ((v : Value) → slice_get row.cells (column - 1) ≡ Some (Held v) → v ≡ Null) → link_in column row ≡ None → or_null (row_value keys column row) ≡ Null
 null_cell keys column row behind nulls none =
@@ -103,22 +98,6 @@ module _ (c : CatalogState) (ok : IsConsistent c) where
       let name = named_at c ok n (slice_get_within c.relations n s there) in
       (name.0, name.1, database-get c ok.named n name.0 s name.1 there)
 
-  -- the first column has a type of its own
-  pub key_typed : (n : ℕ) (s : RelationState) → slice_get c.relations n ≡ Some s → IsSome (option_and_then (λ (column : Column). own_type column.kind) (slice_get s.schema.columns 0))
-  unfolding table_of
-  key_typed n s there =
-      let t = table_here n s there in
-      let sound : IsSoundTable c.limits (table_of c.relations t.0 s) = All-at (IsSoundTable c.limits) (database_of c) n (table_of c.relations t.0 s) ok.sound.each t.2 in
-      sound.keyed
-
-  -- so there is a column
-  pub some_columns : (n : ℕ) (s : RelationState) → slice_get c.relations n ≡ Some s → 0 < length s.schema.columns
-  some_columns n s there = first s.schema.columns (key_typed n s there)
-    where
-      first : (columns : List Column) → IsSome (option_and_then (λ (column : Column). own_type column.kind) (slice_get columns 0)) → 0 < length columns
-      first [] h = absurd (false≢true h)
-      first (column ∷ columns) h = omega arith
-
   -- no key is null
   pub key_not_null : (n : ℕ) (s : RelationState) (r : TupleRef) (row : Row) → slice_get c.relations n ≡ Some s → get s.rows r ≡ Some row → row.key ≢ Null
   unfolding table_of rows_of values_of
@@ -131,13 +110,7 @@ module _ (c : CatalogState) (ok : IsConsistent c) where
       let here = from_mapped (IsRowOf (database_of c) s.schema.columns) (values_of (keys_of s) (length s.schema.columns) s.rows) (tree_list s.by_key) fit listed.0 r listed.1 in
       let values : values_of (keys_of s) (length s.schema.columns) s.rows (get_or (tree_list s.by_key) listed.0 r) ≡ row_values (keys_of s) (length s.schema.columns) row =
       ap (values_of (keys_of s) (length s.schema.columns) s.rows) listed.2 ∙ ap (λ o. option_map_or (row_values (keys_of s) (length s.schema.columns)) o []) at in
-      first_not_null (database_of c) s.schema.columns (keys_of s) row (key_typed n s there) (subst (IsRowOf (database_of c) s.schema.columns) values here)
-
-  -- where a column's links lead
-  pub target_column : (n : ℕ) (s : RelationState) (j : ℕ) (column : Column) → slice_get c.relations n ≡ Some s → slice_get s.schema.columns j ≡ Some column → target_at s.targets j ≡ target_of c.names column
-  target_column n s j column there at =
-      ap (λ targets. target_at targets j) (among_at c ok n s there).targets
-      ∙ ap (option_and_then (λ (t : Option ℕ). t)) (slice_get-map (target_of c.names) s.schema.columns j ∙ ap (option_map (target_of c.names)) at)
+      first_not_null (database_of c) s.schema.columns (keys_of s) row (key_typed c ok n s there) (subst (IsRowOf (database_of c) s.schema.columns) values here)
 
   -- a table that a column refers to is there
   pub target_found : (n : ℕ) (s : RelationState) (j : ℕ) (column : Column) (name : List ℕ) → slice_get c.relations n ≡ Some s → slice_get s.schema.columns j ≡ Some column → referred column.kind ≡ Some name → (t : ℕ) × (position (λ m. bytes_eq m name) c.names ≡ Some t)
@@ -192,7 +165,7 @@ module _ (c : CatalogState) (ok : IsConsistent c) where
         let same : w ≡ s = same_Some w s (sym here ∙ ap (slice_get c.relations) (eqb-true t n e) ∙ there) in
         let in_s : get s.rows to ≡ Some found = ap (λ (u : RelationState). get u.rows to) (sym same) ∙ held in
         let kept = (among_at c ok n s there).kept in
-        ap is_eq (key_beside (keys_of s) (length s.schema.columns) row found.key (some_columns n s there))
+        ap is_eq (beside_values (keys_of s) (length s.schema.columns) row found.key [] (some_columns c ok n s there))
         ∙ same_tests (is_eq (value_cmp row.key found.key)) (is_eq (ref_cmp to r))
         (λ f.
         let keys : row.key ≡ found.key = (value_cmp-exact row.key found.key).0 (is_eq-Equal (value_cmp row.key found.key) f) in
@@ -210,7 +183,7 @@ module _ (c : CatalogState) (ok : IsConsistent c) where
     column_alike k t q u j column tk held at_j = by (referred column.kind) refl
       where
         target : target_at t.targets j ≡ target_of c.names column
-        target = target_column k t j column tk at_j
+        target = target_column c ok k t j column tk at_j
 
         link_there : (table : ℕ) (o : Option TupleRef) → target_at t.targets j ≡ Some table → link_in j u ≡ o → link_at t.targets u j ≡ option_map (λ to. (table, to)) o
         link_there table o e f =
@@ -218,7 +191,7 @@ module _ (c : CatalogState) (ok : IsConsistent c) where
 
         not_key : (other : List ℕ) → referred column.kind ≡ Some other → j ≢ 0
         not_key other e first =
-            no_own_type column.kind other e (subst (λ o. IsSome (option_and_then (λ (d : Column). own_type d.kind) o)) (ap (slice_get t.schema.columns) (sym first) ∙ at_j) (key_typed k t tk))
+            no_own_type column.kind other e (subst (λ o. IsSome (option_and_then (λ (d : Column). own_type d.kind) o)) (ap (slice_get t.schema.columns) (sym first) ∙ at_j) (key_typed c ok k t tk))
 
         through : (other : List ℕ) (table : ℕ) (o : Option TupleRef) → referred column.kind ≡ Some other → position (λ m. bytes_eq m other) c.names ≡ Some table → target_at t.targets j ≡ Some table → link_in j u ≡ o
             → option_map_or (is_to name values) (reference_of column (or_null (row_value (keys_of t) j u))) false ≡ option_map_or (is_link_to n r) (link_at t.targets u j) false

@@ -33,11 +33,11 @@ use Rattle.mm_catalog.specs.Picked.{ArePicked, HoldsRows}
 use Rattle.mm_catalog.specs.Seen.{database_of, plain_index, rows_of, table_of}
 use Rattle.mm_catalog.specs.State.{CatalogState}
 use Rattle.mm_catalog.proofs.Back.{lead_back}
-use Rattle.mm_catalog.proofs.Among.{among_at, named_at, table_at}
+use Rattle.mm_catalog.proofs.Among.{among_at, named_at, table_at, target_column}
 use Rattle.mm_catalog.proofs.Deleting.{choice, choice_picks}
 use Rattle.mm_catalog.proofs.Elsewhere.{consistent_rewritten, database_rewritten}
 use Rattle.mm_catalog.proofs.Outlines.{keys_before}
-use Rattle.mm_catalog.proofs.Referenced.{reference_held, reference_missing, target_here}
+use Rattle.mm_catalog.proofs.Referenced.{reference_held, reference_missing}
 use Rattle.mm_catalog.proofs.RelationSets.{linked_set, row_wide, rows_set}
 use Rattle.mm_catalog.proofs.RowSets.{AreApart}
 use Rattle.mm_catalog.proofs.Shrunk.{PicksThese, length_picked}
@@ -104,7 +104,7 @@ module _ (c : CatalogState) (ok : IsConsistent c) (n : TableNumber) (assignments
       let name = named_at c ok n.0 (slice_get_within c.relations n.0 s there) in
       let at = database-get c ok.named n.0 name.0 s name.1 there in
       let column = (column_of s there k a missing.2).1 in
-      let lost = reference_missing c ok n.0 s there a.column.0 column.0 column.1 a.value (subst (λ t. NamesNone (take n.0 c.relations) t a.value) (target_here c ok n.0 s there a.column.0 column.0 column.1 a.value) missing.3) in
+      let lost = reference_missing c ok n.0 s there a.column.0 column.0 column.1 a.value (subst (λ t. NamesNone (take n.0 c.relations) t a.value) (target_column c ok n.0 s a.column.0 column.0 there column.1) missing.3) in
       refused_there (database_of c) n assignments picks (table_of c.relations name.0 s) at
       (not_all_pass (is_held (database_of c)) (assigned_references (table_of c.relations name.0 s) assignments) lost.0
       (Contains-filter_map (λ (x : Assignment). option_and_then (λ col. reference_of col x.value) (slice_get s.schema.columns x.column.0)) assignments a lost.0 (Contains-at assignments k a missing.2)
@@ -171,7 +171,7 @@ module _ (c : CatalogState) (ok : IsConsistent c) (n : TableNumber) (assignments
         let s = slice_get-inside u.sets k (omega (arith, slice_get_within assignments k x at, u.cells.count)) in
         let cell = (u.cells.each k x s.0 at s.1).1 in
         reference_held c ok n.0 b there x.column.0 column.0 column.1 x.value s.0.1
-        (subst (λ t. IsCellOf front t x.value s.0.1) (target_here c ok n.0 b there x.column.0 column.0 column.1 x.value) cell)
+        (subst (λ t. IsCellOf front t x.value s.0.1) (target_column c ok n.0 b x.column.0 column.0 there column.1) cell)
         ref (sym (ap (option_and_then (λ col. reference_of col x.value)) column.1) ∙ e)))
 
     module _ (picks : Row → Bool) (picking : PicksThese keys b rs picks) where

@@ -16,7 +16,7 @@ use Rattle.mm_catalog.specs.Consistent.{IsConsistent}
 use Rattle.mm_catalog.specs.Picked.{seen_values}
 use Rattle.mm_catalog.specs.Seen.{database_of}
 use Rattle.mm_catalog.specs.State.{CatalogState}
-use Rattle.mm_catalog.proofs.Referrers.{some_columns}
+use Rattle.mm_catalog.proofs.Among.{some_columns}
 use Rattle.mm_catalog.proofs.Tables.{database-length}
 use Rattle.mm_relation.specs.State.{RelationState, tree_list}
 use Rattle.mm_session.specs.Dumps.{IsWithin, IsPast, IsGivenUp}
