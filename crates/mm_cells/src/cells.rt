@@ -5,6 +5,7 @@ ghost use Rattle.plain_tables.specs.declared.value.Value.TheVariants as value;
 ghost use Rattle.std.specs.List.{All};
 ghost use Rattle.mm_cells.specs.Reading.{IsReadable, cell_value};
 
+use crate::fault::CellFault;
 use no_memory::NoMemory;
 use plain_tables::{SeenValue, StoredValue, Value};
 use std::alloc::Global;
@@ -36,13 +37,7 @@ fn append_name(texts: &mut Vec<u8>, table: &str, column: &str) -> Result<(), NoM
     ensures appended { OnOk result (texts.new.items ≡ texts.old.items ++ (table.now ++ 46 ∷ column.now)) }
     ensures unchanged { OnErr result (texts.new.items ≡ texts.old.items) }
 {
-    let Some(length) = table.len().checked_add(1) else {
-        return Err(NoMemory);
-    };
-    let Some(length) = length.checked_add(column.len()) else {
-        return Err(NoMemory);
-    };
-    texts.reserve(length)?;
+    texts.reserve(table.len() + 1 + column.len())?;
     texts.extend_from_slice(table.as_bytes())?;
     texts.push(b'.')?;
     texts.extend_from_slice(column.as_bytes())?;
@@ -114,17 +109,17 @@ impl Cells {
         })
     }
 
-    /// Puts a text behind the others. Where that finds no memory, or the text is longer than 65,535 bytes or the texts together
-    /// longer than 4 GiB, it is not put there.
-    pub fn push_text(&mut self, text: &str) -> Result<(), NoMemory>
+    /// Puts a text behind the others. At an error it is not put there: `TooLong` where the text is longer than 65,535 bytes, or the
+    /// texts before it are longer than 4 GiB.
+    pub fn push_text(&mut self, text: &str) -> Result<(), CellFault>
         ensures pushed { OnOk result (values_of self.new ≡ values_of self.old ++ value.Text text.now ∷ []) }
         ensures unchanged { OnErr result (values_of self.new ≡ values_of self.old) }
     {
         let Ok(at) = u32::try_from(self.texts.len()) else {
-            return Err(NoMemory);
+            return Err(CellFault::TooLong);
         };
         let Ok(length) = u16::try_from(text.len()) else {
-            return Err(NoMemory);
+            return Err(CellFault::TooLong);
         };
         self.cells.reserve(1)?;
         self.texts.extend_from_slice(text.as_bytes())?;
@@ -138,19 +133,19 @@ impl Cells {
     }
 
     /// Appends a full name as a text: a table's name, a dot and a column's. It fails as `push_text` does, and then appends nothing.
-    pub fn push_name(&mut self, table: &str, column: &str) -> Result<(), NoMemory>
+    pub fn push_name(&mut self, table: &str, column: &str) -> Result<(), CellFault>
         ensures pushed { OnOk result (values_of self.new ≡ values_of self.old ++ value.Text (table.now ++ 46 ∷ column.now) ∷ []) }
         ensures unchanged { OnErr result (values_of self.new ≡ values_of self.old) }
     {
         let before = self.texts.len();
         let Ok(at) = u32::try_from(before) else {
-            return Err(NoMemory);
+            return Err(CellFault::TooLong);
         };
         self.cells.reserve(1)?;
         append_name(&mut self.texts, table, column)?;
         let Ok(length) = u16::try_from(self.texts.len() - before) else {
             self.texts.truncate(before);
-            return Err(NoMemory);
+            return Err(CellFault::TooLong);
         };
         self.cells.push(Cell {
             integer: 0,
@@ -161,28 +156,27 @@ impl Cells {
         Ok(())
     }
 
-    /// Puts a value of a command behind the others. Where that finds no memory, or the texts have no more room for it, it is not put
-    /// there.
-    pub fn push_value(&mut self, value: &Value) -> Result<(), NoMemory>
+    /// Puts a value of a command behind the others. At an error it is not put there; `TooLong` comes as from `push_text`.
+    pub fn push_value(&mut self, value: &Value) -> Result<(), CellFault>
         ensures pushed { OnOk result (values_of self.new ≡ values_of self.old ++ value.now ∷ []) }
         ensures unchanged { OnErr result (values_of self.new ≡ values_of self.old) }
     {
         match value {
-            Value::Null => self.push_null(),
-            Value::Int(integer) => self.push_integer(*integer),
+            Value::Null => Ok(self.push_null()?),
+            Value::Int(integer) => Ok(self.push_integer(*integer)?),
             Value::Text(text) => self.push_text(text.as_str()),
         }
     }
 
-    /// Puts a stored value behind the others. Where that finds no memory, or the texts have no more room for it, none is put there.
-    pub fn push(&mut self, value: &StoredValue) -> Result<(), NoMemory>
+    /// Puts a stored value behind the others. At an error it is not put there; `TooLong` comes as from `push_text`.
+    pub fn push(&mut self, value: &StoredValue) -> Result<(), CellFault>
         requires { link_number value.now ≡ None }
         ensures pushed { OnOk result (values_of self.new ≡ values_of self.old ++ value.now ∷ []) }
         ensures unchanged { OnErr result (values_of self.new ≡ values_of self.old) }
     {
         match value.seen() {
-            SeenValue::Null => self.push_null(),
-            SeenValue::Int(integer) => self.push_integer(integer),
+            SeenValue::Null => Ok(self.push_null()?),
+            SeenValue::Int(integer) => Ok(self.push_integer(integer)?),
             SeenValue::Text(text) => self.push_text(text),
             SeenValue::Link(_) => unreachable!(),
         }

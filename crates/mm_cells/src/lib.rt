@@ -4,5 +4,7 @@
 #![tactic(auto)]
 
 mod cells;
+mod fault;
 
 pub use cells::{Cell, Cells, INTEGER, NULL, TEXT};
+pub use fault::CellFault;
