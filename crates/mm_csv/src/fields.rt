@@ -7,11 +7,11 @@ ghost use Rattle.mm_csv.specs.FullNames.{full_name_text};
 
 use crate::FullName;
 use crate::output::Output;
+use crate::sink::ByteSink;
 use plain_tables::{NoMemory, StoredValue, Text, Value};
-use std::io::Write;
 
 /// A row as a record. After an error a part of it may have been written.
-pub fn write_row<W: Write + Drop>(output: &mut Output<W>, row: &[Value]) -> Result<(), NoMemory>
+pub fn write_row<W: ByteSink + Drop>(output: &mut Output<W>, row: &[Value]) -> Result<(), NoMemory>
     requires { 0 < length row.now }
     ensures { OnOk result (Appends output.old output.new (row_record row.now)) }
 {
@@ -23,7 +23,7 @@ pub fn write_row<W: Write + Drop>(output: &mut Output<W>, row: &[Value]) -> Resu
 }
 
 // Values of rows as a record, field by field. After an error a part of it may have been written.
-fn write_each<W: Write + Drop>(
+fn write_each<W: ByteSink + Drop>(
     output: &mut Output<W>,
     values: &[&StoredValue],
 ) -> Result<(), NoMemory>
@@ -38,7 +38,7 @@ fn write_each<W: Write + Drop>(
 }
 
 /// Values of rows, which are lent one by one, as a record. After an error a part of it may have been written.
-pub fn write_values<W: Write + Drop>(
+pub fn write_values<W: ByteSink + Drop>(
     output: &mut Output<W>,
     values: &[&StoredValue],
 ) -> Result<(), NoMemory>
@@ -52,7 +52,7 @@ pub fn write_values<W: Write + Drop>(
 }
 
 /// Names as a record. After an error a part of it may have been written.
-pub fn write_names<W: Write + Drop>(output: &mut Output<W>, names: &[Text]) -> Result<(), NoMemory>
+pub fn write_names<W: ByteSink + Drop>(output: &mut Output<W>, names: &[Text]) -> Result<(), NoMemory>
     requires { 0 < length names.now }
     ensures { OnOk result (Appends output.old output.new (record_text names.now)) }
 {
@@ -64,7 +64,7 @@ pub fn write_names<W: Write + Drop>(output: &mut Output<W>, names: &[Text]) -> R
 }
 
 /// Full names as a record. After an error a part of it may have been written.
-pub fn write_full_names<W: Write + Drop>(
+pub fn write_full_names<W: ByteSink + Drop>(
     output: &mut Output<W>,
     names: &[FullName],
 ) -> Result<(), NoMemory>

@@ -25,6 +25,7 @@ mod plain;
 mod quotes;
 mod record_writer;
 mod rows;
+mod sink;
 mod values;
 
 pub use block::block_of;
@@ -33,3 +34,4 @@ pub use field::Field;
 pub use full_name::FullName;
 pub use record_writer::RecordWriter;
 pub use rows::rows_of;
+pub use sink::ByteSink;

@@ -11,10 +11,10 @@ use crate::FullName;
 use crate::ending::Ending;
 use crate::plain::must_be_quoted;
 use crate::quotes::Quotes;
+use crate::sink::ByteSink;
 use itoa::Buffer;
 use plain_tables::{NoMemory, SeenValue, SoughtValue, StoredValue};
 use std::alloc::Global;
-use std::io::Write;
 use std::marker::Model;
 
 // The integer that a link to row number 0 is seen as.
@@ -22,14 +22,14 @@ const FIRST_LINK: u64 = 1 << 63;
 
 /// Where records go. Contracts see the bytes that it holds, where they are known.
 #[derive(Drop)]
-pub struct Output<W: Write + Drop> {
+pub struct Output<W: ByteSink + Drop> {
     alloc: Global,
     to: W,
     quotes: Quotes,
     ending: Ending,
 }
 
-impl<W: Write + Drop> Model for Output<W> {
+impl<W: ByteSink + Drop> Model for Output<W> {
     ghost use Rattle.std.specs.Prelude.{Option, List, ℕ};
 
     ghost Value = { Option (List ℕ) };
@@ -37,7 +37,7 @@ impl<W: Write + Drop> Model for Output<W> {
     ghost view = { λ o. W.contents o.to };
 }
 
-impl<W: Write + Drop> Output<W> {
+impl<W: ByteSink + Drop> Output<W> {
     /// What follows the bytes in `to`.
     pub fn new(alloc: Global, to: W) -> Output<W>
         ensures { Keeps (W.contents to) result }
@@ -69,10 +69,7 @@ impl<W: Write + Drop> Output<W> {
     fn put(&mut self, bytes: &[u8]) -> Result<(), NoMemory>
         ensures { OnOk result (Appends self.old self.new bytes.now) }
     {
-        match self.to.write_all(bytes) {
-            Ok(()) => Ok(()),
-            Err(_) => Err(NoMemory),
-        }
+        self.to.push_bytes(bytes)
     }
 
     // What stands before the field at this place of its record.
@@ -175,10 +172,8 @@ impl<W: Write + Drop> Output<W> {
         let Some(record) = self.ending.record_of(values) else {
             return Ok(false);
         };
-        match self.to.write_all(record) {
-            Ok(()) => Ok(true),
-            Err(_) => Err(NoMemory),
-        }
+        self.to.push_bytes(record)?;
+        Ok(true)
     }
 
     /// The end of a record.

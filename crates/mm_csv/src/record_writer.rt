@@ -8,30 +8,32 @@ ghost use Rattle.mm_csv.specs.FullNames.{full_name_text};
 use crate::FullName;
 use crate::fields::{write_full_names, write_names, write_row, write_values};
 use crate::output::Output;
+use crate::sink::ByteSink;
 use plain_tables::{NoMemory, StoredValue, Text, Value};
 use std::alloc::Global;
-use std::io::Write;
 use std::marker::Model;
 
-/// Writes records to `W`, which is to take every byte unless it finds no memory, as a `Vec<u8>`.
+/// Writes records to `W`.
 ///
 /// Contracts see what `W` holds, and whether a call has failed. A call that fails may leave a part of its record behind,
-/// and every later one fails.
+/// and every later one fails by the growth that was refused to it.
 #[derive(Drop)]
-pub struct RecordWriter<W: Write + Drop> {
+pub struct RecordWriter<W: ByteSink + Drop> {
     output: Output<W>,
-    failed: bool,
+    refused: Option<NoMemory>,
 }
 
-impl<W: Write + Drop> Model for RecordWriter<W> {
+impl<W: ByteSink + Drop> Model for RecordWriter<W> {
+    ghost use Rattle.std.specs.Prelude.{true, false};
+    ghost use Rattle.std.specs.Option.{option_map_or};
     ghost use Rattle.mm_csv.specs.Records.{Written};
 
     ghost Value = { Written };
 
-    ghost view = { λ r. record { failed = r.failed; bytes = r.output } };
+    ghost view = { λ r. record { failed = option_map_or (λ _. true) r.refused false; bytes = r.output } };
 }
 
-impl<W: Write + Drop> RecordWriter<W> {
+impl<W: ByteSink + Drop> RecordWriter<W> {
     /// A writer of what follows the bytes in `to`. It needs memory for fields between quotes alone.
     pub fn new(alloc: Global, to: W) -> RecordWriter<W>
         ensures fresh { result.failed ≡ false }
@@ -39,7 +41,35 @@ impl<W: Write + Drop> RecordWriter<W> {
     {
         RecordWriter {
             output: Output::new(alloc, to),
-            failed: false,
+            refused: None,
+        }
+    }
+
+    // Fails where an earlier call has.
+    fn check(&self) -> Result<(), NoMemory>
+        ensures goes { OnOk result (self.now.failed ≡ false) }
+        ensures failed { OnErr result (self.now.failed ≡ true) }
+    {
+        match self.refused {
+            None => Ok(()),
+            Some(refused) => Err(refused),
+        }
+    }
+
+    // Keeps the growth that was refused to a call, where one was.
+    fn note(&mut self, written: Result<(), NoMemory>) -> Result<(), NoMemory>
+        requires { self.old.failed ≡ false }
+        ensures same { result ≡ written }
+        ensures bytes { self.new.bytes ≡ self.old.bytes }
+        ensures goes { OnOk result (self.new.failed ≡ false) }
+        ensures failed { OnErr result (self.new.failed ≡ true) }
+    {
+        match written {
+            Ok(()) => Ok(()),
+            Err(refused) => {
+                self.refused = Some(refused);
+                Err(refused)
+            }
         }
     }
 
@@ -50,13 +80,9 @@ impl<W: Write + Drop> RecordWriter<W> {
         ensures goes { OnOk result ((self.old.failed ≡ false) × (self.new.failed ≡ false)) }
         ensures failed { OnErr result (self.new.failed ≡ true) }
     {
-        if self.failed {
-            return Err(NoMemory);
-        }
-        self.failed = true;
-        write_row(&mut self.output, row)?;
-        self.failed = false;
-        Ok(())
+        self.check()?;
+        let written = write_row(&mut self.output, row);
+        self.note(written)
     }
 
     /// Values of rows, which are lent one by one, as a record.
@@ -66,13 +92,9 @@ impl<W: Write + Drop> RecordWriter<W> {
         ensures goes { OnOk result ((self.old.failed ≡ false) × (self.new.failed ≡ false)) }
         ensures failed { OnErr result (self.new.failed ≡ true) }
     {
-        if self.failed {
-            return Err(NoMemory);
-        }
-        self.failed = true;
-        write_values(&mut self.output, values)?;
-        self.failed = false;
-        Ok(())
+        self.check()?;
+        let written = write_values(&mut self.output, values);
+        self.note(written)
     }
 
     /// Names as a record.
@@ -82,13 +104,9 @@ impl<W: Write + Drop> RecordWriter<W> {
         ensures goes { OnOk result ((self.old.failed ≡ false) × (self.new.failed ≡ false)) }
         ensures failed { OnErr result (self.new.failed ≡ true) }
     {
-        if self.failed {
-            return Err(NoMemory);
-        }
-        self.failed = true;
-        write_names(&mut self.output, names)?;
-        self.failed = false;
-        Ok(())
+        self.check()?;
+        let written = write_names(&mut self.output, names);
+        self.note(written)
     }
 
     /// Full names as a record.
@@ -98,13 +116,9 @@ impl<W: Write + Drop> RecordWriter<W> {
         ensures goes { OnOk result ((self.old.failed ≡ false) × (self.new.failed ≡ false)) }
         ensures failed { OnErr result (self.new.failed ≡ true) }
     {
-        if self.failed {
-            return Err(NoMemory);
-        }
-        self.failed = true;
-        write_full_names(&mut self.output, names)?;
-        self.failed = false;
-        Ok(())
+        self.check()?;
+        let written = write_full_names(&mut self.output, names);
+        self.note(written)
     }
 
     /// What is written to, with the bytes so far.
@@ -119,10 +133,8 @@ impl<W: Write + Drop> RecordWriter<W> {
         ensures bytes { IfOk result (λ to. Keeps self.bytes (W.contents to)) }
         ensures goes { OnOk result (self.failed ≡ false) }
     {
-        let RecordWriter { output, failed } = self;
-        if failed {
-            return Err(NoMemory);
-        }
+        self.check()?;
+        let RecordWriter { output, .. } = self;
         Ok(output.into_inner())
     }
 }

@@ -11,7 +11,7 @@ use crate::front::{behind_header, front_rows};
 use crate::values::{is_header, row_of};
 use crate::{CsvRefusal, Field};
 use csv::{ByteRecord, Reader, ReaderBuilder};
-use plain_tables::{NoMemory, Sequence, Value};
+use plain_tables::{Sequence, Value};
 use std::alloc::Global;
 
 // The bytes that may mark a text as UTF-8 at its front.
@@ -36,15 +36,30 @@ fn reader_of(alloc: Global, text: &[u8]) -> Reader<&[u8]>
         .from_reader(alloc, text)
 }
 
+// The library could not read on. The text is lent and its records may have any lengths, so only a growth can be refused to it; but no
+// value of its error says so.
+#[derive(Clone, Copy)]
+struct Unread;
+
+impl From<Unread> for CsvRefusal {
+    ghost use Rattle.mm_csv.specs.declared.csv_refusal.CsvRefusal.TheVariants as refusal;
+
+    ghost from_gives = { λ _ e. e ≡ refusal.NoMemory };
+
+    fn from(_: Unread) -> CsvRefusal {
+        CsvRefusal::NoMemory
+    }
+}
+
 // Reads the next record, and tells whether there was one.
-fn next_record(reader: &mut Reader<&[u8]>, fields: &mut ByteRecord) -> Result<bool, NoMemory>
+fn next_record(reader: &mut Reader<&[u8]>, fields: &mut ByteRecord) -> Result<bool, Unread>
     requires { IsReading reader.old }
     ensures reads { IfOk result (λ found. ReadsRecord found (records_left reader.old) (records_left reader.new) (fields_of fields.new)) }
     ensures reading { IfOk result (λ found. found ≡ true → IsReading reader.new) }
 {
     match reader.read_byte_record(fields) {
         Ok(found) => Ok(found),
-        Err(_) => Err(NoMemory),
+        Err(_) => Err(Unread),
     }
 }
 
