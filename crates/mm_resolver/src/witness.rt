@@ -5,7 +5,6 @@ use crate::commands::resolve;
 use crate::culprit::Culprit;
 use crate::schemas::Schemas;
 use crate::statements::resolve_statement;
-use no_memory::NoMemory;
 use plain_statements::Statement;
 use plain_tables::{Column, ColumnNumber, Command, IndexKind, Refusal, TableNumber, Text};
 use std::alloc::Global;
@@ -73,32 +72,33 @@ impl<S: Schemas> Schemas for Witness<'_, S> {
     }
 }
 
-/// What is to blame where a command is refused so, if it is.
+/// What is to blame where a command is refused so, if it is. The error is 90, where a growth was refused.
 pub fn command_culprit<S: Schemas>(
     schemas: &S,
     command: Command,
     block: &[u8],
     refusal: Refusal,
-) -> Result<Option<Culprit>, NoMemory> {
+) -> Result<Option<Culprit>, Refusal> {
     let witness = Witness::of(schemas, refusal);
     match resolve(&witness, command, block) {
         Ok(_) => Ok(None),
-        Err(Refusal::NoMemory) => Err(NoMemory),
+        Err(Refusal::NoMemory) => Err(Refusal::NoMemory),
         Err(answered) if answered == refusal => Ok(witness.culprit.get()),
         Err(_) => Ok(None),
     }
 }
 
-/// What is to blame where a statement is refused so, whatever values come for its holes, if it is.
+/// What is to blame where a statement is refused so, whatever values come for its holes, if it is. The error is 90, where a growth was
+/// refused.
 pub fn statement_culprit<S: Schemas>(
     schemas: &S,
     statement: Statement,
     refusal: Refusal,
-) -> Result<Option<Culprit>, NoMemory> {
+) -> Result<Option<Culprit>, Refusal> {
     let witness = Witness::of(schemas, refusal);
     match resolve_statement(&witness, statement) {
         Ok(_) => Ok(None),
-        Err(Refusal::NoMemory) => Err(NoMemory),
+        Err(Refusal::NoMemory) => Err(Refusal::NoMemory),
         Err(answered) if answered == refusal => Ok(witness.culprit.get()),
         Err(_) => Ok(None),
     }
