@@ -1,10 +1,13 @@
 -- What is put into a sink, one after another.
 use Rattle.mm_cells.specs.Values.{values_of}
 use Rattle.mm_cells.specs.declared.cells.Cells.{Cells}
-use Rattle.std.proofs.Common.{◌≡◌, ◌∙◌, ℕ, ◌<◌, List, [], ◌∷◌, ◌++◌, sym, ap, subst, arith, append-nil, append_assoc, length}
+use Rattle.std.proofs.Common.{◌≡◌, ◌∙◌, ℕ, ◌+◌, ◌<◌, ◌≤◌, List, [], ◌∷◌, ◌++◌, Option, None, Some, map, sym, ap, subst, arith, append-nil, append_assoc, length}
 use Rattle.std.proofs.KnownBytes.{Appends-nil}
+use Rattle.std.proofs.lemmas.List.{length-append}
+use Rattle.std.specs.Io.KnownBytes.{Appends}
 use Rattle.std.specs.List.{flat_map}
-use Rattle.std.specs.Prelude.{Result, Ok, Err, IfOk, OnOk}
+use Rattle.std.specs.Prelude.{Result, Ok, Err, IfOk, IfSome, OnOk}
+use Rattle.plain_tables.specs.Csv.{joined, record_text, row_record, value_field}
 use Rattle.plain_tables.specs.Tables.{Row}
 use Rattle.plain_tables.specs.declared.value.Value.{Value}
 use Rattle.mm_session.specs.Sinks.{PutsValues, EndsRow, PutsRows, Written, IsBehind}
@@ -41,3 +44,26 @@ cells_shown (Err e) old new rows n none puts counted = tt
 -- rows that were written behind others
 pub rows_written : (old new : Written) (rows : List Row) → old.part ≡ [] → PutsRows IsBehind old new rows → IsBehind old rows [] new
 rows_written old new rows none puts = puts old [] (record { written = Appends-nil old.bytes; waits = none; counted = omega arith })
+
+-- ---- how many rows are written
+
+record-some : (fields : List (List ℕ)) → 0 < length (record_text fields)
+record-some [] = omega arith
+record-some ([] ∷ []) = omega arith
+record-some ((b ∷ field) ∷ fields) = omega (arith, length-append (joined ((b ∷ field) ∷ fields)) (10 ∷ []))
+record-some ([] ∷ second ∷ fields) = omega (arith, length-append (joined ([] ∷ second ∷ fields)) (10 ∷ []))
+
+pub none-counted : (bytes : Option (List ℕ)) → IfSome bytes (λ bs. 0 ≤ length bs)
+none-counted None = tt
+none-counted (Some bs) = omega arith
+
+-- They are no more than the bytes before them, and each has one.
+pub rows-counted : (count : ℕ) (old new : Option (List ℕ)) (row : Row) (before after : List ℕ) → Some before ≡ old → Some after ≡ new
+    → IfSome old (λ bytes. count ≤ length bytes) → Appends old new (row_record row) → (count ≤ length before) × (length before < length after)
+rows-counted count old new row before after was is few grown =
+    let within : count ≤ length before = subst (λ (o : Option (List ℕ)). IfSome o (λ (bytes : List ℕ). count ≤ length bytes)) (sym was) few in
+    let put : after ≡ before ++ row_record row =
+    subst (λ (o : Option (List ℕ)). Appends o (Some after) (row_record row)) (sym was) (subst (λ (o : Option (List ℕ)). Appends old o (row_record row)) (sym is) grown) in
+    let longer : length after ≡ length before + length (row_record row) = ap length put ∙ length-append before (row_record row) in
+    let some : 0 < length (row_record row) = record-some (map value_field row) in
+    (within, omega arith)

@@ -9,6 +9,7 @@ pub mod records;
 
 use crate::answer::records::{push_changed, push_refusal};
 use itoa::Buffer;
+use mm_csv::ByteSink;
 use mm_lang::Sink;
 use plain_tables::{NoMemory, Refusal};
 use std::alloc::Global;
@@ -158,6 +159,17 @@ impl Sink for Answer {
 
     fn push_str(&mut self, text: &str) -> Result<(), NoMemory> {
         self.push(text.as_bytes())
+    }
+}
+
+impl ByteSink for Answer {
+    ghost use Rattle.std.specs.Prelude.{Some};
+
+    ghost contents = { λ a. Some a };
+
+    #[inline]
+    fn push_bytes(&mut self, bytes: &[u8]) -> Result<(), NoMemory> {
+        self.push(bytes)
     }
 }
 

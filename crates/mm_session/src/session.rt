@@ -8,7 +8,7 @@ use crate::fault::{NotOneRequest, SessionFault};
 use crate::stream::outlet::{Lent, Outlet};
 use crate::stream::responder::Responder;
 use mm_catalog::Catalog;
-use mm_cells::Cells;
+use mm_cells::{CellFault, Cells};
 use plain_tables::{Limits, NoMemory, Query, Refusal, Resolved, TableNumber, Value};
 use plan_chooser::Policy;
 use std::alloc::Global;
@@ -180,7 +180,7 @@ impl Session {
 
     /// Makes the cells the values that a select shows, a row behind the other, and tells how many columns each row has. A failure
     /// may leave any cells there.
-    pub fn select(&self, query: &Query, cells: &mut Cells) -> Result<usize, NoMemory>
+    pub fn select(&self, query: &Query, cells: &mut Cells) -> Result<usize, CellFault>
         requires { IsMeant self.now.limits self.now.database (resolved.Select query.now) }
         ensures shown { IfOk result (λ columns. ShowsValues (done self.now.limits self.now.database (resolved.Select query.now)).outcome columns (values_of cells.new)) }
         ensures some { IfOk result (λ columns. 0 < columns) }
@@ -190,7 +190,7 @@ impl Session {
 
     /// Makes the cells the columns of what a select shows: of each its name, behind its table's, and then the number of the kind of
     /// its values: 1 of integers, 2 of texts. A failure may leave any cells there.
-    pub fn columns(&self, query: &Query, cells: &mut Cells) -> Result<(), NoMemory>
+    pub fn columns(&self, query: &Query, cells: &mut Cells) -> Result<(), CellFault>
         requires { IsMeant self.now.limits self.now.database (resolved.Select query.now) }
         ensures { OnOk result (values_of cells.new ≡ columns_told self.now.database query.now) }
     {

@@ -10,14 +10,13 @@ ghost use Rattle.mm_session.specs.Changing.{ShowsValues};
 
 use super::Executor;
 use mm_catalog::laws::a_catalog_is_consistent;
-use mm_cells::Cells;
-use no_memory::NoMemory;
+use mm_cells::{CellFault, Cells};
 use plain_tables::Query;
 
 impl Executor {
     /// Makes the cells the values that a select shows, a row behind the other, and tells how many columns each row has. A failure
     /// may leave any cells there.
-    pub fn select_values(&self, query: &Query, cells: &mut Cells) -> Result<usize, NoMemory>
+    pub fn select_values(&self, query: &Query, cells: &mut Cells) -> Result<usize, CellFault>
         requires { IsMeant self.now.catalog.limits (database_of self.now.catalog) (resolved.Select query.now) }
         ensures shown { IfOk result (λ columns. ShowsValues (done self.now.catalog.limits (database_of self.now.catalog) (resolved.Select query.now)).outcome columns (values_of cells.new)) }
         ensures some { IfOk result (λ columns. 0 < columns) }

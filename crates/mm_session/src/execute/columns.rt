@@ -16,7 +16,7 @@ use super::batched::sources_of;
 use super::select::full_name;
 use mm_catalog::Catalog;
 use mm_catalog::laws::a_catalog_is_consistent;
-use mm_cells::{Cells, INTEGER, TEXT};
+use mm_cells::{CellFault, Cells, INTEGER, TEXT};
 use mm_csv::FullName;
 use mm_relation::Relations;
 use no_memory::NoMemory;
@@ -65,20 +65,21 @@ fn push_column(
     catalog: &Catalog,
     sources: &[TableNumber],
     place: Place,
-) -> Result<(), NoMemory>
+) -> Result<(), CellFault>
     requires sources { All (λ n. n < length catalog.now.relations) (map (λ t. t.0) sources.now) }
     requires place { HasPlace catalog.now.relations (map (λ t. t.0) sources.now) place }
     ensures { OnOk result (values_of cells.new ≡ values_of cells.old ++ column_told (database_of catalog.now) (tables_at catalog.now (map (λ t. t.0) sources.now)) place) }
 {
     write_name(text, full_name(catalog, sources, place))?;
     cells.push_text(text.as_str())?;
-    cells.push_integer(number_of(kind(catalog, sources, place)))
+    cells.push_integer(number_of(kind(catalog, sources, place)))?;
+    Ok(())
 }
 
 impl Executor {
     /// Makes the cells the columns of what a select shows: of each its name, behind its table's, and then the number of the kind of
     /// its values: 1 of integers, 2 of texts. A failure may leave any cells there.
-    pub fn columns(&self, query: &Query, cells: &mut Cells) -> Result<(), NoMemory>
+    pub fn columns(&self, query: &Query, cells: &mut Cells) -> Result<(), CellFault>
         requires { IsMeant self.now.catalog.limits (database_of self.now.catalog) (resolved.Select query.now) }
         ensures { OnOk result (values_of cells.new ≡ columns_told (database_of self.now.catalog) query.now) }
     {

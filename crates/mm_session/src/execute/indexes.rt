@@ -135,9 +135,7 @@ impl Executor {
         let Ok(text) = std::str::from_utf8(name) else {
             return Err(Refusal::NotUtf8);
         };
-        let Ok(name) = Text::from_str(self.alloc, text) else {
-            return Err(Refusal::NoMemory);
-        };
+        let name = Text::from_str(self.alloc, text)?;
         match self.catalog.table_number(&name) {
             Some(table) => Ok(table),
             None => Err(Refusal::NoSuchTable),
@@ -150,10 +148,8 @@ impl Executor {
         ensures refused { IfErr result (TellsNothing self.now.catalog name.now) }
     {
         let table = self.table_named(name)?;
-        match self.list_indexes(table, answer) {
-            Ok(()) => Ok(()),
-            Err(NoMemory) => Err(Refusal::NoMemory),
-        }
+        self.list_indexes(table, answer)?;
+        Ok(())
     }
 
     /// Makes the answer how the indexes of the table of a name stand.

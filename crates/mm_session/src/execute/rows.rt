@@ -15,7 +15,6 @@ use mm_catalog::Catalog;
 use mm_catalog::laws::a_catalog_is_consistent;
 use mm_relation::laws::a_relation_is_kept;
 use mm_relation::{Relation, TupleRef};
-use no_memory::NoMemory;
 use plain_tables::{ColumnNumber, Place, Shown};
 use temp_list::TempList;
 
@@ -27,7 +26,7 @@ pub fn push_placed<'a, S: RowSink<'a>>(
     relation: &'a Relation,
     r: TupleRef,
     places: &[Place],
-) -> Result<(), NoMemory>
+) -> Result<(), S::Fault>
     requires lent { (n : ℕ) × (slice_get catalog.now.relations n ≡ Some relation.now) }
     requires held { IsSome (finite.get relation.now.rows r) }
     requires columns { AreColumns relation.now places.now }
@@ -49,7 +48,7 @@ pub fn push_whole<'a, S: RowSink<'a>>(
     catalog: &'a Catalog,
     relation: &'a Relation,
     r: TupleRef,
-) -> Result<(), NoMemory>
+) -> Result<(), S::Fault>
     requires lent { (n : ℕ) × (slice_get catalog.now.relations n ≡ Some relation.now) }
     requires held { IsSome (finite.get relation.now.rows r) }
     ensures { OnOk result (PutsValues S.received sink.old sink.new (seen_values catalog.now relation.now r)) }
@@ -71,7 +70,7 @@ fn push_columns<'a, S: RowSink<'a>>(
     relation: &'a Relation,
     r: TupleRef,
     shown: &Shown,
-) -> Result<(), NoMemory>
+) -> Result<(), S::Fault>
     requires lent { (n : ℕ) × (slice_get catalog.now.relations n ≡ Some relation.now) }
     requires held { IsSome (finite.get relation.now.rows r) }
     requires columns { All (λ column. column.0 < length relation.now.schema.columns) (columns_shown (length relation.now.schema.columns) shown.now) }
@@ -91,7 +90,7 @@ pub fn push_shown<'a, S: RowSink<'a>>(
     relation: &'a Relation,
     r: TupleRef,
     shown: &Shown,
-) -> Result<(), NoMemory>
+) -> Result<(), S::Fault>
     requires lent { (n : ℕ) × (slice_get catalog.now.relations n ≡ Some relation.now) }
     requires held { IsSome (finite.get relation.now.rows r) }
     requires columns { All (λ column. column.0 < length relation.now.schema.columns) (columns_shown (length relation.now.schema.columns) shown.now) }
@@ -109,7 +108,7 @@ fn push_row<'a, S: RowSink<'a>>(
     list: &TempList,
     row: usize,
     places: &[Place],
-) -> Result<(), NoMemory>
+) -> Result<(), S::Fault>
     requires over { IsOver catalog.now.relations list.now }
     requires places { All (HasPlace catalog.now.relations list.now.sources) places.now }
     requires some { 0 < length places.now }
@@ -129,7 +128,7 @@ pub fn push_list<'a, S: RowSink<'a>>(
     catalog: &'a Catalog,
     list: &TempList,
     places: &[Place],
-) -> Result<(), NoMemory>
+) -> Result<(), S::Fault>
     requires over { IsOver catalog.now.relations list.now }
     requires places { All (HasPlace catalog.now.relations list.now.sources) places.now }
     requires some { 0 < length places.now }

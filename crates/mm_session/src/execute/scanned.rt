@@ -10,7 +10,6 @@ use super::Executor;
 use super::rows::push_list;
 use super::sink::RowSink;
 use mm_catalog::laws::a_catalog_is_consistent;
-use no_memory::NoMemory;
 use plain_tables::Query;
 use project_hash::distinct_of_table;
 
@@ -21,7 +20,7 @@ impl Executor {
         &'a self,
         query: &Query,
         sink: &mut S,
-    ) -> Result<usize, NoMemory>
+    ) -> Result<usize, S::Fault>
         requires scan { IsScan self.now.catalog query.now }
         ensures shown { OnOk result (PutsRows S.received sink.old sink.new (rows_shown self.now.catalog query.now)) }
         ensures columns { IfOk result (λ columns. columns ≡ length (headings (joined_tables (database_of self.now.catalog) query.now.source query.now.joins) query.now.shown)) }

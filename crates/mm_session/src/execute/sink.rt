@@ -6,7 +6,7 @@ ghost use Rattle.plain_tables.specs.Stored.{link_number};
 ghost use Rattle.mm_session.specs.Sinks.{PutsValues, EndsRow};
 
 use crate::answer::Answer;
-use mm_cells::Cells;
+use mm_cells::{CellFault, Cells};
 use mm_csv::RecordWriter;
 use no_memory::NoMemory;
 use plain_tables::StoredValue;
@@ -18,16 +18,19 @@ pub trait RowSink<'a> {
     ghost use Rattle.std.specs.Prelude.{List};
     ghost use Rattle.plain_tables.specs.Tables.{Row};
 
+    /// Why a value is not taken: a growth was refused, or what else keeps it out.
+    type Fault: From<NoMemory>;
+
     // Since a state, these rows were received, and these values of one that has not ended.
     ghost received: { Self → List Row → Row → Self → Type 0 };
 
     /// Puts a value behind those of its row.
-    fn push_value(&mut self, value: &'a StoredValue) -> Result<(), NoMemory>
+    fn push_value(&mut self, value: &'a StoredValue) -> Result<(), Self::Fault>
         requires { link_number value.now ≡ None }
         ensures { OnOk result (PutsValues received self.old self.new (value.now ∷ [])) };
 
     /// Ends a row, which has a value.
-    fn end_row(&mut self) -> Result<(), NoMemory>
+    fn end_row(&mut self) -> Result<(), Self::Fault>
         ensures { OnOk result (EndsRow received self.old self.new) };
 }
 
@@ -35,21 +38,23 @@ impl<'a> RowSink<'a> for Cells {
     ghost use Rattle.std.specs.List.{flat_map};
     ghost use Rattle.mm_cells.specs.Values.{values_of};
 
+    type Fault = CellFault;
+
     ghost received = { λ start rows part now. values_of now ≡ values_of start ++ (flat_map (λ row. row) rows ++ part) };
 
     #[inline]
-    fn push_value(&mut self, value: &'a StoredValue) -> Result<(), NoMemory> {
+    fn push_value(&mut self, value: &'a StoredValue) -> Result<(), CellFault> {
         self.push(value)
     }
 
     #[inline]
-    fn end_row(&mut self) -> Result<(), NoMemory> {
+    fn end_row(&mut self) -> Result<(), CellFault> {
         Ok(())
     }
 }
 
 /// Rows as records, behind those that a writer has. The values of a row wait until it ends. Contracts see the bytes, these values,
-/// and how many rows there are.
+/// and how many rows there are: no more than bytes, so they can be counted.
 #[derive(Drop)]
 pub struct Records<'a> {
     writer: RecordWriter<Answer>,
@@ -58,12 +63,14 @@ pub struct Records<'a> {
 }
 
 impl<'a> Model for Records<'a> {
-    ghost use Rattle.std.specs.Prelude.{map};
+    ghost use Rattle.std.specs.Prelude.{◌≡◌, ◌≤◌, false, length, map, IfSome};
     ghost use Rattle.mm_session.specs.Sinks.{Written};
 
     ghost Value = { Written };
 
     ghost view = { λ r. record { bytes = r.writer.bytes; part = map (λ v. v.now) r.values.items; count = r.count } };
+
+    ghost invariant = { λ r. r.writer.failed ≡ false → IfSome r.writer.bytes (λ bytes. r.count ≤ length bytes) };
 }
 
 impl<'a> Records<'a> {
@@ -104,6 +111,8 @@ impl<'a> Records<'a> {
 impl<'a> RowSink<'a> for Records<'a> {
     ghost use Rattle.mm_session.specs.Sinks.{IsBehind};
 
+    type Fault = NoMemory;
+
     ghost received = { IsBehind };
 
     #[inline]
@@ -117,13 +126,14 @@ impl<'a> RowSink<'a> for Records<'a> {
         if self.values.is_empty() {
             return Ok(());
         }
-        // So many rows that none counts them have no room in memory either.
-        let Some(count) = self.count.checked_add(1) else {
-            return Err(NoMemory);
-        };
+        let before = self.writer.get_ref().len();
         self.writer.push_values(&self.values)?;
+        let after = self.writer.get_ref().len();
+        // Each record has a byte.
+        prove!(self.count <= before);
+        prove!(before < after);
         self.values.clear();
-        self.count = count;
+        self.count += 1;
         Ok(())
     }
 }
