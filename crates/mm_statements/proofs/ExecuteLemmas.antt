@@ -19,12 +19,15 @@ use Rattle.plain_statements.specs.Filling.{filled}
 use Rattle.plain_statements.specs.Finishing.{finished}
 use Rattle.plain_statements.specs.Laws.{Resolves}
 use Rattle.plain_statements.specs.StatementSpelling.{SpellsStatement}
+use Rattle.mm_cells.specs.declared.fault.CellFault.{CellFault}
+use Rattle.mm_cells.specs.declared.fault.CellFault.TheVariants as cells
 use Rattle.mm_session.specs.Changing.{HasChanged, HasDeclined, IsChange}
 use Rattle.mm_session.specs.OneRequest.{StaysInStream}
 use Rattle.mm_session.specs.Sessions.{State}
 use Rattle.mm_prepared.specs.Kept.{KeptStatement}
-use Rattle.mm_statements.specs.Databases.{IsUnchanged}
+use Rattle.mm_statements.specs.Databases.{DatabaseState, IsUnchanged}
 use Rattle.mm_statements.specs.Executing.{IsDeclined, IsEffectOf}
+use Rattle.mm_statements.specs.Faults.{execute_fault_of}
 use Rattle.mm_prepared.specs.Kept.{IsKnown, NamesNow, SameSeen, named, seen}
 use Rattle.mm_statements.specs.Resolving.{IsFinished, IsRefusing, IsUnfinished, IsUnmeant, IsUnresolved}
 use Rattle.mm_statements.specs.Resolving as resolving
@@ -76,6 +79,7 @@ unmeant-refusing tables statements number p why there right (resolving.refuses s
 pub unresolved-unfinished : (tables : Database) (statements : Statements) (number : ℕ) (e : ExecuteFault)
     → IsUnresolved tables statements number e → IsUnfinished tables statements number e
 unresolved-unfinished tables statements number fault.NoSuchStatement none = none
+unresolved-unfinished tables statements number fault.TooLong never = never
 unresolved-unfinished tables statements number (fault.Refused why) says = λ other.
     let r = says other in
     record { prepared = r.prepared; there = r.there; statement = r.statement; spelled = r.spelled; means = r.refuses r.prepared.bound }
@@ -131,6 +135,7 @@ effect-of session statements number m f = record {
 -- a statement that could not be finished is declined so
 pub unfinished-declined : (session : State) (statements : Statements) (number : ℕ) (e : ExecuteFault)
     → IsUnfinished session.database statements number e → IsDeclined (state_of session statements) number e
+unfinished-declined session statements number fault.TooLong never = tt
 unfinished-declined session statements number fault.NoSuchStatement none = statement-seen session statements number ∙ ap (option_map seen) none
 unfinished-declined session statements number (fault.Refused why) says = λ other. effect-of session statements number (Err why) (says other)
 
@@ -166,3 +171,9 @@ there-named tables statements number m f none = let e : None ≡ Some f.prepared
 pub on-err : {X E P : Type 0} (r : Result X E) → P → OnErr r P
 on-err (Ok x) h = tt
 on-err (Err e) h = h
+
+-- ---- what the cells of a select don't take
+
+pub cells-declined : (database : DatabaseState) (number : ℕ) (f : CellFault) → IsDeclined database number (execute_fault_of f)
+cells-declined database number (cells.NoMemory refused) = λ other. absurd (other refl)
+cells-declined database number cells.TooLong = tt

@@ -20,9 +20,12 @@ use Rattle.plain_tables.proofs.ResolvedLemmas.{resolved_are_meant}
 use Rattle.plain_tables.proofs.Spellable.{spelled-spellable}
 use Rattle.plain_tables.proofs.Uniqueness.{spells-one}
 use Rattle.plain_streams.specs.Requests.{IsReadable}
+use Rattle.mm_cells.specs.declared.fault.CellFault.{CellFault}
+use Rattle.mm_cells.specs.declared.fault.CellFault.TheVariants as cells
 use Rattle.mm_session.specs.Changing.{HasDeclined}
 use Rattle.mm_session.specs.Sessions.{State}
-use Rattle.mm_statements.specs.Querying.{IsEffectOfLine, IsMeaningOfLine, IsUnqueried, is_statement}
+use Rattle.mm_statements.specs.Faults.{query_fault_of}
+use Rattle.mm_statements.specs.Querying.{IsEffectOfLine, IsMeaningOfLine, IsUnanswered, IsUnqueried, is_statement}
 use Rattle.mm_statements.specs.Querying as querying
 use Rattle.mm_statements.specs.Resolving.{IsOfRows}
 
@@ -96,3 +99,9 @@ pub change-unqueried : (old new : State) (line : List ℕ) (r : Resolved) (why :
 change-unqueried old new line r why means declined =
     ⊎_elim (λ none. subst (IsUnqueried old line) (sym none) (querying.no_memory means.readable))
     (λ is. querying.refuses why (subst (IsEffectOfLine old line) is (effect-of-line old line (Ok r) means))) declined.1
+
+-- ---- what the cells of a select don't take
+
+pub cells-unanswered : (session : State) (line : List ℕ) (f : CellFault) → IsReadable line → IsUnanswered session line (query_fault_of f)
+cells-unanswered session line (cells.NoMemory refused) readable = querying.no_memory readable
+cells-unanswered session line cells.TooLong readable = readable

@@ -37,11 +37,12 @@ HasGiven new effect (gives.Changed count) cells = HasChanged new effect count ×
 HasGiven new effect (gives.Rows columns) cells =
     (new.database ≡ effect.database) × ShowsValues effect.outcome columns cells × (0 < columns)
 
--- The number names no statement; or the refusal is the effect, unless there was no memory.
+-- The number names no statement; or the refusal is the effect, unless there was no memory. What it shows may be too long for cells.
 abbrev pub IsDeclined : DatabaseState → ℕ → ExecuteFault → Type 0
 IsDeclined database number fault.NoSuchStatement = statement_at database number ≡ None
 IsDeclined database number (fault.Refused why) =
     why ≢ NoMemory → IsEffectOf database number (refused database.session.database why)
+IsDeclined database number fault.TooLong = Unit {0}
 
 -- the columns of what a resolved command shows of these tables
 abbrev pub columns_of : Database → Resolved → List Value
@@ -70,3 +71,4 @@ pub record IsRefusedEver (database : DatabaseState) (number : ℕ) (why : Refusa
 abbrev pub IsUntold : DatabaseState → ℕ → ExecuteFault → Type 0
 IsUntold database number fault.NoSuchStatement = statement_at database number ≡ None
 IsUntold database number (fault.Refused why) = why ≢ NoMemory → IsRefusedEver database number why
+IsUntold database number fault.TooLong = Unit {0}

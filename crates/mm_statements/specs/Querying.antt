@@ -14,6 +14,8 @@ use Rattle.plain_tables.specs.declared.resolved.Resolved.{Resolved}
 use Rattle.plain_streams.specs.Division.{IsUnbroken}
 use Rattle.plain_streams.specs.Requests.{IsReadable, is_silent}
 use Rattle.mm_session.specs.Sessions.{State}
+use Rattle.mm_statements.specs.declared.faults.QueryFault.{QueryFault}
+use Rattle.mm_statements.specs.declared.faults.QueryFault.TheVariants as fault
 
 -- whether a command is an insert, an update, a delete or a select
 abbrev pub is_statement : Command → Bool
@@ -46,6 +48,11 @@ pub data IsUnqueried (session : State) (line : List ℕ) : Refusal → Type 0 wh
   no_statement : IsReadable line → ((c : Command) → IsTrue (is_statement c) → ¬ (Spells line c)) → IsUnqueried session line NotACommand
   refuses : (why : Refusal) → IsEffectOfLine session line (refused session.database why) → IsUnqueried session line why
   no_memory : IsReadable line → IsUnqueried session line NoMemory
+
+-- The refusal is why nothing comes of a line; or the line can be read, and what it shows is too long for cells.
+abbrev pub IsUnanswered : State → List ℕ → QueryFault → Type 0
+IsUnanswered session line (fault.Refused why) = IsUnqueried session line why
+IsUnanswered session line fault.TooLong = IsReadable line
 
 -- The line can be read, and spells an insert, an update, a delete or a select that means this of the tables.
 pub record IsMeaningOfLine (tables : Database) (line : List ℕ) (meaning : Result Resolved Refusal) : Type 0 where

@@ -48,6 +48,7 @@ pub record IsRefusing (tables : Database) (statements : Statements) (number : �
 abbrev pub IsUnresolved : Database → Statements → ℕ → ExecuteFault → Type 0
 IsUnresolved tables statements number fault.NoSuchStatement = named statements number ≡ None
 IsUnresolved tables statements number (fault.Refused why) = why ≢ NoMemory → IsRefusing tables statements number why
+IsUnresolved tables statements number fault.TooLong = ⊥
 
 -- an insert, an update, a delete or a select
 abbrev pub IsOfRows : Resolved → Type 0
@@ -58,3 +59,4 @@ IsOfRows command = IsChange command
 abbrev pub IsUnfinished : Database → Statements → ℕ → ExecuteFault → Type 0
 IsUnfinished tables statements number fault.NoSuchStatement = named statements number ≡ None
 IsUnfinished tables statements number (fault.Refused why) = why ≢ NoMemory → IsFinished tables statements number (Err why)
+IsUnfinished tables statements number fault.TooLong = ⊥

@@ -8,8 +8,7 @@ ghost use Rattle.mm_session.specs.Columns.{kind_number};
 ghost use Rattle.mm_statements.specs.Columns.{column_of, column_placed, columns_of_query, columns_of_table, source_tables};
 
 use mm_catalog::Catalog;
-use mm_cells::{Cells, INTEGER, TEXT};
-use no_memory::NoMemory;
+use mm_cells::{CellFault, Cells, INTEGER, TEXT};
 use plain_statements::SlotQuery;
 use plain_tables::{BaseKind, Column, Place, Shown, TableNumber};
 
@@ -29,16 +28,17 @@ fn push_column(
     catalog: &Catalog,
     table: TableNumber,
     column: &Column,
-) -> Result<(), NoMemory>
+) -> Result<(), CellFault>
     requires { table.0 < length (database_of catalog.now) }
     ensures { OnOk result ((t : Table) → slice_get (database_of catalog.now) table.0 ≡ Some t → values_of cells.new ≡ values_of cells.old ++ column_of (database_of catalog.now) t column.now) }
 {
     cells.push_name(catalog.table_name(table), column.name.as_str())?;
-    cells.push_integer(number_of(catalog.type_of(&column.kind)))
+    cells.push_integer(number_of(catalog.type_of(&column.kind)))?;
+    Ok(())
 }
 
 // Appends all columns of a table, if it is there.
-fn push_table(cells: &mut Cells, catalog: &Catalog, table: TableNumber) -> Result<(), NoMemory>
+fn push_table(cells: &mut Cells, catalog: &Catalog, table: TableNumber) -> Result<(), CellFault>
     ensures { OnOk result (values_of cells.new ≡ values_of cells.old ++ columns_of_table (database_of catalog.now) table) }
 {
     if table.0 >= catalog.table_count() {
@@ -51,7 +51,7 @@ fn push_table(cells: &mut Cells, catalog: &Catalog, table: TableNumber) -> Resul
 }
 
 // Appends all columns of the tables of a query.
-fn push_tables(cells: &mut Cells, catalog: &Catalog, query: &SlotQuery) -> Result<(), NoMemory>
+fn push_tables(cells: &mut Cells, catalog: &Catalog, query: &SlotQuery) -> Result<(), CellFault>
     ensures { OnOk result (values_of cells.new ≡ values_of cells.old ++ flat_map (columns_of_table (database_of catalog.now)) (source_tables query.now)) }
 {
     push_table(cells, catalog, query.source.table)?;
@@ -78,7 +78,7 @@ fn push_place(
     catalog: &Catalog,
     query: &SlotQuery,
     place: Place,
-) -> Result<(), NoMemory>
+) -> Result<(), CellFault>
     ensures { OnOk result (values_of cells.new ≡ values_of cells.old ++ column_placed (database_of catalog.now) (source_tables query.now) place) }
 {
     let Some(table) = source_table(query, place.source) else {
@@ -99,7 +99,7 @@ fn push_places(
     catalog: &Catalog,
     query: &SlotQuery,
     places: &[Place],
-) -> Result<(), NoMemory>
+) -> Result<(), CellFault>
     ensures { OnOk result (values_of cells.new ≡ values_of cells.old ++ flat_map (column_placed (database_of catalog.now) (source_tables query.now)) places.now) }
 {
     for place in places {
@@ -109,7 +109,7 @@ fn push_places(
 }
 
 /// Appends the columns that a query shows of the tables of a catalog. It reads no value.
-pub fn push_columns(cells: &mut Cells, catalog: &Catalog, query: &SlotQuery) -> Result<(), NoMemory>
+pub fn push_columns(cells: &mut Cells, catalog: &Catalog, query: &SlotQuery) -> Result<(), CellFault>
     ensures { OnOk result (values_of cells.new ≡ values_of cells.old ++ columns_of_query (database_of catalog.now) query.now) }
 {
     match &query.shown {

@@ -1,7 +1,7 @@
 //! A database with statements: a session, and the statements that are kept of its tables.
 
 use crate::columns::push_columns;
-use crate::faults::{ExecuteFault, PrepareFault};
+use crate::faults::{ExecuteFault, PrepareFault, QueryFault};
 use crate::querying::command_of_line;
 use crate::reading::{count_marks, meaning, readable};
 use crate::resolving::{command_of, resolution_of, resolve};
@@ -10,7 +10,7 @@ use mm_prepared::{Cell, Commands, Declined, Lent, Statements, may_declare};
 use mm_session::{Answer, NotOneRequest, Session, SessionFault};
 use no_memory::NoMemory;
 use plain_statements::Template;
-use plain_tables::{Limits, Refusal, Resolved, Value};
+use plain_tables::{Limits, Resolved, Value};
 use plan_chooser::Policy;
 use std::alloc::Global;
 use std::io::Write;
@@ -77,7 +77,7 @@ impl Database {
     ghost use Rattle.mm_statements.specs.Databases.{statement_at, IsUnchanged, NowNames, SameStatements};
     ghost use Rattle.mm_statements.specs.Executing.{HasGiven, IsDeclined, IsEffectOf, IsUntold, TellsColumns};
     ghost use Rattle.mm_statements.specs.Preparing.{IsPrepared, IsUnpreparedFor};
-    ghost use Rattle.mm_statements.specs.Querying.{IsEffectOfLine, IsUnqueried};
+    ghost use Rattle.mm_statements.specs.Querying.{IsEffectOfLine, IsUnanswered};
     ghost use Rattle.mm_prepared.specs.declared.declined.Declined.TheVariants as declined;
     ghost use Rattle.mm_statements.specs.declared.faults.ExecuteFault.TheVariants as fault;
     ghost use Rattle.plain_tables.specs.Effects.{Effect};
@@ -298,9 +298,9 @@ impl Database {
         alloc: Global,
         line: &[u8],
         cells: &mut Cells,
-    ) -> Result<Executed, Refusal>
+    ) -> Result<Executed, QueryFault>
         ensures done { IfOk result (λ given. (effect : Effect) × IsEffectOfLine self.old.session (without_return line.now) effect × HasGiven self.new.session effect given (values_of cells.new)) }
-        ensures refused { IfErr result (IsUnqueried self.old.session (without_return line.now)) }
+        ensures refused { IfErr result (IsUnanswered self.old.session (without_return line.now)) }
         ensures unchanged { OnErr result (IsUnchanged self.old self.new) }
 
         // The stream goes on as before, and the statements stay.

@@ -1,5 +1,6 @@
-//! Why a line is not kept as a statement, and why a statement is not executed.
+//! Why a line is not kept as a statement, why a statement is not executed, and why nothing comes of a line.
 
+use mm_cells::CellFault;
 use no_memory::NoMemory;
 use plain_tables::Refusal;
 
@@ -45,6 +46,8 @@ pub enum ExecuteFault {
     NoSuchStatement,
     /// The statement is refused with these values; 90 where a growth was refused.
     Refused(Refusal),
+    /// The texts of the rows that it shows are longer than 4 GiB together: cells have no numbers for them.
+    TooLong,
 }
 
 impl From<Refusal> for ExecuteFault {
@@ -67,5 +70,53 @@ impl From<NoMemory> for ExecuteFault {
 
     fn from(_: NoMemory) -> ExecuteFault {
         ExecuteFault::Refused(Refusal::NoMemory)
+    }
+}
+
+impl From<CellFault> for ExecuteFault {
+    ghost use Rattle.std.specs.Prelude.{◌≡◌};
+    ghost use Rattle.mm_statements.specs.Faults.{execute_fault_of};
+
+    ghost from_gives = { λ why e. e ≡ execute_fault_of why };
+
+    fn from(why: CellFault) -> ExecuteFault {
+        match why {
+            CellFault::NoMemory(refused) => ExecuteFault::Refused(Refusal::from(refused)),
+            CellFault::TooLong => ExecuteFault::TooLong,
+        }
+    }
+}
+
+/// Why nothing comes of a line. Nothing has changed.
+#[derive(Clone, Copy, Debug, PartialEq, Eq)]
+pub enum QueryFault {
+    /// The line is refused; 90 where a growth was refused.
+    Refused(Refusal),
+    /// The texts of the rows that it shows are longer than 4 GiB together: cells have no numbers for them.
+    TooLong,
+}
+
+impl From<Refusal> for QueryFault {
+    ghost use Rattle.std.specs.Prelude.{◌≡◌};
+    ghost use Rattle.mm_statements.specs.declared.faults.QueryFault.TheVariants as fault;
+
+    ghost from_gives = { λ why e. e ≡ fault.Refused why };
+
+    fn from(why: Refusal) -> QueryFault {
+        QueryFault::Refused(why)
+    }
+}
+
+impl From<CellFault> for QueryFault {
+    ghost use Rattle.std.specs.Prelude.{◌≡◌};
+    ghost use Rattle.mm_statements.specs.Faults.{query_fault_of};
+
+    ghost from_gives = { λ why e. e ≡ query_fault_of why };
+
+    fn from(why: CellFault) -> QueryFault {
+        match why {
+            CellFault::NoMemory(refused) => QueryFault::Refused(Refusal::from(refused)),
+            CellFault::TooLong => QueryFault::TooLong,
+        }
     }
 }

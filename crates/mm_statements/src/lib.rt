@@ -26,5 +26,5 @@ mod reading;
 mod resolving;
 
 pub use database::{Database, Executed, Numbered, PreparedLine};
-pub use faults::{ExecuteFault, PrepareFault};
+pub use faults::{ExecuteFault, PrepareFault, QueryFault};
 pub use mm_prepared::{Bound, Cell, Declined, Prepared, Statements, finish};

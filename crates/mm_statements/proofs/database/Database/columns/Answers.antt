@@ -6,7 +6,7 @@ use Rattle.mm_catalog.specs.Seen.{database_of}
 use Rattle.mm_cells.specs.Values.{values_of}
 use Rattle.mm_statements.specs.Columns.{columns_of_query, columns_of_template}
 use Rattle.mm_statements.specs.declared.faults.ExecuteFault.TheVariants as fault
-use Rattle.mm_statements.proofs.ColumnLemmas.{known-told, none-told, unresolved-untold}
+use Rattle.mm_statements.proofs.ColumnLemmas.{cells-untold, known-told, none-told, unresolved-untold}
 use Rattle.mm_statements.proofs.ExecuteLemmas.{unchanged}
 use Rattle.mm_statements.proofs.SeenLemmas.{statement-none}
 use Rattle.mm_statements.proofs.database.Database.columns.Goals as goal
@@ -30,6 +30,11 @@ pub returns-in_err-resolve-clause-unchanged : goal.returns-in_err-resolve-clause
 returns-in_err-resolve-clause-unchanged c =
     let s = c.self.inside.session in
     rw (← c.self.view_is) (unchanged s s c.self.inside.statements c.resolve.new.statements refl c.resolve.ensures.same)
+
+pub returns-in_err-push_columns-clause-declined : goal.returns-in_err-push_columns-clause-declined
+returns-in_err-push_columns-clause-declined c =
+    let e = err_from_is_err_and c.from_residual-in_err-push_columns.result c.from_residual-in_err-push_columns.ensures.1 in
+    rw (← c.self.view_is, e.1, e.2) (cells-untold _ c.args.number c.in_err-push_columns.field-0.0)
 
 pub returns-in_err-push_columns-clause-unchanged : goal.returns-in_err-push_columns-clause-unchanged
 returns-in_err-push_columns-clause-unchanged c =

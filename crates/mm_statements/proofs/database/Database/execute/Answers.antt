@@ -5,7 +5,7 @@ use Rattle.plain_tables.specs.ResolvedLaws.{IsMeant}
 use Rattle.plain_tables.specs.declared.resolved.Resolved.TheVariants as resolved
 use Rattle.mm_statements.specs.Resolving.{IsFinished, IsOfRows}
 use Rattle.mm_statements.specs.declared.faults.ExecuteFault.TheVariants as fault
-use Rattle.mm_statements.proofs.ExecuteLemmas.{change-declined, changed-right, effect-of, on-err, same-finished, same-unfinished, unchanged, unfinished-declined, unresolved-unfinished}
+use Rattle.mm_statements.proofs.ExecuteLemmas.{cells-declined, change-declined, changed-right, effect-of, on-err, same-finished, same-unfinished, unchanged, unfinished-declined, unresolved-unfinished}
 use Rattle.mm_statements.proofs.FinishedLemmas.{rows-change}
 use Rattle.mm_statements.proofs.SeenLemmas.{same-seen, statement-none}
 use Rattle.mm_statements.proofs.database.Database.execute.Goals as goal
@@ -112,6 +112,11 @@ select-requires c =
     let meant : IsMeant s.limits s.database c.in-Command.command.now =
     rw c.in-Command.is at (c.in_ok-lent.ensures.meant s.limits s.database c.resolve.ensures.right) in
     subst (IsMeant s.limits s.database) c.in-Select.is meant
+
+pub returns-in_err-columns-clause-declined : goal.returns-in_err-columns-clause-declined
+returns-in_err-columns-clause-declined c =
+    let e = err_from_is_err_and c.from_residual-in_err-columns.result c.from_residual-in_err-columns.ensures.1 in
+    rw (← c.self.view_is, e.1, e.2) (cells-declined _ c.args.number c.in_err-columns.field-0.0)
 
 pub returns-in_err-columns-clause-unchanged : goal.returns-in_err-columns-clause-unchanged
 returns-in_err-columns-clause-unchanged c =

@@ -3,10 +3,9 @@ use Rattle.std.proofs.lemmas.Result.{err_from_is_err_and}
 use Rattle.plain_tables.specs.Doing.{done}
 use Rattle.plain_tables.specs.declared.resolved.Resolved.TheVariants as resolved
 use Rattle.mm_statements.specs.Querying.{IsMeaningOfLine}
-use Rattle.mm_statements.specs.Querying as querying
 use Rattle.mm_statements.proofs.ExecuteLemmas.{changed-right, on-err, unchanged}
 use Rattle.mm_statements.proofs.FinishedLemmas.{rows-change}
-use Rattle.mm_statements.proofs.QueryLemmas.{change-unqueried, effect-of-line}
+use Rattle.mm_statements.proofs.QueryLemmas.{cells-unanswered, change-unqueried, effect-of-line}
 use Rattle.mm_statements.proofs.database.Database.query.Goals as goal
 
 pub returns-in_err-command-clause-refused : goal.returns-in_err-command-clause-refused
@@ -17,7 +16,7 @@ returns-in_err-command-clause-refused c =
 pub returns-in_err-columns-clause-refused : goal.returns-in_err-columns-clause-refused
 returns-in_err-columns-clause-refused c =
     let e = err_from_is_err_and c.from_residual-in_err-columns.result c.from_residual-in_err-columns.ensures.1 in
-    rw (← c.self.view_is, e.1, e.2) (querying.no_memory c.in_ok-command.ensures.spelled.readable)
+    rw (← c.self.view_is, e.1, e.2) (cells-unanswered c.self.inside.session _ c.in_err-columns.field-0.0 c.in_ok-command.ensures.spelled.readable)
 
 pub returns-in-Select-clause-done : goal.returns-in-Select-clause-done
 returns-in-Select-clause-done c =
