@@ -4,10 +4,9 @@ use crate::shown::Cut;
 use crate::tables::{Seen, table_named};
 use crate::told::{Reason, tell};
 use crate::values::takes_null;
-use csv::{ByteRecord, Reader, ReaderBuilder};
+use csv::{ByteRecord, ErrorKind, Reader, ReaderBuilder};
 use mm_catalog::Catalog;
-use no_memory::NoMemory;
-use plain_tables::{BaseKind, Column, LONGEST_TEXT, Text};
+use plain_tables::{BaseKind, Column, LONGEST_TEXT, Refusal, Text};
 use std::alloc::Global;
 
 // The bytes that may mark a text as UTF-8 at its front.
@@ -21,11 +20,15 @@ fn reader_of(alloc: Global, block: &[u8]) -> Reader<&[u8]> {
         .from_reader(alloc, block.strip_prefix(&MARK).unwrap_or(block))
 }
 
-// Reads the next record, where there is one.
-fn next_record(reader: &mut Reader<&[u8]>, fields: &mut ByteRecord) -> Result<bool, NoMemory> {
+// Reads the next record, and tells whether there was one. None where the library can't tell.
+fn next_record(
+    reader: &mut Reader<&[u8]>,
+    fields: &mut ByteRecord,
+) -> Result<Option<bool>, Refusal> {
     match reader.read_byte_record(fields) {
-        Ok(is_there) => Ok(is_there),
-        Err(_) => Err(NoMemory),
+        Ok(is_there) => Ok(Some(is_there)),
+        Err(error) if matches!(error.kind(), ErrorKind::OutOfMemory) => Err(Refusal::NoMemory),
+        Err(_) => Ok(None),
     }
 }
 
@@ -57,8 +60,12 @@ pub fn why_no_header(alloc: Global, table: &Seen<'_>, block: &[u8]) -> Reason {
         return tell(format!(in alloc; "more than one mark stands before the header of {name}"));
     }
     let mut fields = ByteRecord::new(alloc);
-    if !next_record(&mut reader_of(alloc, block), &mut fields)? {
-        return tell(format!(in alloc; "the block has no header of the columns of {name}"));
+    match next_record(&mut reader_of(alloc, block), &mut fields)? {
+        Some(true) => {}
+        Some(false) => {
+            return tell(format!(in alloc; "the block has no header of the columns of {name}"));
+        }
+        None => return Ok(None),
     }
     let count = fields.len();
     if count == columns {
@@ -124,7 +131,7 @@ pub fn why_no_row_at(
     let mut reader = reader_of(alloc, block);
     let mut fields = ByteRecord::new(alloc);
     for _ in 0..=record {
-        if !next_record(&mut reader, &mut fields)? {
+        if next_record(&mut reader, &mut fields)? != Some(true) {
             return Ok(None);
         }
     }

@@ -10,7 +10,6 @@ use mm_catalog::Catalog;
 use mm_lang::{Line, Stopped, parse_or_stop};
 use mm_resolver::command_culprit;
 use mm_session::{Judged, LONGEST_LINE, judge_line, split_line};
-use no_memory::NoMemory;
 use plain_tables::{Command, Refusal};
 use std::alloc::Global;
 
@@ -62,7 +61,9 @@ pub fn of_command(
 
 /// Why a line spells no command or no statement, where it is refused for that.
 pub fn of_stop(alloc: Global, line: &str, stopped: Stopped, refusal: Refusal) -> Reason {
-    let stop = stopped.stop().ok_or(NoMemory)?;
+    let Some(stop) = stopped.stop() else {
+        return Err(Refusal::NoMemory);
+    };
     if refusal != Refusal::NotACommand {
         return Ok(None);
     }
@@ -83,7 +84,7 @@ fn of_text(
     };
     match parse_or_stop(alloc, line) {
         Ok(again) => of_command(alloc, catalog, &command, again, block, refusal),
-        Err(_) => Err(NoMemory),
+        Err(stopped) => of_stop(alloc, line.as_str(), stopped, refusal),
     }
 }
 
@@ -150,14 +151,15 @@ fn of_line(
 
 /// Why the request of a line and a block was refused so, in words, if that can be told. It is asked of the tables as they were
 /// when the request was refused. Of a block that came in part the line is asked with that part, and of one past its limit with
-/// none. Where the line has line feeds, as a piece of a stream has, it is asked of the first request in it that has an answer.
+/// none. Where the line has line feeds, as a piece of a stream has, it is asked of the first request in it that has an answer. The
+/// error is 90, where a growth was refused.
 pub fn reason(
     alloc: Global,
     catalog: &Catalog,
     line: &[u8],
     block: &[u8],
     refusal: Refusal,
-) -> Result<Option<String>, NoMemory> {
+) -> Result<Option<String>, Refusal> {
     let told = if refusal == Refusal::NoMemory {
         of_no_memory(alloc)?
     } else {

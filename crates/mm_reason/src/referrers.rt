@@ -130,7 +130,7 @@ pub fn named_rows(
             why_kept(alloc, catalog, table, tests.as_slice())
         }
         Ok(_) => Ok(None),
-        Err(Refusal::NoMemory) => Err(NoMemory),
+        Err(Refusal::NoMemory) => Err(Refusal::NoMemory),
         Err(_) => Ok(None),
     }
 }

@@ -156,7 +156,7 @@ pub fn refused_by_rows(
         }
         (command, _) => match catalog.resolve(command, block) {
             Ok(resolved) => of_resolved(alloc, catalog, resolved, refusal),
-            Err(Refusal::NoMemory) => Err(NoMemory),
+            Err(Refusal::NoMemory) => Err(Refusal::NoMemory),
             Err(_) => Ok(None),
         },
     }

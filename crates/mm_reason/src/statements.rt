@@ -7,7 +7,7 @@ use crate::parts::Parts;
 use crate::reasons::{of_command, of_no_memory, of_stop, of_too_long, of_utf8};
 use crate::told::{Reason, Told, tell};
 use mm_catalog::Catalog;
-use mm_lang::{Line, parse_statement, parse_statement_or_stop};
+use mm_lang::{Line, ParseRefusal, parse_statement, parse_statement_or_stop};
 use mm_resolver::statement_culprit;
 use mm_session::{Judged, LONGEST_LINE, judge_line};
 use no_memory::NoMemory;
@@ -15,9 +15,13 @@ use plain_statements::{Slot, SlotCond, SlotSetting, Statement};
 use plain_tables::{Refusal, Value};
 use std::alloc::Global;
 
-// The statement that a line spells, once more.
-fn statement_of(alloc: Global, line: &Line<'_>) -> Result<Statement, NoMemory> {
-    parse_statement(alloc, line).map_err(|_| NoMemory)
+// The statement that a line spells, if it spells one.
+fn statement_of(alloc: Global, line: &Line<'_>) -> Result<Option<Statement>, Refusal> {
+    match parse_statement(alloc, line) {
+        Ok(statement) => Ok(Some(statement)),
+        Err(ParseRefusal::Syntax) => Ok(None),
+        Err(ParseRefusal::NoMemory) => Err(Refusal::NoMemory),
+    }
 }
 
 // Why a line spells no statement, or one that is refused so whatever its values are.
@@ -26,7 +30,9 @@ fn of_statement(alloc: Global, catalog: &Catalog, line: &Line<'_>, refusal: Refu
         Ok(statement) => statement,
         Err(stopped) => return of_stop(alloc, line.as_str(), stopped, refusal),
     };
-    let again = statement_of(alloc, line)?;
+    let Some(again) = statement_of(alloc, line)? else {
+        return Ok(None);
+    };
     let Some(culprit) = statement_culprit(catalog, again, refusal)? else {
         return Ok(None);
     };
@@ -53,8 +59,12 @@ fn of_values(
     refusal: Refusal,
 ) -> Reason {
     let filling = Filling::of(alloc, values);
-    let command = filling.command(statement_of(alloc, line)?)?;
-    let again = filling.command(statement_of(alloc, line)?)?;
+    let (Some(statement), Some(again)) = (statement_of(alloc, line)?, statement_of(alloc, line)?)
+    else {
+        return Ok(None);
+    };
+    let command = filling.command(statement)?;
+    let again = filling.command(again)?;
     of_command(alloc, catalog, &command, again, &[], refusal)
 }
 
@@ -91,19 +101,22 @@ fn slot_at(statement: &Statement, number: usize) -> Option<&Slot> {
 }
 
 // The words of a reason, and the column of the question mark of the value that they are about, where it has one.
-fn pointed(alloc: Global, line: &Line<'_>, told: Told) -> Result<String, NoMemory> {
+fn pointed(alloc: Global, line: &Line<'_>, told: Told) -> Result<String, Refusal> {
     let Told { words, value } = told;
     let Some(number) = value else {
         return Ok(words);
     };
-    let statement = statement_of(alloc, line)?;
+    let Some(statement) = statement_of(alloc, line)? else {
+        return Ok(words);
+    };
     let Some(Slot::Hole(hole)) = slot_at(&statement, number) else {
         return Ok(words);
     };
-    match column_of_hole(line.as_str(), *hole) {
-        Some(column) => Ok(format!(in alloc; "column {column}: {words}")?),
-        None => Ok(words),
-    }
+    let Some(column) = column_of_hole(line.as_str(), *hole) else {
+        return Ok(words);
+    };
+    let pointed = format!(in alloc; "column {column}: {words}");
+    Ok(pointed.map_err(NoMemory::from)?)
 }
 
 // Why a line is kept as no statement.
@@ -123,13 +136,13 @@ fn of_line(alloc: Global, catalog: &Catalog, line: &[u8], refusal: Refusal) -> R
 }
 
 /// Why a line was refused so when it was to be kept as a statement, in words, if that can be told. It is asked of the tables as
-/// they were then.
+/// they were then. The error is 90, where a growth was refused.
 pub fn prepare_reason(
     alloc: Global,
     catalog: &Catalog,
     line: &[u8],
     refusal: Refusal,
-) -> Result<Option<String>, NoMemory> {
+) -> Result<Option<String>, Refusal> {
     let told = if refusal == Refusal::NoMemory {
         of_no_memory(alloc)?
     } else {
@@ -143,14 +156,14 @@ pub fn prepare_reason(
 
 /// Why the statement that a line spells was refused so with these values for its question marks, in words, if that can be told. Where
 /// one of these values is to blame, the words begin with the column of its question mark. It is asked of the tables as they were
-/// when the statement was refused.
+/// when the statement was refused. The error is 90, where a growth was refused.
 pub fn statement_reason(
     alloc: Global,
     catalog: &Catalog,
     line: &str,
     values: &[Value],
     refusal: Refusal,
-) -> Result<Option<String>, NoMemory> {
+) -> Result<Option<String>, Refusal> {
     let Some(Judged::Text(line)) = judge_line(line.as_bytes()) else {
         return Ok(None);
     };

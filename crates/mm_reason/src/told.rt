@@ -1,6 +1,7 @@
 //! What a search for a reason gives.
 
 use no_memory::NoMemory;
+use plain_tables::Refusal;
 use std::alloc::AllocError;
 
 /// The words of a reason.
@@ -24,12 +25,12 @@ impl Told {
     }
 }
 
-/// The words of a reason, where it can be told.
-pub type Reason = Result<Option<Told>, NoMemory>;
+/// The words of a reason, where it can be told. The error is 90, where a growth was refused.
+pub type Reason = Result<Option<Told>, Refusal>;
 
 /// The reason of these words.
 pub fn tell(words: Result<String, AllocError>) -> Reason {
-    Ok(Some(Told::of(words?)))
+    Ok(Some(Told::of(words.map_err(NoMemory::from)?)))
 }
 
 /// The reason, which is about the value of a number.
