@@ -112,8 +112,10 @@ typedef enum mmdb_status {
     MMDB_NO_SUCH_STATEMENT = 9,  /* the number names no statement, or one that was finalised */
     MMDB_NO_SUCH_PLACE = 10,     /* the statement has no place of that number */
     MMDB_NOT_UTF8 = 11,          /* mmdb_bind_text of bytes that are not UTF-8 */
-    MMDB_REFUSED = 12            /* mmdb_prepare, mmdb_execute, mmdb_columns, mmdb_query: refused. mmdb_answer and
+    MMDB_REFUSED = 12,           /* mmdb_prepare, mmdb_execute, mmdb_columns, mmdb_query: refused. mmdb_answer and
                                     mmdb_refusal tell why, as `error 41 key exists` and a line feed; nothing changed */
+    MMDB_TOO_LARGE = 13          /* mmdb_execute, mmdb_columns, mmdb_query: the texts of the rows are more than 4 GiB
+                                    together; mmdb_prepare: the database has 4294967296 statements. Nothing changed */
 } mmdb_status;
 
 /* How plans are chosen. No policy changes an answer, only what it costs. MMDB_AUTO is the one to take. */
@@ -153,7 +155,8 @@ uint32_t mmdb_load(mmdb *db, const void *line, size_t length, const void *block,
    Gives MMDB_DONE and the statement, whose places have nulls. Or gives MMDB_NOT_OPEN, MMDB_NO_LINE or MMDB_NO_MEMORY;
    or MMDB_REFUSED, in this order: by 10 where the line is too long, by 11 where it is not UTF-8, by 20 where it spells
    no statement, as with a line feed in it, blanks, comments and all other commands, or by what the names and the given
-   values are refused by (30, 32, 33, 34, 35, 45). Then there is no statement. */
+   values are refused by (30, 32, 33, 34, 35, 45). Or gives MMDB_TOO_LARGE where there are 4294967296 statements. Then
+   there is no statement. */
 uint32_t mmdb_prepare(mmdb *db, const void *line, size_t length, mmdb_statement *statement);
 
 /* Puts a value into a place of a statement, by their numbers. It stays until another is bound there, also while the
@@ -169,14 +172,16 @@ uint32_t mmdb_bind_null(mmdb *db, uint32_t statement, uint32_t place);
 /* Does what the command with the bound values does.
    Gives MMDB_DONE: and of a select its rows, which are good until this statement is executed again or finalised, or the
    handle is closed; of the others `changed`, and no rows. Or gives MMDB_REFUSED as the line with these values would be,
-   in the same order, and by 90 where no memory is found; or MMDB_NOT_OPEN or MMDB_NO_SUCH_STATEMENT. */
+   in the same order, and by 90 when out of memory; MMDB_TOO_LARGE where the texts of its rows are more than 4 GiB
+   together; or MMDB_NOT_OPEN or MMDB_NO_SUCH_STATEMENT. */
 uint32_t mmdb_execute(mmdb *db, uint32_t statement, mmdb_rows *rows);
 
 /* The columns that the rows of a select have, whatever values are bound: a row for each, of two cells, its name as T.c
    and its kind, which is the integer MMDB_INTEGER or MMDB_TEXT. Another statement has no columns. They are good until
    the next call on this handle.
    Gives MMDB_DONE and the columns; or MMDB_REFUSED where mmdb_prepare of the line would be refused now, as by 30 once
-   its table is dropped, or by 90 when out of memory; or MMDB_NOT_OPEN or MMDB_NO_SUCH_STATEMENT. */
+   its table is dropped, or by 90 when out of memory; or MMDB_TOO_LARGE, which a select has no columns for; or
+   MMDB_NOT_OPEN or MMDB_NO_SUCH_STATEMENT. */
 uint32_t mmdb_columns(mmdb *db, uint32_t statement, mmdb_rows *columns);
 
 /* Frees a statement: its rows are good no longer, and its number may be given to another. It needs no memory. The
@@ -189,9 +194,9 @@ uint32_t mmdb_finalize(mmdb *db, uint32_t statement);
    dropped.
    Gives MMDB_DONE: and of a select its rows, which are good until the next mmdb_query on this handle or mmdb_close,
    whatever other calls there are; of the others `changed`, and no rows. Or gives MMDB_NOT_OPEN or MMDB_NO_LINE; or
-   MMDB_REFUSED as mmdb_command would be answered, in the same order, and by 90 where no memory is found. A line feed,
-   a ? in no text, blanks, comments and all other commands are 20, once the line is neither too long (10) nor other
-   than UTF-8 (11). */
+   MMDB_REFUSED as mmdb_command would be answered, in the same order, and by 90 when out of memory. A line feed, a ? in
+   no text, blanks, comments and all other commands are 20, once the line is neither too long (10) nor other than UTF-8
+   (11). Or gives MMDB_TOO_LARGE where the texts of the rows are more than 4 GiB together. */
 uint32_t mmdb_query(mmdb *db, const void *line, size_t length, mmdb_rows *rows);
 
 /* Takes the next bytes of a stream of lines and blocks, cut wherever it may be, and answers each request that ends in
@@ -294,6 +299,8 @@ static inline const char *mmdb_status_text(uint32_t status)
         return "the text is not UTF-8";
     case MMDB_REFUSED:
         return "refused, as the answer tells";
+    case MMDB_TOO_LARGE:
+        return "more than 4 GiB of texts, or 4294967296 statements";
     default:
         return "no such status";
     }

@@ -4,7 +4,7 @@ from __future__ import annotations
 
 from typing import TYPE_CHECKING, Any, Dict, Iterable, List, Mapping, NoReturn, Optional, Sequence, Tuple, Union
 
-from .errors import NoMemory, WrongUse, refusal_of
+from .errors import NoMemory, OperationalError, WrongUse, refusal_of
 from .handles import Handle
 from .indexes import Index, indexes_of
 from .lines import CHANGES, Placed, check_kind, check_line, placed
@@ -25,7 +25,7 @@ Parameters = Union[Sequence[Value], Mapping[str, Value]]
 _TAKEN = {"select": ("select",), "change": CHANGES}
 
 # The statuses of mmdb.h for a call that isn't done.
-_NOT_OPEN, _NOT_ONE_REQUEST, _NO_MEMORY, _NO_SUCH_STATEMENT = 1, 6, 7, 9
+_NOT_OPEN, _NOT_ONE_REQUEST, _NO_MEMORY, _NO_SUCH_STATEMENT, _TOO_LARGE = 1, 6, 7, 9, 13
 
 
 class Database(Handle):
@@ -236,6 +236,8 @@ class Database(Handle):
             raise WrongUse("mmdb: the statement is closed")
         if status == _NOT_ONE_REQUEST:
             raise WrongUse("mmdb: a line has no line feed, and a load has a block as long as it says")
+        if status == _TOO_LARGE:
+            raise OperationalError("mmdb: the texts of the rows are more than 4 GiB, or there are 4294967296 statements")
         raise WrongUse(f"mmdb: the library answers {status}")
 
     # The calls below need their turn held.

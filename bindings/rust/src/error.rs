@@ -118,6 +118,8 @@ pub enum Error {
     },
     /// What the program's own type says, in its [`ToValue`](crate::ToValue), or a closure of it.
     Other(String),
+    /// The texts of the rows that a select gives are more than 4 GiB together, or the database has 4294967296 statements.
+    TooLarge,
     /// The library answered with a status that has no place there.
     Status(u32),
 }
@@ -196,6 +198,10 @@ impl fmt::Display for Error {
             Error::NotASelect => write!(to, "the line to query is no select"),
             Error::NotAChange => write!(to, "the line to execute is a select, a dump or tables"),
             Error::Other(text) => to.write_str(text),
+            Error::TooLarge => write!(
+                to,
+                "the texts of the rows are more than 4 GiB, or there are 4294967296 statements"
+            ),
             Error::Status(status) => write!(to, "the library answers {status}"),
             other => other.fmt_of_values(to),
         }

@@ -198,6 +198,7 @@ fn refusal_of(
             refused(&answer, filled, line.to_string(), reason)
         }
         Declined::NoMemory => Error::no_memory(filled, line.to_string()),
+        Declined::TooLarge => Error::TooLarge,
         Declined::Status(status) => Error::Status(status),
     }
 }

@@ -14,6 +14,7 @@ const NO_LINE: u32 = 5;
 const NOT_ONE_REQUEST: u32 = 6;
 const NO_MEMORY: u32 = 7;
 const REFUSED: u32 = 12;
+const TOO_LARGE: u32 = 13;
 
 /// The `mmdb` of mmdb.h.
 #[repr(C)]
@@ -142,6 +143,8 @@ pub(crate) enum Declined {
     Refused,
     /// There is no memory.
     NoMemory,
+    /// The texts of its rows are more than 4 GiB, or there are too many statements.
+    TooLarge,
     /// The library gave another status.
     Status(u32),
 }
@@ -312,6 +315,7 @@ fn done(status: u32) -> Result<(), Declined> {
         IS_DONE => Ok(()),
         NO_MEMORY => Err(Declined::NoMemory),
         REFUSED => Err(Declined::Refused),
+        TOO_LARGE => Err(Declined::TooLarge),
         status => Err(Declined::Status(status)),
     }
 }

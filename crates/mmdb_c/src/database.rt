@@ -6,7 +6,7 @@ ghost use Rattle.plain_streams.specs.Division.{IsWhole};
 use mm_cells::Cells;
 use mm_reason::{reason, refusal_of};
 use mm_session::{Answer, NotOneRequest, SessionFault};
-use plain_tables::{Limits, NoMemory};
+use plain_tables::{Limits, NoMemory, Refusal};
 use plan_chooser::Policy;
 use std::alloc::Global;
 
@@ -72,7 +72,7 @@ impl Database {
 
     /// Keeps the words that say why the request of a line and a block was refused by the refusal that the answers begin with.
     /// There are none where they begin with none, or where that can't be told.
-    pub fn find_reason(&mut self, alloc: Global, line: &[u8], block: &[u8]) -> Result<(), NoMemory>
+    pub fn find_reason(&mut self, alloc: Global, line: &[u8], block: &[u8]) -> Result<(), Refusal>
         ensures { IsAsBefore self.old self.new }
     {
         self.reason.clear();
@@ -80,7 +80,7 @@ impl Database {
             return Ok(());
         };
         match reason(alloc, self.inner.session().catalog(), line, block, refusal)? {
-            Some(words) => self.reason.push(words.as_bytes()),
+            Some(words) => Ok(self.reason.push(words.as_bytes())?),
             None => Ok(()),
         }
     }

@@ -55,6 +55,8 @@ const NOT_UTF8: u32 = 11;
 
 const REFUSED: u32 = 12;
 
+const TOO_LARGE: u32 = 13;
+
 /// The bytes of an answer.
 #[repr(C)]
 #[derive(Drop)]

@@ -3,6 +3,7 @@
 use crate::database::Database;
 use mm_reason::{prepare_reason, refusal_of, statement_reason};
 use no_memory::NoMemory;
+use plain_tables::Refusal;
 use std::alloc::Global;
 
 /// Why it was not looked for why a statement was refused.
@@ -19,6 +20,18 @@ impl From<NoMemory> for Unexplained {
     ghost from_gives = { λ _ e. e ≡ unexplained.NoMemory };
 
     fn from(_: NoMemory) -> Unexplained {
+        Unexplained::NoMemory
+    }
+}
+
+impl From<Refusal> for Unexplained {
+    ghost use Rattle.std.specs.Prelude.{◌≡◌};
+    ghost use Rattle.mmdb_c.specs.declared.reasons.Unexplained.TheVariants as unexplained;
+
+    ghost from_gives = { λ _ e. e ≡ unexplained.NoMemory };
+
+    // A reason is refused by 90 alone.
+    fn from(_: Refusal) -> Unexplained {
         Unexplained::NoMemory
     }
 }
@@ -42,14 +55,14 @@ impl Database {
 
     /// Keeps the words that say why a line was refused, when it was to be prepared, by the refusal that the answers begin with. There
     /// are none where they begin with none, or where that can't be told.
-    pub fn find_prepare_reason(&mut self, alloc: Global, line: &[u8]) -> Result<(), NoMemory>
+    pub fn find_prepare_reason(&mut self, alloc: Global, line: &[u8]) -> Result<(), Refusal>
         ensures { IsAsBefore self.old self.new }
     {
         let words = match refusal_of(self.answer.as_slice()) {
             Some(refusal) => prepare_reason(alloc, self.inner.session().catalog(), line, refusal)?,
             None => None,
         };
-        self.keep_reason(words)
+        Ok(self.keep_reason(words)?)
     }
 
     /// Keeps the words that say why a statement was refused by the refusal that the answers begin with. There are none where they begin

@@ -13,8 +13,9 @@ use crate::rows::Rows;
 use crate::statements::{Statement, Unexecuted, Unprepared};
 use crate::{
     DONE, NO_LINE, NO_MEMORY, NO_SUCH_PLACE, NO_SUCH_STATEMENT, NOT_OPEN, NOT_UTF8, REFUSED,
+    TOO_LARGE,
 };
-use mm_statements::{Cell, Declined, Executed};
+use mm_statements::{Cell, Declined, Executed, QueryFault};
 use std::alloc::Global;
 
 /// Prepares the statement that a line spells, and tells its number and how many places it has.
@@ -27,11 +28,11 @@ pub extern "C" fn mmdb_prepare(
 ) -> u32
     ensures not_open { (result ≡ NOT_OPEN) ↔ IsNone handle.old.database }
     ensures no_line { (result ≡ NO_LINE) ↔ (IsSome handle.old.database × (line.now ≡ [])) }
-    ensures judged { IsSome handle.old.database × (line.now ≢ []) → (result ≡ DONE) ⊎ ((result ≡ REFUSED) ⊎ (result ≡ NO_MEMORY)) }
+    ensures judged { IsSome handle.old.database × (line.now ≢ []) → (result ≡ DONE) ⊎ ((result ≡ REFUSED) ⊎ ((result ≡ NO_MEMORY) ⊎ (result ≡ TOO_LARGE))) }
     ensures done { result ≡ DONE → Becomes handle.old.database handle.new.database (λ old new. Prepares line.now old new statement.new) }
     ensures refused { result ≡ REFUSED → Becomes handle.old.database handle.new.database (IsUnprepared line.now) }
-    ensures kept { (result ≡ REFUSED) ⊎ (result ≡ NO_MEMORY) → Becomes handle.old.database handle.new.database KeepsAll }
-    ensures no_memory { result ≡ NO_MEMORY → Becomes handle.old.database handle.new.database KeepsEach }
+    ensures kept { (result ≡ REFUSED) ⊎ ((result ≡ NO_MEMORY) ⊎ (result ≡ TOO_LARGE)) → Becomes handle.old.database handle.new.database KeepsAll }
+    ensures no_memory { (result ≡ NO_MEMORY) ⊎ (result ≡ TOO_LARGE) → Becomes handle.old.database handle.new.database KeepsEach }
     ensures unchanged { (result ≡ NOT_OPEN) ⊎ (result ≡ NO_LINE) → handle.new.database ≡ handle.old.database }
     ensures untold { result ≢ DONE → statement.new ≡ statement.old }
 {
@@ -51,6 +52,7 @@ pub extern "C" fn mmdb_prepare(
         }
         Err(Unprepared::Refused) => REFUSED,
         Err(Unprepared::NoMemory) => NO_MEMORY,
+        Err(Unprepared::TooMany) => TOO_LARGE,
     }
 }
 
@@ -168,7 +170,7 @@ pub extern "C" fn mmdb_execute(
     ensures refused { result ≡ REFUSED → Becomes handle.old.database handle.new.database (IsUnexecuted statement) }
     ensures kept { result ≢ DONE → IsSome handle.old.database → Becomes handle.old.database handle.new.database KeepsAll }
     ensures rows { IsSome handle.old.database → Becomes handle.old.database handle.new.database (KeepsOthers statement) }
-    ensures others { IsSome handle.old.database → (result ≡ DONE) ⊎ ((result ≡ NO_SUCH_STATEMENT) ⊎ (result ≡ REFUSED)) }
+    ensures others { IsSome handle.old.database → (result ≡ DONE) ⊎ ((result ≡ NO_SUCH_STATEMENT) ⊎ ((result ≡ REFUSED) ⊎ (result ≡ TOO_LARGE))) }
     ensures unchanged { (result ≡ NOT_OPEN) ⊎ (result ≡ NO_SUCH_STATEMENT) → handle.new.database ≡ handle.old.database }
     ensures untold { result ≢ DONE → rows.new ≡ rows.old }
 {
@@ -181,6 +183,7 @@ pub extern "C" fn mmdb_execute(
         Ok(()) => DONE,
         Err(Unexecuted::NoSuchStatement) => NO_SUCH_STATEMENT,
         Err(Unexecuted::Refused) => REFUSED,
+        Err(Unexecuted::TooLong) => TOO_LARGE,
     }
 }
 
@@ -198,7 +201,7 @@ pub extern "C" fn mmdb_columns(
     ensures refused { result ≡ REFUSED → Becomes handle.old.database handle.new.database (IsUntold statement) }
     ensures kept { IsSome handle.old.database → Becomes handle.old.database handle.new.database KeepsAll }
     ensures rows { IsSome handle.old.database → Becomes handle.old.database handle.new.database KeepsShown }
-    ensures others { IsSome handle.old.database → (result ≡ DONE) ⊎ ((result ≡ NO_SUCH_STATEMENT) ⊎ (result ≡ REFUSED)) }
+    ensures others { IsSome handle.old.database → (result ≡ DONE) ⊎ ((result ≡ NO_SUCH_STATEMENT) ⊎ ((result ≡ REFUSED) ⊎ (result ≡ TOO_LARGE))) }
     ensures unchanged { (result ≡ NOT_OPEN) ⊎ (result ≡ NO_SUCH_STATEMENT) → handle.new.database ≡ handle.old.database }
     ensures untold { result ≢ DONE → columns.new ≡ columns.old }
 {
@@ -214,6 +217,7 @@ pub extern "C" fn mmdb_columns(
         Ok(()) => DONE,
         Err(Unexecuted::NoSuchStatement) => NO_SUCH_STATEMENT,
         Err(Unexecuted::Refused) => REFUSED,
+        Err(Unexecuted::TooLong) => TOO_LARGE,
     }
 }
 
@@ -249,11 +253,11 @@ pub extern "C" fn mmdb_query(
 ) -> u32
     ensures not_open { (result ≡ NOT_OPEN) ↔ IsNone handle.old.database }
     ensures no_line { (result ≡ NO_LINE) ↔ (IsSome handle.old.database × (line.now ≡ [])) }
-    ensures judged { IsSome handle.old.database × (line.now ≢ []) → (result ≡ DONE) ⊎ (result ≡ REFUSED) }
+    ensures judged { IsSome handle.old.database × (line.now ≢ []) → (result ≡ DONE) ⊎ ((result ≡ REFUSED) ⊎ (result ≡ TOO_LARGE)) }
     ensures done { result ≡ DONE → Becomes handle.old.database handle.new.database (λ old new. Queries line.now old new rows.new) }
     ensures refused { result ≡ REFUSED → Becomes handle.old.database handle.new.database (IsUnqueried line.now) }
-    ensures kept { result ≡ REFUSED → Becomes handle.old.database handle.new.database KeepsAll }
-    ensures rows { (result ≡ DONE) ⊎ (result ≡ REFUSED) → Becomes handle.old.database handle.new.database KeepsStatements }
+    ensures kept { (result ≡ REFUSED) ⊎ (result ≡ TOO_LARGE) → Becomes handle.old.database handle.new.database KeepsAll }
+    ensures rows { (result ≡ DONE) ⊎ ((result ≡ REFUSED) ⊎ (result ≡ TOO_LARGE)) → Becomes handle.old.database handle.new.database KeepsStatements }
     ensures unchanged { (result ≡ NOT_OPEN) ⊎ (result ≡ NO_LINE) → handle.new.database ≡ handle.old.database }
     ensures untold { result ≢ DONE → rows.new ≡ rows.old }
 {
@@ -266,5 +270,9 @@ pub extern "C" fn mmdb_query(
     }
     let queried = database.query(alloc, line, rows);
     handle.put(alloc, database);
-    if queried.is_ok() { DONE } else { REFUSED }
+    match queried {
+        Ok(()) => DONE,
+        Err(QueryFault::Refused(_)) => REFUSED,
+        Err(QueryFault::TooLong) => TOO_LARGE,
+    }
 }

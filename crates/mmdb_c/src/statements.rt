@@ -4,13 +4,14 @@ ghost use Rattle.std.specs.Prelude.{◌≡◌, ◌≢◌, ◌+◌, ◌<◌, ◌�
 ghost use Rattle.mm_cells.specs.declared.cells.Cells.{Cells as PlainCells};
 ghost use Rattle.mm_prepared.specs.Cells.{IsSmall, cell_value};
 ghost use Rattle.mm_prepared.specs.declared.declined.Declined.TheVariants as declined;
+ghost use Rattle.mm_statements.specs.declared.faults.QueryFault.TheVariants as querying;
 ghost use Rattle.mmdb_c.specs.declared.statements.Unprepared.TheVariants as unprepared;
 ghost use Rattle.mmdb_c.specs.declared.statements.Unexecuted.TheVariants as unexecuted;
 
 use crate::database::Database;
 use crate::rows::Rows;
 use mm_cells::Cells;
-use mm_statements::{Cell, Declined, ExecuteFault, PrepareFault};
+use mm_statements::{Cell, Declined, ExecuteFault, PrepareFault, QueryFault};
 use no_memory::NoMemory;
 use plain_tables::Refusal;
 use std::alloc::Global;
@@ -28,6 +29,8 @@ pub struct Statement {
 pub enum Unprepared {
     Refused,
     NoMemory,
+    /// C has no number for the statement, or for its places.
+    TooMany,
 }
 
 /// Why a statement did nothing. Where it was refused, the answer tells why.
@@ -35,6 +38,8 @@ pub enum Unprepared {
 pub enum Unexecuted {
     NoSuchStatement,
     Refused,
+    /// Cells have no numbers for the texts that it shows.
+    TooLong,
 }
 
 // Makes sure of cells for the values that the statement of a number shows.
@@ -53,13 +58,14 @@ impl Database {
     ghost use Rattle.mmdb_c.specs.StatementCalls.{Prepares, IsUnprepared, KeepsAll, KeepsEach, KeepsOthers, KeepsShown, KeepsStatements, IsMissing, IsPast, IsUnbound, Binds, Finalizes, HasTold, Executes, IsUnexecuted, IsUntold, KeepsColumns, Queries, IsUnqueried};
     ghost use Rattle.mm_statements.specs.Executing.{IsDeclined};
 
-    /// Keeps the statement that a line spells; the answer is empty then. Where it is refused, that is the answer, and where there is no
-    /// memory, the answer stays.
+    /// Keeps the statement that a line spells; the answer is empty then. Where it is refused, that is the answer, and at another fault
+    /// the answer stays.
     pub fn prepare(&mut self, alloc: Global, line: &[u8]) -> Result<Statement, Unprepared>
         ensures prepared { IfOk result (Prepares line.now self.old self.new) }
         ensures refused { IsErrOf result unprepared.Refused → IsUnprepared line.now self.old self.new }
         ensures unchanged { OnErr result (KeepsAll self.old self.new) }
         ensures no_memory { IsErrOf result unprepared.NoMemory → KeepsEach self.old self.new }
+        ensures too_many { IsErrOf result unprepared.TooMany → KeepsEach self.old self.new }
     {
         let numbered = match self.inner.prepare(alloc, line) {
             Ok(numbered) => numbered,
@@ -74,7 +80,7 @@ impl Database {
             u32::try_from(numbered.places),
         ) else {
             let _ = self.inner.finalize(numbered.statement);
-            return Err(Unprepared::NoMemory);
+            return Err(Unprepared::TooMany);
         };
         self.answer.clear();
         Ok(Statement { number, places })
@@ -149,6 +155,7 @@ impl Database {
                 self.answer.refuse(why);
                 Err(Unexecuted::Refused)
             }
+            Err(ExecuteFault::TooLong) => Err(Unexecuted::TooLong),
         }
     }
 
@@ -174,14 +181,15 @@ impl Database {
                 self.answer.refuse(why);
                 Err(Unexecuted::Refused)
             }
+            Err(ExecuteFault::TooLong) => Err(Unexecuted::TooLong),
         }
     }
 
     /// Does the insert, the update, the delete or the select that a line spells, and tells what that gave. The values that it shows are
     /// kept; where it is refused, that is the answer, and else the answer is empty.
-    pub fn query(&mut self, alloc: Global, line: &[u8], rows: &mut Rows) -> Result<(), Refusal>
+    pub fn query(&mut self, alloc: Global, line: &[u8], rows: &mut Rows) -> Result<(), QueryFault>
         ensures done { OnOk result (Queries line.now self.old self.new rows.new) }
-        ensures refused { OnErr result (IsUnqueried line.now self.old self.new) }
+        ensures refused { IfErr result (λ e. e ≢ querying.TooLong → IsUnqueried line.now self.old self.new) }
         ensures unchanged { OnErr result (KeepsAll self.old self.new) }
         ensures statements { KeepsStatements self.old self.new }
         ensures untold { OnErr result (rows.new ≡ rows.old) }
@@ -192,10 +200,11 @@ impl Database {
                 rows.tell(given, &self.queried);
                 Ok(())
             }
-            Err(why) => {
+            Err(QueryFault::Refused(why)) => {
                 self.answer.refuse(why);
-                Err(why)
+                Err(QueryFault::Refused(why))
             }
+            Err(QueryFault::TooLong) => Err(QueryFault::TooLong),
         }
     }
 }

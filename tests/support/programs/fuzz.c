@@ -36,7 +36,7 @@ typedef struct bytes {
 
 static handle handles[HANDLES];
 static uint64_t state;
-static uint64_t statuses[MMDB_REFUSED + 1];
+static uint64_t statuses[MMDB_TOO_LARGE + 1];
 
 static uint64_t drawn(uint64_t below)
 {
@@ -196,11 +196,11 @@ static uint32_t only(mmdb_status status)
 
 static int is_within(mmdb_status status, uint32_t allowed, const char *call)
 {
-    const int is = status <= MMDB_REFUSED && (allowed >> status & 1) != 0;
+    const int is = status <= MMDB_TOO_LARGE && (allowed >> status & 1) != 0;
     if (!is)
         fprintf(stderr, "%s gives %u\n", call, (unsigned)status);
     checks_failed += !is;
-    statuses[status <= MMDB_REFUSED ? status : 0]++;
+    statuses[status <= MMDB_TOO_LARGE ? status : 0]++;
     return is;
 }
 
@@ -511,7 +511,7 @@ int main(int count, char **words)
         call();
     for (size_t i = 0; i < HANDLES; i++)
         closes(&handles[i]);
-    for (size_t i = 0; i <= MMDB_REFUSED; i++)
+    for (size_t i = 0; i <= MMDB_TOO_LARGE; i++)
         printf("%s: %" PRIu64 "\n", mmdb_status_text((uint32_t)i), statuses[i]);
     return checks_failed != 0;
 }
