@@ -154,16 +154,16 @@ fn spelled(alloc: Global, line: &str) -> Result<String, ParseRefusal> {
 }
 
 // Whether that is the canonical spelling, or the line spells no command where it is empty.
-fn spells(alloc: Global, line: &str, canonical: &str) -> Result<bool, NoMemory> {
+fn spells(alloc: Global, line: &str, canonical: &str) -> Result<bool, ParseRefusal> {
     match spelled(alloc, line) {
         Ok(text) => Ok(text.as_str() == canonical),
         Err(ParseRefusal::Syntax) => Ok(canonical.is_empty()),
-        Err(ParseRefusal::NoMemory) => Err(NoMemory),
+        Err(refused) => Err(refused),
     }
 }
 
 // The first line that isn't read as told, or whose canonical spelling isn't.
-fn first_misread(alloc: Global) -> Result<Option<&'static str>, NoMemory> {
+fn first_misread(alloc: Global) -> Result<Option<&'static str>, ParseRefusal> {
     for (line, canonical) in SPELLINGS {
         if !spells(alloc, *line, *canonical)? || !spells(alloc, *canonical, *canonical)? {
             return Ok(Some(*line));

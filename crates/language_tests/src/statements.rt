@@ -89,16 +89,16 @@ fn read(alloc: Global, line: &str) -> Result<String, ParseRefusal> {
 }
 
 // Whether these stand there in the statement of the line, or it spells none where nothing is told.
-fn is_read_as(alloc: Global, line: &str, slots: &str) -> Result<bool, NoMemory> {
+fn is_read_as(alloc: Global, line: &str, slots: &str) -> Result<bool, ParseRefusal> {
     match read(alloc, line) {
         Ok(text) => Ok(text.as_str() == slots),
         Err(ParseRefusal::Syntax) => Ok(slots.is_empty()),
-        Err(ParseRefusal::NoMemory) => Err(NoMemory),
+        Err(refused) => Err(refused),
     }
 }
 
 // The first line that isn't read as told.
-fn first_misread(alloc: Global) -> Result<Option<&'static str>, NoMemory> {
+fn first_misread(alloc: Global) -> Result<Option<&'static str>, ParseRefusal> {
     for (line, slots) in STATEMENTS {
         if !is_read_as(alloc, *line, *slots)? {
             return Ok(Some(*line));
