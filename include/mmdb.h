@@ -11,19 +11,18 @@
    address. The calls on one handle come one after another; each thread may have handles of its own, which share
    nothing. Nothing here is to be called from a signal handler.
 
-   Nothing is kept on disk, and no call reads or writes a file or a socket. No call ends the process: want of memory
-   is answered, by MMDB_NO_MEMORY or by `error 90`. What a handle holds is given back by mmdb_close, and by nothing
-   else.
+   Nothing is kept on disk, and no call reads or writes a file or a socket. No call ends the process: one that runs out
+   of memory gives MMDB_NO_MEMORY or `error 90`. Only mmdb_close frees what a handle holds.
 
    Bytes go in by a pointer and a length. They need no zero byte behind them, are read during the call alone, and stay
    the caller's. They are not what the same handle answered: to give that back to it, copy it first. None of the
    pointers of a call points into what another of them points to.
 
-   A null pointer means the same wherever it stands: a null handle is a closed one; null with the length 0 is no
-   bytes; null in the place of an answer, of a statement or of rows says that these aren't wanted. Null with any other
-   length is MMDB_NO_LINE.
+   A null pointer means the same everywhere. A null handle is a closed one, and null with the length 0 is no bytes.
+   Null in the place of an answer, of a statement or of rows says that these aren't wanted. Null with any other length
+   is MMDB_NO_LINE.
 
-   What is done more than once, or with values that come from elsewhere, is best done by a statement: it is prepared
+   What is done more than once, or with values that come from elsewhere, is best done by a statement. It is prepared
    once, its values are bound and not written into a line, and its rows are cells and not text to be read. The rows of a
    line that is done once are cells too, where mmdb_query does it.
 

@@ -1,9 +1,8 @@
 //! The index: a table of buckets, and how many inserts have their nodes.
 //!
-//! It counts the entries, so that the table knows when to split and when to fold, and sees to it that an insert finds its
-//! memory there: the room is the lesser of the nodes that were made sure of beyond those in use, and of the entries that
-//! come to two a head, less those held. Where an entry stands is the table's matter. A new index has no table, and takes
-//! one with its first `reserve`.
+//! It counts the entries, so that the table knows when to split and when to fold, and it makes sure that an insert has its
+//! memory. The room is the lesser of two numbers: the spare nodes, and two entries a head less those held. The table alone
+//! knows where an entry is. A new index has no table, and makes one in its first `reserve`.
 ghost use Rattle.std.specs.Prelude.{◌≡◌, ◌+◌, ◌*◌, ◌^◌, ◌-◌, ◌<◌, ◌≤◌, [], ◌∷◌, length, max, Contains, OnOk};
 ghost use Rattle.mm_index.specs.Bag.{IsSameBag, with_hash};
 ghost use Rattle.lin_hash.specs.Held.{StaysOrDoubles, table_entries, table_nodes, table_heads, table_listed, table_buckets};

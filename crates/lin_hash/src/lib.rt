@@ -8,9 +8,9 @@
 //! compares the keys. It computes no hash, and promises nothing of a chain's length or order.
 //!
 //! What always holds:
-//! - each entry stands in the bucket of its hash, by the level and the mark (`table`);
-//! - there are at least four buckets, and at most twice as many entries as buckets (`index`);
-//! - each node stands in one bucket once (`chains`), and the nodes fill the places of their blocks from the first on (`nodes`, `blocks`).
+//! - Each entry stands in the bucket of its hash, by the level and the mark (`table`).
+//! - There are at least four buckets, and at most twice as many entries as buckets (`index`).
+//! - Each node stands in one bucket once (`chains`), and the nodes fill the places of their blocks from the first on (`nodes`, `blocks`).
 #![tactic(auto)]
 
 mod address;

@@ -5,9 +5,9 @@
 //!            load: a CSV file as a request                              └──▶ watched: request by request, by follower
 //! ```
 //!
-//! It doesn't care what a request is answered: sessions say that. It promises that what sources have is read in their order,
-//! with a line feed between two where one is missing, and that a stream which is watched is answered as any other, up to the
-//! first refusal at which the watcher stops it.
+//! It doesn't care what a request is answered: sessions say that. It promises that sources are read in their order, with a
+//! line feed between two where one is missing. A stream that is watched is answered as any other, up to the first refusal at
+//! which the watcher stops it.
 //!
 //! - A file is opened when the stream reaches it, and closed at its end.
 //! - A CSV file is a load, whose line has the number of its bytes.

@@ -1,9 +1,9 @@
 //! Indexes that hold references and no keys: the traits behind which a table keeps its indexes, and a plain form of each.
 //!
 //! An index reads no tuple. Whatever compares tuples, an order or a probe, is handed in with the call that needs it, and a
-//! hash is a number that the caller made. So an index doesn't care what a key is, whether two rows have the same, in
-//! which store its references lead, nor when a tuple changes: its caller takes a reference out by the order before a
-//! change, and puts it in by the order after.
+//! hash is a number that the caller made. So an index doesn't care what a key is, whether two rows have the same, or into
+//! which store its references lead. When a tuple changes, the caller takes its reference out by the order before the change,
+//! and puts it in by the order after.
 //!
 //! - An ordered index is a list of references that rises by the order handed in; a hash index is a bag of pairs of a hash
 //!   and a reference. That is all that contracts see of one, beside its room.

@@ -6,13 +6,13 @@
 //!  or under a hash
 //! ```
 //!
-//! It does not care what its table is called, which command changes it, nor whether its links are held where they lead: it
+//! It does not care what its table is called, which command changes it, or whether its links are held where they lead. It
 //! reads other tables through one map from references to keys, and says what it needs of that map.
 //!
 //! - No two rows have one key, and the key's tree has each row once, in the order of the keys.
 //! - Under the keys that links lead to, each declared tree has each row once in its column's order, and each declared hash
 //!   each row under the hash of its value. A call asks this and ensures it again.
-//! - What finds no memory finds none before the first change.
+//! - A call that runs out of memory does so before the first change.
 //! - Once a row was taken out, no tree has more spare nodes than nodes in use, but for a few.
 #![tactic(auto)]
 

@@ -1,7 +1,7 @@
 //! The program mmdb: a database in memory, which answers the command lines of files or of standard input on standard output.
 //!
-//! It ends with status 0 where all was answered, 1 where a read failed, 2 where its words were wrong, 3 where a
-//! write failed, 4 where there was no memory to begin, and 5 where a refusal was to be the last answer.
+//! Its exit status is 0 if all was answered. It is 1 after a failed read, 2 for wrong words, 3 after a failed write, 4 if
+//! there was no memory to begin, and 5 if a refusal was to be the last answer.
 #![tactic(auto)]
 
 mod told;

@@ -1,4 +1,5 @@
 -- What the walks over a block of slots share. Assumes `Logic`.
+--
 --     slot_out, slot_in        one slot leaves the row of slots, and another stands in its place
 --     tuple_out, tuple_in      the tuple of a slot as a machine value, and back
 --     of_room, to_room         room for an array is a row of empty slots

@@ -1,7 +1,7 @@
 //! The memory of a partition: slots side by side in one block. Every pointer of the crate is read and written here, and
 //! each function is a line or two, with a proof that follows its machine steps. To the rest of the crate the memory is
-//! a list that has, for each slot, a tuple or nothing: no call reads an empty slot, writes over a tuple, or gives back
-//! a block that holds one or is another's.
+//! a list that has, for each slot, a tuple or nothing. No call reads an empty slot, writes over a tuple, or frees a block
+//! that holds one or is another's.
 ghost use Rattle.std.specs.Prelude.{◌≡◌, ℕ, ◌<◌, List, [], Option, None, Some, length, replicate, map, slice_index_or, slice_set, IfOk, IsSome};
 ghost use Rattle.std.specs.Vec.Ownership.{FitsInBlock};
 ghost use base.Fml.{ftrue};

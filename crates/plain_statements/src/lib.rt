@@ -6,9 +6,9 @@
 //! ```
 //!
 //! A statement with values does and answers just what the command does that has these values in the place of the holes
-//! (`specs/Executing.antt`), and the line that it is spelled by is a line of that command once literals are written for its
-//! question marks (`specs/StatementSpelling.antt`). Nothing here says how a line is read or how a statement is resolved: those
-//! are the contracts of the crates above, which are stated by these words.
+//! (`specs/Executing.antt`). The line that spells it is a line of that command once literals are written for its question marks
+//! (`specs/StatementSpelling.antt`). Nothing here says how a line is read or how a statement is resolved: the contracts of the
+//! crates above say it, in these words.
 #![tactic(auto)]
 
 pub mod laws;

@@ -1,5 +1,5 @@
--- Laws of what is written: that each condition, and each join, is judged at the places that its names mean, that each value is set at the
--- column that its name means, and that each item shows what its name means. They hold of any tables, sound or not.
+-- Laws of what is written. Each condition, and each join, is judged at the places that its names mean. Each value is set at the column
+-- that its name means, and each item shows what its name means. They hold of any tables, sound or not.
 use Rattle.std.specs.Prelude.{◌≡◌, ℕ, ◌<◌, List, [], ◌∷◌, Bool, false, ◌&&◌, length, map, Ok, Some, slice_get, ◌⊎◌}
 use Rattle.std.specs.List.{All, filter, filter_map, list_all, enumerate_from}
 use Rattle.std.specs.Option.{option_map_or, option_zip}

@@ -1,8 +1,8 @@
 //! How often a join asks for a relation.
 //!
-//! No contract counts what a join compares. But each value that is read through a link asks for a relation, so a join of
-//! a thousand rows with a thousand that compares every pair asks a million times, and one that takes an index, a hash or
-//! the links themselves asks far less often.
+//! No contract counts what a join compares. But each value that is read through a link asks for a relation. A join of a
+//! thousand rows with a thousand that compares every pair asks a million times. One that takes an index, a hash or the links
+//! themselves asks far less often.
 ghost use Rattle.query_tests.specs.Linked.{AreJoinable};
 
 use crate::linked::{Link, find_link};

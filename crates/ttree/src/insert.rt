@@ -1,5 +1,5 @@
 //! The steps of an insert. The search ends at an item in the range, and nothing changes, or in a gap, where the new item
-//! goes in: into the node, or as a leaf below it, or in place of the node's least item, which goes before it.
+//! goes in. It goes into the node, or becomes a leaf below it, or takes the place of the node's least item, which goes before it.
 ghost use Rattle.std.specs.Prelude.{◌≡◌, ◌≢◌, ◌+◌, ◌++◌, ◌^◌, ◌<◌, ◌≤◌, true, false, length, IfSome, IfNone, All, Contains};
 ghost use Rattle.std.specs.declared.cmp.Ordering.{Ordering};
 ghost use Rattle.mm_index.specs.Asking.{counted};
