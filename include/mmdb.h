@@ -251,7 +251,7 @@ uint32_t mmdb_prepare_reason(mmdb *db, const void *line, size_t length, mmdb_byt
    where none was found for the words. */
 uint32_t mmdb_statement_reason(mmdb *db, uint32_t statement, mmdb_bytes *reason);
 
-/* Closes a handle and gives back all that it holds; its answers are good no longer. It is MMDB_CLOSED then, and may be
+/* Closes a handle and frees all that it holds; its answers are no longer valid. It is MMDB_CLOSED then, and may be
    opened again. Of a closed handle and of null nothing is done. */
 void mmdb_close(mmdb *db);
 

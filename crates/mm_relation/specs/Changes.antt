@@ -40,7 +40,7 @@ pub record IsChanged (old new : RelationState) (rs : List TupleRef) (sets : List
   pub referrers : new.referrers ≡ old.referrers
   pub keeps : KeepsSchema old new
 
--- KeyExists where the key is there, then Full where the relation is full, want of memory aside
+-- KeyExists where the key is there, then Full where the relation is full, running out of memory aside
 abbrev pub IsToldRightly : RelationState → Value → Result TupleRef RowRefusal → Type 0
 IsToldRightly s key (Ok r) = (HasKey s.rows key → ⊥) × (finite.len s.rows < 16777216)
 IsToldRightly s key (Err KeyExists) = HasKey s.rows key

@@ -1,4 +1,4 @@
--- What a delete is refused for: never for want of memory.
+-- What a delete is refused for: never because memory ran out.
 use Rattle.std.proofs.Common.{◌≡◌, ◌≢◌, Bool, true, false, Option, Some, None, cond, length}
 use Rattle.std.specs.List.{list_any, slice_get}
 use Rattle.std.specs.Option.{option_map_or}

@@ -10,7 +10,7 @@ use Rattle.mm_statements.specs.declared.faults.PrepareFault.TheVariants as fault
 use Rattle.mm_statements.specs.declared.faults.QueryFault.{QueryFault}
 use Rattle.mm_statements.specs.declared.faults.QueryFault.TheVariants as querying
 
--- want of memory has a variant of its own
+-- running out of memory has a variant of its own
 abbrev pub fault_of : Refusal → PrepareFault
 fault_of refusal.NoMemory = fault.NoMemory
 fault_of why = fault.Refused why

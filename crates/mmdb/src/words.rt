@@ -155,7 +155,7 @@ fn origins<'a>(rt: &HostRuntime, matches: &ArgMatches<'a>) -> Result<Vec<Origin<
     Ok(origins)
 }
 
-/// What the words ask for. An error is a wrong word, a wish for help or the version, or want of memory.
+/// What the words ask for. An error is a wrong word, a request for help or the version, or running out of memory.
 pub fn read_words<'a>(rt: &HostRuntime, words: &'a [String]) -> Result<Wish<'a>, Error> {
     let matches = command(rt)?.try_get_matches_from(words)?;
     Ok(Wish {

@@ -48,7 +48,7 @@ ends_its_own zero (RollsBack ∷ steps) = false
 ends_its_own (suc open_ones) (Commits ∷ steps) = ends_its_own open_ones steps
 ends_its_own (suc open_ones) (RollsBack ∷ steps) = ends_its_own open_ones steps
 
--- Whatever is done in a transaction, other transactions among it, a rollback gives back what there was.
+-- Whatever is done in a transaction, other transactions among it, a rollback restores what there was.
 abbrev pub RollbacksRestore : Type 0
 RollbacksRestore = (t : Transactional) (steps : List Step) → IsTrue (ends_its_own 0 steps) → rolled_back (after steps (begun t)) ≡ t
 

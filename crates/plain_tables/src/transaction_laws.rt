@@ -2,7 +2,7 @@
 
 ghost use Rattle.plain_tables.specs.Transactions.{CommitsKeep, RollbacksRestore};
 
-/// Whatever commands are done in a transaction, and whatever transactions begin and end in it, a rollback gives back the database
+/// Whatever commands are done in a transaction, and whatever transactions begin and end in it, a rollback restores the database
 /// that it began with, and leaves the transactions around it as they were.
 pub fn rollbacks_restore()
     ensures { RollbacksRestore }
