@@ -70,7 +70,7 @@ fn why_named(
     catalog: &Catalog,
     named: &str,
     r: TupleRef,
-) -> Result<String, NoMemory> {
+) -> Result<String, Refusal> {
     for number in 0..catalog.table_count() {
         if let Some(table) = table_at(catalog, TableNumber(number)) {
             if let Some(told) = why_named_by(alloc, &table, named, r)? {
@@ -78,7 +78,8 @@ fn why_named(
             }
         }
     }
-    Ok(format!(in alloc; "a row of another table")?)
+    let words = format!(in alloc; "a row of another table");
+    Ok(words.map_err(NoMemory::from)?)
 }
 
 // That this row of a table stays, since another names it.
