@@ -1,22 +1,26 @@
-"""Tables in boxes: by rich or tabulate where they are installed, and else drawn here."""
+"""Tables of cells, in boxes and in columns, whose wide cells are folded to the width of a terminal."""
 
 from __future__ import annotations
 
 import unicodedata
 from functools import lru_cache
-from importlib import import_module
-from typing import Any, Callable, Iterator, List, NamedTuple, Optional, TextIO
+from itertools import chain, islice, zip_longest
+from typing import Iterable, Iterator, List, NamedTuple, Optional, Sequence
 
-# How many rows at most go to rich, which looks at all of them several times.
-_MOST_FOR_RICH = 1000
+from . import terminals
+
+# How many rows are looked at before the first is drawn, where wider cells below can be folded.
+_LOOKED_AT = 1000
+# A column is made no narrower than this, even where the terminal is.
+_NARROWEST = 3
 
 
 class Cells(NamedTuple):
     """What stands in a table: its names, its rows, and which columns have numbers."""
 
-    names: List[str]
-    rows: List[List[str]]
-    numbers: List[bool]
+    names: Sequence[str]
+    rows: Iterable[List[str]]
+    numbers: Sequence[bool]
 
 
 class Marks(NamedTuple):
@@ -28,11 +32,26 @@ class Marks(NamedTuple):
     beside: str
 
 
-_LINES = Marks("┌─┬┐", "├─┼┤", "└─┴┘", "│")
-_PLAIN = Marks("+-++", "+-++", "+-++", "|")
+class Look(NamedTuple):
+    """How rows are shown: with which marks, whether folded to the width of a terminal, and as rows of which table,
+    where one was named."""
 
-#: A way to draw a table.
-Box = Callable[[Cells], Iterator[str]]
+    marks: Marks
+    is_folded: bool
+    table: str = ""
+
+
+LINES = Marks("┌─┬┐", "├─┼┤", "└─┴┘", "│")
+PLAIN = Marks("+-++", "+-++", "+-++", "|")
+
+
+def look(encoding: Optional[str], is_folded: bool = False) -> Look:
+    """How tables are drawn in an encoding."""
+    try:
+        "".join(LINES).encode(encoding or "ascii")
+    except (UnicodeEncodeError, LookupError):
+        return Look(PLAIN, is_folded)
+    return Look(LINES, is_folded)
 
 
 @lru_cache(maxsize=4096)
@@ -47,82 +66,96 @@ def width(text: str) -> int:
     return len(text) if text.isascii() else sum(map(_width_of, text))
 
 
-def _padded(text: str, places: int, to_the_right: bool) -> str:
-    room = " " * (places - width(text))
-    return room + text if to_the_right else text + room
+def folded(text: str, places: int) -> Iterator[str]:
+    """A text in pieces of at most so many places. It is cut at a blank where there is one in the latter half."""
+    while width(text) > places:
+        at = _fitting(text, places)
+        blank = text.rfind(" ", at // 2, at + 1)
+        if blank > 0:
+            yield text[:blank]
+            text = text[blank + 1 :]
+        else:
+            yield text[:at]
+            text = text[at:]
+        if not text:
+            return
+    yield text
 
 
-def drawn(cells: Cells, marks: Marks) -> Iterator[str]:
-    """The lines of a box that is as wide as its widest cells."""
-    columns = zip(cells.names, *cells.rows)
-    widths = [max(map(width, column)) for column in columns]
-    beside = marks.beside
+def _fitting(text: str, places: int) -> int:
+    """How many characters of a text have room, at least one."""
+    taken = 0
+    for at, character in enumerate(text):
+        taken += _width_of(character)
+        if taken > places:
+            return max(at, 1)
+    return len(text)
+
+
+def box(cells: Cells, drawn: Look) -> Iterator[str]:
+    """A table in a box."""
+    marks = drawn.marks
+    layout = _Layout(cells, drawn.is_folded, len(cells.names) * 3 + 1)
 
     def line(left: str, along: str, between: str, right: str) -> str:
-        return left + between.join(along * (places + 2) for places in widths) + right + "\n"
+        return left + between.join(along * (places + 2) for places in layout.widths) + right + "\n"
 
-    def record(row: List[str]) -> str:
-        padded = (f" {_padded(*of_cell)} " for of_cell in zip(row, widths, cells.numbers))
-        return beside + beside.join(padded) + beside + "\n"
+    def record(row: Sequence[str]) -> str:
+        lines = (f" {marks.beside} ".join(padded) for padded in layout.padded(row))
+        return "".join(f"{marks.beside} {padded} {marks.beside}\n" for padded in lines)
 
     yield line(*marks.top)
     yield record(cells.names)
     yield line(*marks.middle)
-    yield from map(record, cells.rows)
+    yield from map(record, layout.rows)
     yield line(*marks.bottom)
 
 
-def plain_box(encoding: Optional[str]) -> Box:
-    """The way to draw a box here, with the marks that the encoding has."""
-    try:
-        "".join(_LINES).encode(encoding or "ascii")
-    except (UnicodeEncodeError, LookupError):
-        return lambda cells: drawn(cells, _PLAIN)
-    return lambda cells: drawn(cells, _LINES)
+def columns(cells: Cells, drawn: Look) -> Iterator[str]:
+    """A table without a box: a line of dashes stands below the names."""
+    layout = _Layout(cells, drawn.is_folded, len(cells.names) * 2 - 2)
+
+    def record(row: Sequence[str]) -> str:
+        return "".join("  ".join(padded).rstrip(" ") + "\n" for padded in layout.padded(row))
+
+    yield record(cells.names)
+    yield "  ".join("-" * places for places in layout.widths) + "\n"
+    yield from map(record, layout.rows)
 
 
-def best_box(out: TextIO) -> Box:
-    """The best way to draw a box on a terminal."""
-    plain = plain_box(out.encoding)
-    return _rich_box(out, plain) or _tabulate_box() or plain
+class _Layout:
+    """How wide the columns of a table are, and its rows."""
 
+    def __init__(self, cells: Cells, is_folded: bool, beside: int) -> None:
+        rows = iter(cells.rows)
+        first = list(islice(rows, _LOOKED_AT) if is_folded else rows)
+        self.widths = [max(map(width, column), default=0) for column in zip(cells.names, *first)]
+        self.rows = chain(first, rows)
+        self._numbers = cells.numbers
+        self._is_folded = is_folded
+        if is_folded:
+            self.widths = _narrowed(self.widths, terminals.size()[0] - beside)
 
-def _rich_box(out: TextIO, plain: Box) -> Optional[Box]:
-    """By rich, which folds long texts so that a table isn't wider than the terminal."""
-    try:
-        box, console, table, text = (import_module(f"rich.{name}") for name in ("box", "console", "table", "text"))
-    except ImportError:
-        return None
-
-    def draw(cells: Cells) -> Iterator[str]:
-        if len(cells.rows) > _MOST_FOR_RICH:
-            yield from plain(cells)
+    def padded(self, row: Sequence[str]) -> Iterator[List[str]]:
+        """The lines of a row: in each, what stands in its columns, with blanks up to their width."""
+        if not self._is_folded:
+            yield [_padded(*of_cell) for of_cell in zip(row, self.widths, self._numbers)]
             return
-        shown = table.Table(box=box.SQUARE, header_style="bold")
-        for name, is_number in zip(cells.names, cells.numbers):
-            shown.add_column(text.Text(name), justify="right" if is_number else "left", overflow="fold")
-        for row in cells.rows:
-            shown.add_row(*map(text.Text, row))
-        terminal: Any = console.Console(file=out)
-        with terminal.capture() as captured:
-            terminal.print(shown)
-        yield captured.get()
-
-    return draw
+        pieces = [folded(text, places) for text, places in zip(row, self.widths)]
+        for line in zip_longest(*pieces, fillvalue=""):
+            yield [_padded(*of_cell) for of_cell in zip(line, self.widths, self._numbers)]
 
 
-def _tabulate_box() -> Optional[Box]:
-    """By tabulate, which counts places only with wcwidth beside it."""
-    try:
-        tabulate, _ = import_module("tabulate"), import_module("wcwidth")
-    except ImportError:
-        return None
+def _narrowed(widths: List[int], room: int) -> List[int]:
+    """The widths of columns that have so much room beside each other: the widest are made narrower, all to one width."""
+    if sum(widths) <= room:
+        return widths
+    most = max(widths)
+    while most > _NARROWEST and sum(min(places, most) for places in widths) > room:
+        most -= 1
+    return [min(places, most) for places in widths]
 
-    def draw(cells: Cells) -> Iterator[str]:
-        setattr(tabulate, "PRESERVE_WHITESPACE", True)
-        how = {"tablefmt": "psql", "disable_numparse": True}
-        if cells.rows:
-            how["colalign"] = ["right" if is_number else "left" for is_number in cells.numbers]
-        yield tabulate.tabulate(cells.rows, cells.names, **how) + "\n"
 
-    return draw
+def _padded(text: str, places: int, to_the_right: bool) -> str:
+    room = " " * (places - width(text))
+    return room + text if to_the_right else text + room

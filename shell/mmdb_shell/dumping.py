@@ -3,10 +3,11 @@
 from __future__ import annotations
 
 import re
-from typing import BinaryIO, Iterator, NamedTuple, Optional
+from typing import Iterator, NamedTuple, Optional
 
 import mmdb
 
+from .bars import Bar, Read, Written
 from .cutting import blocks
 from .moving import all_keys, answer, can_stand_in_a_line, keys_in, numbered, records, spelled
 from .reading import Source, Stream, block_length
@@ -60,7 +61,7 @@ def _empty_references_of(db: mmdb.Database, table: Table) -> Iterator[Request]:
             yield Request(f"update {table.name} set {column.name} = '' where {key.name} = {spelled(at)}".encode())
 
 
-def write(db: mmdb.Database, limit: int, file: BinaryIO) -> None:
+def write(db: mmdb.Database, limit: int, file: Written) -> None:
     """Writes a dump, which `restore` reads, and the program mmdb too."""
     file.write(FIRST + b"\n")
     for request in requests_of(db, limit):
@@ -68,13 +69,14 @@ def write(db: mmdb.Database, limit: int, file: BinaryIO) -> None:
     file.write(LAST + b"\n")
 
 
-def copy(db: mmdb.Database, limit: int, empty: mmdb.Database) -> None:
+def copy(db: mmdb.Database, limit: int, empty: mmdb.Database, bar: Bar) -> None:
     """Makes an empty database like another."""
     for request in requests_of(db, limit):
         _do(empty, request, "")
+        bar.add((request.block or b"").count(b"\n"))
 
 
-def restore(file: BinaryIO, name: str, limit: int, empty: mmdb.Database) -> None:
+def restore(file: Read, name: str, limit: int, empty: mmdb.Database) -> None:
     """Does a dump in an empty database. If it raises, that one may have anything in it."""
     source = Stream(file, name)
     line = _line(source)

@@ -2,31 +2,22 @@
 
 from __future__ import annotations
 
-import glob
 import os
-from typing import Iterable, List, Optional
+from typing import List, Optional
 
-import mmdb
-
-from .commands import DOTTED
-from .schema import Table, tables_of
+from .completing import Completer
+from .reading import Terminal
 from .shell import Shell
 from .trouble import sentence
-from .words import COMMANDS, REFUSALS, RESERVED
 
 try:
     import readline
 except ImportError:
     readline = None  # type: ignore[assignment]
 
-# The words behind which a blank comes anyhow.
-_FOLLOWED = frozenset([*COMMANDS, *RESERVED, *DOTTED]) - {"null", "tables", ".tables"}
-
 MOST_LINES = 10_000
 # What ends a word. A dot doesn't, since T.c is one.
 _DELIMITERS = " \t(),=<>'\""
-# The words of the language behind which a table stands.
-_BEFORE_TABLE = frozenset("from join insert update delete load dump index ref".split())
 
 
 def history_file() -> str:
@@ -67,73 +58,29 @@ class History:
             readline.write_history_file(self._path)
 
 
-class Completer:
-    """What a word that is begun can become."""
+class Completion:
+    """The words that a word can become, one after the other, as readline asks for them."""
 
-    def __init__(self, shell: Shell) -> None:
-        self._shell = shell
+    def __init__(self, shell: Shell, terminal: Terminal) -> None:
+        self._completer = Completer(shell)
+        self._terminal = terminal
         self._found: List[str] = []
 
     def complete(self, text: str, state: int) -> Optional[str]:
-        """The possible words one by one, as readline asks for them."""
+        """The word of that number, or None where there is none any more."""
         if state == 0:
-            before = readline.get_line_buffer()[: readline.get_begidx()]
-            self._found = self.words(before, text)
+            line = readline.get_line_buffer()
+            before = self._terminal.before + line[: readline.get_begidx()]
+            self._found = self._completer.words(before, text, line[readline.get_endidx() :])
         return self._found[state] if state < len(self._found) else None
 
-    def words(self, before: str, text: str) -> List[str]:
-        """The words that begin with a text and can stand behind what is before it."""
-        try:
-            tables = list(tables_of(self._shell.db).values())
-        except (mmdb.Refused, ValueError):
-            tables = []
-        if before.lstrip(" \t").startswith("."):
-            words = self._of_the_shell(before.split(), text, [table.name for table in tables])
-        elif not before.strip(" \t"):
-            words = [*DOTTED] if text.startswith(".") else [*COMMANDS]
-        else:
-            words = _of_the_language(before, tables)
-        found = sorted({word for word in words if word.startswith(text)})
-        return [f"{word} " for word in found] if len(found) == 1 and found[0] in _FOLLOWED else found
 
-    def _of_the_shell(self, before: List[str], text: str, tables: List[str]) -> Iterable[str]:
-        """The words that can stand behind those of a command of the shell."""
-        command = DOTTED.get(before[0])
-        if command is None or len(before) > len(command.usage):
-            return []
-        wanted = command.usage[len(before) - 1].strip("[]")
-        if wanted == "FILE":
-            return _files(text)
-        by_kind = {
-            "TABLE": tables,
-            "NAME": list(mmdb.POLICIES),
-            "WORD": [*COMMANDS, *(name[1:] for name in DOTTED), *map(str, REFUSALS)],
-        }
-        return by_kind.get(wanted, wanted.split("|"))
-
-
-def _of_the_language(before: str, tables: List[Table]) -> Iterable[str]:
-    """The words that can stand behind the front of a line of the language."""
-    names = [table.name for table in tables]
-    if before.split()[-1] in _BEFORE_TABLE:
-        return names
-    columns = [column.name for table in tables for column in table.columns]
-    full = [f"{table.name}.{column.name}" for table in tables for column in table.columns]
-    return [*RESERVED, *names, *columns, *full]
-
-
-def _files(text: str) -> Iterable[str]:
-    """The files and folders whose names begin so."""
-    for path in glob.iglob(glob.escape(os.path.expanduser(text)) + "*"):
-        yield text + path[len(os.path.expanduser(text)) :] + ("/" if os.path.isdir(path) else "")
-
-
-def prepare(shell: Shell) -> Optional[History]:
+def prepare(shell: Shell, terminal: Terminal) -> Optional[History]:
     """Makes readline ready, where there is one, and gives the history."""
     if readline is None:
         return None
     readline.set_completer_delims(_DELIMITERS)
-    readline.set_completer(Completer(shell).complete)
+    readline.set_completer(Completion(shell, terminal).complete)
     is_libedit = "libedit" in (readline.__doc__ or "")
     readline.parse_and_bind("bind ^I rl_complete" if is_libedit else "tab: complete")
     history = History(history_file())

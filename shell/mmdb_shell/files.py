@@ -3,9 +3,7 @@
 from __future__ import annotations
 
 import os
-import secrets
 import stat
-import tempfile
 from contextlib import contextmanager
 from typing import BinaryIO, Iterator, Optional, Tuple
 
@@ -32,6 +30,12 @@ def opened(path: str, interrupts: Interrupts) -> Iterator[BinaryIO]:
         file = open(full_name(path), "rb")
     with file:
         yield file
+
+
+def size_of(file: BinaryIO) -> Optional[int]:
+    """How many bytes a file has, where it is a plain one."""
+    told = os.fstat(file.fileno())
+    return told.st_size if stat.S_ISREG(told.st_mode) else None
 
 
 @contextmanager
@@ -78,6 +82,9 @@ def _begun(folder: str, name: str) -> Tuple[int, Optional[str]]:
             return os.open(folder, os.O_TMPFILE | os.O_WRONLY, 0o600), None
     except OSError:
         pass  # (what is wrong with the folder is told by the next)
+    # (it takes a while to load)
+    import tempfile
+
     return tempfile.mkstemp(dir=folder, prefix=f".{name[:60]}.")
 
 
@@ -88,7 +95,7 @@ def _linked(number: int, place: str) -> Optional[str]:
         return None
     except FileExistsError:
         folder, name = os.path.split(place)
-        new = os.path.join(folder, f".{name[:60]}.{secrets.token_hex(8)}")
+        new = os.path.join(folder, f".{name[:60]}.{os.urandom(8).hex()}")
         _link(number, new)
         return new
 

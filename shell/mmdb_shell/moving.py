@@ -4,7 +4,7 @@ from __future__ import annotations
 
 import io
 import re
-from typing import BinaryIO, Iterator, List, Optional, Tuple, Union
+from typing import Iterator, List, Optional, Protocol, Tuple, Union
 
 import mmdb
 
@@ -14,6 +14,14 @@ from .schema import Table
 from .trouble import Trouble
 
 Key = Union[int, str]
+
+
+class Readable(Protocol):
+    """What a load reads from: a file, or what reads as one."""
+
+    def read(self, count: int, /) -> bytes:
+        """At most so many bytes, and none at the end."""
+
 
 PIECE = 1 << 20
 # How many rows a select of a range has at least, and how many ranges there are at most.
@@ -89,7 +97,7 @@ class Load:
         #: How many rows have gone in.
         self.count = 0
 
-    def run(self, file: BinaryIO, limit: int) -> int:
+    def run(self, file: Readable, limit: int) -> int:
         """Puts in the rows of a file, and gives how many they are. If it raises, none of them is in."""
         try:
             for block in blocks(without_mark(self._pieces(file, limit)), limit, b"", self._table.header):
@@ -104,7 +112,7 @@ class Load:
             raise
         return self.count
 
-    def _pieces(self, file: BinaryIO, limit: int) -> Iterator[bytes]:
+    def _pieces(self, file: Readable, limit: int) -> Iterator[bytes]:
         """The file piece by piece. Ctrl-C ends the wait for one."""
         piece = b"-"
         while piece:
@@ -204,6 +212,14 @@ def _records_by_ranges(db: mmdb.Database, table: Table) -> Iterator[bytes]:
     for low, high in zip(cuts, cuts[1:]):
         where = between(table.key.name, (">=", low), ("<", high))
         yield _below_two_lines(answer(db, f"select * from {table.name}{where}"))
+
+
+def ranges(db: mmdb.Database, table: Table) -> Iterator[mmdb.Rows]:
+    """All rows of a table by rising keys, in ranges of many rows."""
+    line, key = f"select * from {table.name}", table.key.name
+    cuts: List[Optional[Key]] = [None, *_cuts(answer(db, all_keys(table)), table.key.kind), None]
+    for low, high in zip(cuts, cuts[1:]):
+        yield db.select(line + between(key, (">=", low), ("<", high)))
 
 
 def _cuts(selected: bytes, kind: str) -> List[Key]:

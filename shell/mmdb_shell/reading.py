@@ -1,17 +1,18 @@
-"""Where requests come from: a stream of bytes, or a terminal."""
+"""Where lines come from: a stream of bytes, or a terminal."""
 
 from __future__ import annotations
 
 import re
-from typing import BinaryIO, Optional
+from typing import BinaryIO, Optional, Union
 
 import mmdb
 
+from .bars import Read
+from .lines import LONGEST_LINE
 from .trouble import Unreadable, sentence
 from .words import RESERVED
 
-LONGEST_LINE = 8192
-PROMPT, PROMPT_IN_BLOCK = "mmdb> ", " ...> "
+PROMPT, PROMPT_FOR_MORE = "mmdb> ", " ...> "
 
 _LOAD = re.compile(rb"[ \t]*load[ \t]+([A-Za-z_][A-Za-z0-9_]{0,31})[ \t]+0*([0-9]{1,19})[ \t]*\r?")
 _GREATEST_COUNT = (1 << 63) - 1
@@ -34,13 +35,22 @@ class Source:
     number = 0
     is_typed = False
 
-    def line(self) -> Optional[bytes]:
-        """The next line without its line feed, or None at the end."""
+    def line(self, is_more: bool = False) -> Optional[bytes]:
+        """The next line without its line feed, or None at the end. `is_more` says that it continues a command."""
         raise NotImplementedError
 
     def take(self, count: int) -> bytes:
         """The next so many bytes, fewer only at the end."""
         raise NotImplementedError
+
+    def mark(self) -> None:
+        """Notes the place in the source, to which `back` goes."""
+
+    def back(self) -> None:
+        """Goes back to the place that was noted, so that the lines from there on are read again."""
+
+    def unmark(self) -> None:
+        """Forgets the place that was noted."""
 
     def forget(self) -> None:
         """Forgets what was typed and isn't done yet."""
@@ -62,29 +72,55 @@ class Source:
 class Stream(Source):
     """The requests of a file or a pipe."""
 
-    def __init__(self, file: BinaryIO, name: str) -> None:
+    def __init__(self, file: Union[BinaryIO, Read], name: str) -> None:
         self._file = file
         self.name = name
+        #: Bytes that were read from the file, and are read again first.
+        self._again = b""
+        #: The lines since the mark, where there is one, and the number of the line before them.
+        self._marked: Optional[bytes] = None
+        self._number_at_mark = 0
 
-    def line(self) -> Optional[bytes]:
+    def line(self, is_more: bool = False) -> Optional[bytes]:
         """The next line. Of one that is too long, only a front that is too long as well is kept."""
         longest = LONGEST_LINE + len(b"\r\n") + 1
         try:
-            line = piece = self._file.readline(longest)
+            line = piece = self._readline(longest)
             while len(line) == longest and piece and not piece.endswith(b"\n"):
-                piece = self._file.readline(_PIECE)
+                piece = self._readline(_PIECE)
         except OSError as why:
             raise Unreadable(sentence(self.name or "standard input", why)) from why
         self.number += 1
+        if self._marked is not None:
+            self._marked += line if line.endswith(b"\n") or piece == line else line + b"\n"
         return (line[:-1] if line.endswith(b"\n") else line) if line else None
 
     def take(self, count: int) -> bytes:
+        taken, self._again = self._again[:count], self._again[count:]
         try:
-            taken = self._file.read(count)
+            if len(taken) < count:
+                taken += self._file.read(count - len(taken))
         except OSError as why:
             raise Unreadable(sentence(self.name or "standard input", why)) from why
         self.number += taken.count(b"\n")
         return taken
+
+    def mark(self) -> None:
+        self._marked, self._number_at_mark = b"", self.number
+
+    def back(self) -> None:
+        self._again = (self._marked or b"") + self._again
+        self._marked, self.number = None, self._number_at_mark
+
+    def unmark(self) -> None:
+        self._marked = None
+
+    def _readline(self, most: int) -> bytes:
+        if not self._again:
+            return self._file.readline(most)
+        end = min(self._again.find(b"\n") + 1 or len(self._again), most)
+        line, self._again = self._again[:end], self._again[end:]
+        return line
 
 
 class Terminal(Source):
@@ -94,15 +130,20 @@ class Terminal(Source):
 
     def __init__(self) -> None:
         self._typed = b""
+        #: The lines of the command that is being typed, before this one.
+        self.before = ""
 
-    def line(self) -> Optional[bytes]:
-        if not self._typed and not self._read(PROMPT):
+    def line(self, is_more: bool = False) -> Optional[bytes]:
+        if not is_more:
+            self.before = ""
+        if not self._typed and not self._read(PROMPT_FOR_MORE if is_more else PROMPT):
             return None
         line, self._typed = self._typed.split(b"\n", 1)
+        self.before += line.decode("utf-8", "replace") + "\n"
         return line
 
     def take(self, count: int) -> bytes:
-        while len(self._typed) < count and self._read(PROMPT_IN_BLOCK):
+        while len(self._typed) < count and self._read(PROMPT_FOR_MORE):
             pass
         taken, self._typed = self._typed[:count], self._typed[count:]
         return taken

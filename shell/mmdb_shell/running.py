@@ -1,30 +1,32 @@
-"""A run of the shell: the words of its start, its streams, and its exit status."""
+"""A run of the shell: its streams, the lines that it does, and its exit status."""
 
 from __future__ import annotations
 
-import argparse
 import io
 import os
 import sys
-from typing import Callable, List, Optional, TextIO
+from typing import List, Optional, TextIO
 
 import mmdb
 
-from .boxes import best_box, plain_box
+from . import commands
+from .boxes import PLAIN, look
+from .files import opened
+from .options import Options, options_of
 from .reading import Stream, Terminal
 from .shell import Settings, Shell
-from .trouble import DONE, INTERRUPTED, NAME, NO_MEMORY, REFUSED, UNWRITABLE, Quit, Unwritable, fail
+from .trouble import DONE, INTERRUPTED, NO_MEMORY, REFUSED, UNWRITABLE, Bailed, Quit, Trouble, Unwritable, fail
 
 
 def main(words: Optional[List[str]]) -> int:
     """Runs the shell on the words of its start, and gives its exit status."""
-    told = _parser().parse_args(words)
+    options = options_of(sys.argv[1:] if words is None else words)
     if sys.stdin is None:
         return fail(REFUSED, "standard input is closed")
     if sys.stdout is None:
         return fail(UNWRITABLE, "standard output is closed")
     try:
-        return _run(told)
+        return _run(options)
     except mmdb.NoMemory:
         return fail(NO_MEMORY, "no memory")
     except Unwritable as why:
@@ -44,43 +46,19 @@ def _give_up(stream: TextIO) -> None:
     os.close(nowhere)
 
 
-def _parser() -> argparse.ArgumentParser:
-    parser = argparse.ArgumentParser(
-        prog=NAME,
-        description="A shell over a database in main memory, which ends with the shell. .help tells of its commands.",
-    )
-    parser.add_argument("--policy", choices=mmdb.POLICIES, default="auto", help="how plans are chosen")
-    parser.add_argument("--mode", choices=("box", "csv", "json", "markdown"), help="how rows are shown")
-    parser.add_argument("--plain", action="store_true", help="draw boxes without rich and tabulate")
-    parser.add_argument("--rows", type=_number_from(1), default=mmdb.MOST, help="the most rows of a table")
-    parser.add_argument("--block", type=_number_from(0), default=mmdb.MOST, help="the most bytes of a block")
-    parser.add_argument("--version", action="version", version=f"{NAME} {mmdb.__version__}")
-    return parser
-
-
-def _number_from(least: int) -> Callable[[str], int]:
-    """What makes a limit of a word."""
-
-    def number(word: str) -> int:
-        value = int(word) if word.isdecimal() and len(word) < 20 else -1
-        if not least <= value <= mmdb.MOST:
-            raise argparse.ArgumentTypeError(f"it is a number from {least} to {mmdb.MOST}")
-        return value
-
-    return number
-
-
-def _run(told: argparse.Namespace) -> int:
+def _run(options: Options) -> int:
     is_at_terminal = sys.stdin.isatty() and sys.stdout.isatty()
     _encode(sys.stdout, None if is_at_terminal else "utf-8", "replace" if is_at_terminal else "surrogateescape")
     _encode(sys.stderr, None, "backslashreplace")
-    is_plain = told.plain or not is_at_terminal
-    box = plain_box(sys.stdout.encoding) if is_plain else best_box(sys.stdout)
-    shell = Shell(Settings(told.policy, told.rows, told.block), sys.stdout, sys.stderr, box, is_at_terminal)
-    shell.mode = told.mode or shell.mode
+    drawn = look(sys.stdout.encoding, is_folded=is_at_terminal)
+    if options.is_plain:
+        drawn = drawn._replace(marks=PLAIN)
+    settings = Settings(options.policy, options.rows, options.block)
+    shell = Shell(settings, sys.stdout, sys.stderr, drawn, is_at_terminal)
+    shell.mode, shell.bails = options.mode or shell.mode, options.bails
     shell.interrupts.install()
     try:
-        return _at_terminal(shell) if is_at_terminal else _without_terminal(shell)
+        return _session(shell, options)
     finally:
         shell.db.close()
 
@@ -91,28 +69,101 @@ def _encode(stream: TextIO, encoding: Optional[str], errors: str) -> None:
         stream.reconfigure(encoding=encoding, errors=errors)
 
 
-def _at_terminal(shell: Shell) -> int:
-    """Answers what is typed. The status tells of no refusal, as each was seen."""
+def _session(shell: Shell, options: Options) -> int:
+    """Does what was asked for, to its end or to that which a line asks for."""
+    is_asked = bool(options.files or options.lines)
+    is_typed = shell.is_at_terminal and not is_asked
+    try:
+        if not _begun(shell, options, is_typed):
+            return REFUSED
+        if is_typed:
+            _at_terminal(shell)
+        elif is_asked:
+            _do_asked(shell, options)
+        else:
+            shell.run(Stream(sys.stdin.buffer, ""))
+    except Quit as why:
+        if why.status is not None:
+            return why.status
+    except Bailed:
+        pass
+    finally:
+        _end_output(shell)
+    return REFUSED if shell.refused and not is_typed else DONE
+
+
+def _end_output(shell: Shell) -> None:
+    """Ends the place where answers go, and shows those that weren't shown yet."""
+    try:
+        shell.output.back()
+    except Trouble as why:
+        shell.refused += 1
+        shell.tell(str(why))
+    shell.output.flush()
+
+
+def _begun(shell: Shell, options: Options, is_typed: bool) -> bool:
+    """Restores the dump that was named, and does the init file. Tells whether the session goes on."""
+    try:
+        if options.restored is not None:
+            commands.filing.restore(shell, options.restored)
+    except (mmdb.Refused, Trouble, MemoryError) as why:
+        return _refused(shell, why)
+    path = options.init
+    if path is None and options.has_init and is_typed:
+        path = init_file()
+        if not os.path.exists(path):
+            return True
+    return path is None or _do_file(shell, path)
+
+
+def init_file() -> str:
+    """The file whose lines are done first at a terminal."""
+    folder = os.environ.get("XDG_CONFIG_HOME", "")
+    folder = folder if os.path.isabs(folder) else os.path.join(os.path.expanduser("~"), ".config")
+    return os.path.join(folder, "mmdb", "init")
+
+
+def _do_asked(shell: Shell, options: Options) -> None:
+    """Does the files and the lines that were named."""
+    for path in options.files:
+        if path == "-":
+            shell.run(Stream(sys.stdin.buffer, ""))
+        elif not _do_file(shell, path):
+            return
+    for line in options.lines:
+        shell.run(Stream(io.BytesIO(line.encode("utf-8", "surrogateescape")), "-c"))
+
+
+def _do_file(shell: Shell, path: str) -> bool:
+    """Does the lines of a file, and tells whether it could be read."""
+    try:
+        with opened(path, shell.interrupts) as file:
+            shell.run_file(Stream(file, path))
+        return True
+    except Trouble as why:
+        return _refused(shell, why)
+
+
+def _refused(shell: Shell, why: Exception) -> bool:
+    """Tells what ends the session, which doesn't go on."""
+    shell.refused += 1
+    shell.tell(str(why) or "no memory was found for it")
+    return False
+
+
+def _at_terminal(shell: Shell) -> None:
+    """Answers what is typed."""
     # Not without a terminal, as readline looks at one as soon as it is there.
     from . import editing
 
-    history = editing.prepare(shell)
+    terminal = Terminal()
+    history = editing.prepare(shell, terminal)
     try:
-        shell.say(f"mmdb {mmdb.__version__}, with tables in main memory that end with this shell; .help tells more.\n")
-        shell.run(Terminal())
-        shell.say("\n")
-        shell.flush()
-    except Quit:
-        pass
+        shell.output.say(
+            f"mmdb {mmdb.__version__}, with tables in main memory that end with this shell; .help tells more.\n"
+        )
+        shell.run(terminal)
+        shell.output.say("\n")
     finally:
         editing.keep(shell, history)
-    return DONE
-
-
-def _without_terminal(shell: Shell) -> int:
-    """Does the lines of standard input. The status tells whether one was refused."""
-    try:
-        shell.run(Stream(sys.stdin.buffer, ""))
-    except Quit:
-        shell.flush()
-    return REFUSED if shell.refused else DONE

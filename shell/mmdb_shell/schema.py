@@ -16,6 +16,7 @@ class Column(NamedTuple):
     name: str
     kind: str
     takes_null: bool
+    refers_to: Optional[str] = None
 
 
 class Table(NamedTuple):
@@ -67,4 +68,4 @@ def _column(tables: Dict[str, Table], spelled: str) -> Column:
     """A column as it is declared, behind the tables that it can refer to."""
     name, kind, *more = spelled.split(" ")
     refers_to: Optional[str] = more[0] if more else None
-    return Column(name, tables[refers_to].key.kind if refers_to else kind, len(more) == 2)
+    return Column(name, tables[refers_to].key.kind if refers_to else kind, len(more) == 2, refers_to)

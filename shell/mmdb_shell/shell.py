@@ -3,27 +3,33 @@
 from __future__ import annotations
 
 import os
-import re
 import time
-from typing import List, NamedTuple, Optional, TextIO, Union
+from contextlib import contextmanager
+from typing import Iterator, List, NamedTuple, Optional, Sequence, TextIO, Union
 
 import mmdb
 
 from . import commands
-from .boxes import Box
+from .bars import Bar
+from .boxes import Look
 from .files import full_name
 from .interrupts import Interrupts
-from .moving import answer, numbered
+from .lines import is_blank, is_comment
+from .modes import COUNTED, MODES
+from .moving import answer
+from .output import Output, Pager, Stopped, pager_command
+from .parameters import Parameters
 from .reading import Source, block_length
-from .showing import Names, Rows, count, modes, pointed_at, visible
-from .trouble import NAME, Trouble, Unreadable, Unwritable
+from .requests import Attempt, Request, Requests
+from .showing import Names, Rows, count, refusal
+from .trouble import NAME, Bailed, Trouble, Unreadable
 
 # How deep files may read files.
 _DEEPEST = 16
-# Words that are no commands of the language, and may be meant for the shell.
-_FOR_THE_SHELL = [[word] for word in b"help quit exit schema read mode".split()]
-# How a reason begins that tells of a place in the line.
-_COLUMN = re.compile(r"column (\d+): ")
+# The refusals of what is no line, or no command.
+_NO_COMMAND = (10, 11, 20)
+# The commands whose answers count the rows that were changed.
+_CHANGES = (b"insert", b"update", b"delete", b"load")
 
 
 class Settings(NamedTuple):
@@ -40,19 +46,23 @@ class Settings(NamedTuple):
 class Shell:
     """A shell over one database at a time."""
 
-    def __init__(self, settings: Settings, out: TextIO, err: TextIO, box: Box, is_at_terminal: bool) -> None:
+    def __init__(self, settings: Settings, out: TextIO, err: TextIO, look: Look, is_at_terminal: bool) -> None:
         self.settings = settings
         self.db = settings.opened()
         self.interrupts = Interrupts()
-        self.modes = modes(box)
+        self.output = Output(out)
+        self.look = look
         self.mode = "box" if is_at_terminal else "csv"
-        self.has_timer = False
-        self.explains = True
-        #: How many requests were done and how many were refused.
-        self.done = self.refused = 0
+        self.parameters = Parameters()
+        self.has_timer = self.bails = self.tells_changes = False
+        self.explains = self.has_pager = True
+        #: How many requests were done and refused, and how many rows were changed by the last one and by all.
+        self.done = self.refused = self.changed = self.changed_in_all = 0
+        self.is_at_terminal = is_at_terminal
         self._out = out
         self._err = err
-        self._is_at_terminal = is_at_terminal
+        #: The line that was fed last, the number of the line where it begins, and whether it is being done.
+        self._line, self._number, self._is_doing = b"", 0, False
         #: The files that are being read, each by the one before it.
         self._reading: List[str] = []
 
@@ -60,8 +70,9 @@ class Shell:
 
     def run(self, source: Source) -> None:
         """Does each request of a source, to its end."""
-        while self._step(source):
-            self.flush()
+        requests = Requests(source)
+        while self._step(requests):
+            self.output.flush()
 
     def run_file(self, source: Source) -> None:
         """The same of a file that a line before has named."""
@@ -76,139 +87,211 @@ class Shell:
         finally:
             self._reading.pop()
 
-    def _step(self, source: Source) -> bool:
+    def _step(self, requests: Requests) -> bool:
         """Does one request, and tells whether the source goes on."""
-        line: Optional[bytes] = b""
+        source = requests.source
         try:
             if source.is_typed:
                 self.interrupts.forget()
-            with self.interrupts.allowed():
-                line = source.line()
-            if line is not None:
-                self._do(source, line)
-                self.done += 1
-        except KeyboardInterrupt:
+            with self._reading_lines():
+                request = requests.next()
+            if request is None:
+                return False
+            self._do(requests, request)
+            self.done += 1
+        except KeyboardInterrupt as why:
             if not source.is_typed:
                 raise
-            source.forget()
-            self.say("interrupted\n" if line else "\n")
+            self.output.failed(why)
+            requests.forget()
+            self.output.say("interrupted\n" if self._is_doing else "\n")
+        except Bailed:
+            if not source.is_typed:
+                raise
         except (mmdb.Refused, Trouble, MemoryError) as why:
-            self._refuse(source, line or b"", why)
+            self._refuse(source, why)
             return not isinstance(why, Unreadable)
-        return line is not None
+        return True
 
-    def _do(self, source: Source, line: bytes) -> None:
-        """Does the request of a line, with the block that it asks for, and shows the answer."""
-        front = line.lstrip(b" \t")
-        if front.startswith(b"."):
-            commands.do(self, line.decode("utf-8", "surrogateescape"))
+    @contextmanager
+    def _reading_lines(self) -> Iterator[None]:
+        """Lets Ctrl-C come while lines are waited for."""
+        self._is_doing, self._line = False, b""
+        with self.interrupts.allowed():
+            yield
+        self._is_doing = True
+
+    def _do(self, requests: Requests, request: Request) -> None:
+        """Does a request, and where its line ends too early, that line with those after it."""
+        refused = self._try(requests.source, request)
+        if refused is not None and refused.goes_on:
+            try:
+                refused = self._do_continued(requests, refused)
+            finally:
+                requests.source.unmark()
+        if refused is not None:
+            self._line, self._number = refused.line, refused.request.number
+            raise refused.why
+
+    def _do_continued(self, requests: Requests, front: Attempt) -> Optional[Attempt]:
+        """Does a request that goes on in the next lines. In a file those that don't belong to it are read again, each
+        by itself. So a line that is a command is never lost to a mistake before it."""
+        source, best, last = requests.source, front, front
+        source.mark()
+        while last.goes_on:
+            if not last.has_open_text:
+                best = last
+                source.mark()
+            with self._reading_lines():
+                request = requests.continued(last.request)
+            if request is None:
+                break
+            attempt = self._try(source, request)
+            if attempt is None:
+                return None
+            last = attempt
+        if source.is_typed or last.request.is_ended and last.ends_too_early:
+            return last
+        requests.back()
+        return best if best is front or last.goes_on else last
+
+    def _try(self, source: Source, request: Request) -> Optional[Attempt]:
+        """Does a request. Where it is refused as no command, gives that; any other refusal is raised."""
+        self._line, self._number = request.line, request.number
+        try:
+            self._do_one(source, request)
+            return None
+        except mmdb.Refused as why:
+            if why.number not in _NO_COMMAND:
+                raise
+            return Attempt(request, self._line, why)
+
+    def _do_one(self, source: Source, request: Request) -> None:
+        """Does one request, with the block that it asks for, and shows the answer."""
+        front = request.line.lstrip(b" \t")
+        if is_blank(front) or is_comment(front):
+            self._answered(request.line, None)
             return
-        length, block = block_length(line), None
+        try:
+            if front.startswith(b"."):
+                commands.do(self, request.line.decode("utf-8", "surrogateescape").rstrip("\r"))
+            else:
+                self._do_command(source, request.line)
+        except Stopped:
+            pass
+        self.output.done()
+
+    def _do_command(self, source: Source, line: bytes) -> None:
+        """Does a command of the language."""
+        self._line, values = self.parameters.bind(line)
+        block = None
+        length = block_length(self._line)
         if length is not None:
             with self.interrupts.allowed():
                 block = source.block(length, self.settings.block)
         began = time.perf_counter()
-        told = self._answered(line, block)
+        told = self._answered(self._line, block, values)
         took = time.perf_counter() - began
         if isinstance(told, mmdb.Rows):
             self.show(told.names, told)
         else:
-            self._show_answer(source, front, told)
-        if self.has_timer and front and not front.startswith(b"#"):
+            self._show_answer(source, line.split()[0], told)
+        if self.has_timer:
             self.say(f"time: {took:.6f} s\n")
 
-    def _answered(self, line: bytes, block: Optional[bytes]) -> Union[mmdb.Rows, str]:
+    def _answered(self, line: bytes, block: Optional[bytes], values: Sequence[mmdb.Value] = ()) -> Union[mmdb.Rows, str]:
         """The rows of a select, with the types of their columns; of another line what the library answers."""
-        if not line.lstrip(b" \t").startswith(b"select"):
+        if not values and not line.lstrip(b" \t").startswith(b"select"):
             return answer(self.db, line, block).decode()
         try:
-            rows: mmdb.Rows = self.db.execute(line.decode())
-            return rows
+            found = self.db.execute(line.decode(), *values)
         except ValueError as why:
             # (what isn't UTF-8, or has a place for a parameter, is refused as such)
             answer(self.db, line)
             raise Trouble(str(why).replace("mmdb: ", "")) from why
+        if isinstance(found, int):
+            return f"ok {found}\n"
+        rows: Union[mmdb.Rows, str] = "ok\n" if found is None else found
+        return rows
 
     # ---- answers
 
     def show(self, names: Names, rows: Rows) -> None:
         """Shows rows in the mode that is set."""
-        with self.interrupts.allowed():
-            for piece in self.modes[self.mode](names, rows):
-                self.say(piece)
-        if self._is_at_terminal and self.mode == "box":
+        pager = Pager(pager_command(), self.output.say) if self._has_pages() else None
+        write = self.output.write if pager is None else pager.write
+        look = self.look._replace(is_folded=self.look.is_folded and not self.output.is_elsewhere)
+        try:
+            with self.interrupts.allowed():
+                for piece in MODES[self.mode](names, rows, look):
+                    write(piece)
+        finally:
+            if pager is not None:
+                pager.end()
+        if self.is_at_terminal and not self.output.is_elsewhere and self.mode in COUNTED:
             self.say(f"{count(rows)}\n")
 
-    def _show_answer(self, source: Source, front: bytes, told: str) -> None:
-        """Shows an answer without rows. Where nobody has typed the line, that it was done goes without saying."""
-        if not source.is_typed:
-            if told.startswith("ok"):
-                return
-            if front.startswith(b"tables"):
-                told = told[: told.rindex("ok ")]
-        with self.interrupts.allowed():
-            self.say(told)
+    def _has_pages(self) -> bool:
+        return self.is_at_terminal and self.has_pager and bool(pager_command()) and not self.output.is_elsewhere
 
-    def _refuse(self, source: Source, line: bytes, why: Exception) -> None:
+    def _show_answer(self, source: Source, word: bytes, told: str) -> None:
+        """Shows an answer without rows. Where nobody has typed the line, that it was done goes without saying."""
+        if word in _CHANGES:
+            self.changed = int(told[len("ok ") :])
+            self.changed_in_all += self.changed
+        if word == b"tables" and not source.is_typed:
+            told = told[: told.rindex("ok ")]
+        if source.is_typed or not told.startswith("ok"):
+            with self.interrupts.allowed():
+                self.say(told)
+        if word in _CHANGES and self.tells_changes:
+            self.say(f"changes: {self.changed}, total: {self.changed_in_all}\n")
+
+    def _refuse(self, source: Source, why: Exception) -> None:
         """Tells why a request isn't done."""
         self.refused += 1
+        self.output.failed(why)
         place = ""
         if not source.is_typed and not isinstance(why, Unreadable):
-            place = f"{source.name}, line {source.number}: " if source.name else f"line {source.number}: "
-        what = numbered(why) if isinstance(why, mmdb.Refused) else str(why) or "no memory was found for it"
-        reason = _reason_of(line, why) if self.explains else ""
-        pointed = _pointed(line, why) if reason and self._is_at_terminal else ""
-        self.tell(f"{pointed}{place}{what}" + (f": {visible(reason)}" if reason else ""))
+            place = f"{source.name}, line {self._number}: " if source.name else f"line {self._number}: "
+        self.tell(refusal(self._line, why, place, self.explains, self.is_at_terminal))
+        if self.bails and not source.is_typed:
+            raise Bailed
 
     def note(self, text: str) -> None:
         """Says at a terminal what a command of the shell has done."""
-        if self._is_at_terminal:
-            self.say(text + "\n")
+        if self.is_at_terminal:
+            self.output.say(text + "\n")
 
     def tell(self, text: str) -> None:
         """Tells something beside the answers, on standard error."""
-        self.flush()
+        self.output.flush()
+        self._write_error(text + "\n" if self.is_at_terminal else f"{NAME}: {text}\n")
+
+    def _write_error(self, text: str) -> None:
         try:
-            self._err.write(text + "\n" if self._is_at_terminal else f"{NAME}: {text}\n")
+            self._err.write(text)
             self._err.flush()
         except (OSError, ValueError):
             # Who closed standard error wants to hear nothing. A terminal that is gone is met at the next line.
             pass
 
     def say(self, text: str) -> None:
-        """Writes to standard output."""
-        try:
-            self._out.write(text)
-        except OSError as why:
-            raise Unwritable(str(why.strerror or why)) from why
+        """Writes an answer."""
+        self.output.write(text)
 
-    def flush(self) -> None:
-        """Lets all that was said be seen."""
-        try:
-            self._out.flush()
-        except OSError as why:
-            raise Unwritable(str(why.strerror or why)) from why
-
-    # ---- databases
+    # ---- databases and long work
 
     def take(self, db: mmdb.Database, settings: Settings) -> None:
         """Takes another database in place of this one, which is closed."""
         self.db, self.settings, old = db, settings, self.db
         old.close()
 
-
-def _reason_of(line: bytes, why: Exception) -> str:
-    """Why a line isn't done, beyond what is told of that anyhow."""
-    if _is_no_command(why) and line.split()[:1] in _FOR_THE_SHELL:
-        return "what is for the shell has a dot in front; .help lists it"
-    return why.reason or "" if isinstance(why, (mmdb.Refused, Trouble)) else ""
-
-
-def _pointed(line: bytes, why: Exception) -> str:
-    """The line with a caret under the place that the reason tells of, where it tells of one."""
-    column = _COLUMN.match(_reason_of(line, why)) if _is_no_command(why) else None
-    return pointed_at(line.decode(), int(column[1])) if column else ""
-
-
-def _is_no_command(why: Exception) -> bool:
-    return isinstance(why, mmdb.Refused) and why.number == 20
+    @contextmanager
+    def bar(self, total: Optional[int], unit: str) -> Iterator[Bar]:
+        """A bar for what may take long, at a terminal."""
+        bar = Bar(self._write_error if self.is_at_terminal else None, total, unit)
+        try:
+            yield bar
+        finally:
+            bar.end()

@@ -1,32 +1,27 @@
-"""How rows are shown: as a table, as CSV, as JSON or as Markdown.
-
-A null differs from each text in every mode. In a table and in Markdown it is an empty cell, and the empty text is `''`.
-In CSV it is an empty field, and the empty text is `""`. In JSON it is `null`.
-"""
+"""What is shown of values, of lines and of refusals."""
 
 from __future__ import annotations
 
-import json
 import re
-import shutil
-from typing import Callable, Dict, Iterator, List, Sequence
+from typing import Sequence
 
 import mmdb
 
-from .boxes import Cells, width
+from . import terminals
+from .boxes import width
+from .lines import column_of
+from .moving import numbered
+from .trouble import Trouble
 
 #: The rows of a table, and the names of its columns.
 Rows = Sequence[Sequence[mmdb.Value]]
 Names = Sequence[str]
 
-#: A mode gives names and rows in pieces of text, the last of which ends a line.
-Mode = Callable[[Names, Rows], Iterator[str]]
-
-_NEEDS_QUOTES = re.compile('[",\r\n]').search
 _IS_ODD = re.compile(r"\A(?:'|\s|\Z)|\s\Z").search
 # What moves a terminal's place or changes the line: controls, and marks of lines and of direction.
 _CONTROLS = re.compile("[\0-\x1f\x7f-\x9f\u061c\u200e\u200f\u2028-\u202e\u2066-\u2069]")
-_IN_MARKDOWN = re.compile(r"[\\`*_{}\[\]<>#|~&]")
+# Words that are no commands of the language, and may be meant for the shell.
+_FOR_THE_SHELL = [[word] for word in b"help quit exit schema read mode".split()]
 
 
 def _picture(control: "re.Match[str]") -> str:
@@ -35,6 +30,11 @@ def _picture(control: "re.Match[str]") -> str:
     if code < 0x20:
         return chr(0x2400 + code)
     return "\u2421" if code == 0x7F else f"<U+{code:04X}>"
+
+
+def visible(text: str) -> str:
+    """A text in which nothing moves a terminal's place."""
+    return _CONTROLS.sub(_picture, text)
 
 
 def cell(value: mmdb.Value) -> str:
@@ -47,59 +47,14 @@ def cell(value: mmdb.Value) -> str:
     return f"'{shown}'" if _IS_ODD(value) or not width(shown) else shown
 
 
-def cells_of(names: Names, rows: Rows) -> Cells:
-    """What stands in the cells of a table, and which columns have numbers."""
-    numbers = [any(isinstance(row[at], int) for row in rows) for at in range(len(names))]
-    return Cells(list(names), [[cell(value) for value in row] for row in rows], numbers)
-
-
-def csv(names: Names, rows: Rows) -> Iterator[str]:
-    """The names and the rows as CSV."""
-    yield ",".join(names) + "\n"
-    for row in rows:
-        yield (",".join(map(_field, row)) or '""') + "\n"
-
-
-def _field(value: mmdb.Value) -> str:
-    if not isinstance(value, str):
-        return "" if value is None else str(value)
-    return '"' + value.replace('"', '""') + '"' if not value or _NEEDS_QUOTES(value) else value
-
-
-def as_json(names: Names, rows: Rows) -> Iterator[str]:
-    """A list of objects, one a line."""
-    before = "["
-    for row in rows:
-        yield before + json.dumps(dict(zip(names, row)), ensure_ascii=False)
-        before = ",\n "
-    yield "[]\n" if before == "[" else "]\n"
-
-
-def markdown(names: Names, rows: Rows) -> Iterator[str]:
-    """A table of Markdown."""
-    cells = cells_of(names, rows)
-    yield _row_of_markdown(cells.names)
-    yield "|" + "|".join("---:" if is_number else "---" for is_number in cells.numbers) + "|\n"
-    for row in cells.rows:
-        yield _row_of_markdown(row)
-
-
-def _row_of_markdown(row: List[str]) -> str:
-    return "|" + "|".join(f" {_IN_MARKDOWN.sub(_escaped, shown)} " for shown in row) + "|\n"
-
-
-def _escaped(mark: "re.Match[str]") -> str:
-    return "\\" + mark[0]
-
-
-def modes(box: Callable[[Cells], Iterator[str]]) -> Dict[str, Mode]:
-    """The modes by name, with a way to draw a box."""
-    return {"box": lambda names, rows: box(cells_of(names, rows)), "csv": csv, "json": as_json, "markdown": markdown}
+def count(rows: Rows) -> str:
+    """How many rows there are, in words."""
+    return "1 row" if len(rows) == 1 else f"{len(rows)} rows"
 
 
 def pointed_at(line: str, column: int) -> str:
     """A line with a caret under one of its columns, or as much of it around the caret as the terminal is wide."""
-    room = max(shutil.get_terminal_size().columns - 2, 8)
+    room = max(terminals.size()[0] - 2, 8)
     front, behind = visible(line[: column - 1]), visible(line[column - 1 :])
     if width(front) + width(behind) > room:
         # (a character takes two places at most)
@@ -107,11 +62,20 @@ def pointed_at(line: str, column: int) -> str:
     return f"  {front}{behind}\n  {' ' * width(front)}^\n"
 
 
-def visible(text: str) -> str:
-    """A text in which nothing moves a terminal's place."""
-    return _CONTROLS.sub(_picture, text)
+def refusal(line: bytes, why: Exception, place: str, is_explained: bool, is_pointed_at: bool) -> str:
+    """What is said where a line isn't done, with its reason, and with a caret under the place in the line."""
+    what = numbered(why) if isinstance(why, mmdb.Refused) else str(why) or "no memory was found for it"
+    reason = _reason_of(line, why) if is_explained else ""
+    if not reason:
+        return place + what
+    column = column_of(why) if isinstance(why, mmdb.Refused) and reason == why.reason else None
+    pointed = pointed_at(line.decode(), column) if is_pointed_at and column else ""
+    return f"{pointed}{place}{what}: {visible(reason)}"
 
 
-def count(rows: Rows) -> str:
-    """How many rows there are, in words."""
-    return "1 row" if len(rows) == 1 else f"{len(rows)} rows"
+def _reason_of(line: bytes, why: Exception) -> str:
+    """Why a line isn't done, beyond what is told of that anyhow."""
+    is_no_command = isinstance(why, mmdb.Refused) and why.number == 20
+    if is_no_command and line.split()[:1] in _FOR_THE_SHELL:
+        return "what is for the shell has a dot in front; .help lists it"
+    return why.reason or "" if isinstance(why, (mmdb.Refused, Trouble)) else ""

@@ -33,7 +33,15 @@ class Unwritable(Exception):
 
 
 class Quit(Exception):
-    """The user has asked to leave."""
+    """The user has asked to leave, with a status where one was said."""
+
+    def __init__(self, status: Optional[int] = None) -> None:
+        super().__init__()
+        self.status = status
+
+
+class Bailed(Exception):
+    """A line was refused, and none of the lines after it is to be done."""
 
 
 def fail(status: int, text: str) -> int:

@@ -21,6 +21,64 @@ COMMANDS: Dict[str, str] = {
     "tables": "tables\nshows the declarations of all tables and indexes",
 }
 
+#: The words inside a command, with what they say.
+KEYWORDS: Dict[str, str] = {
+    "and": "one more condition: where a = 1 and b = 'x'; a row has to meet all of them, and there are at most 8",
+    "distinct": "select distinct b from T shows each list of values once, by rising values",
+    "from": "the table that a select reads: select * from T",
+    "hash": "an index for =, in constant time: index T c hash",
+    "int": "a column of integers, from -9223372036854775808 to 9223372036854775807",
+    "join": "pairs rows where two columns are equal and not null: select * from T join U on T.c = U.a; at most 3 of them",
+    "null": "no value; only a column c ref U null takes it, and only = and <> meet it",
+    "on": "the two columns of a join: join U on T.c = U.a",
+    "ref": "a column whose values are keys of rows of another table: c ref U, or c ref U null, which takes null too",
+    "set": "the new values of an update: update T set b = 'x', c = 2 where a < 9",
+    "text": "a column of texts in UTF-8, each of at most 1,024 bytes; it is spelled 'it''s'",
+    "tree": "an index for = < <= > >=, in the order of the values: index T c tree; each key has one",
+    "where": "the conditions that rows have to meet: where a = 1 and T.b <> 'x'",
+}
+
+#: The signs of the language, with what they say.
+SIGNS: Dict[str, str] = {
+    "=": "equal; where c = null meets the nulls",
+    "<>": "not equal; where c <> null meets what is no null",
+    "<": "less; texts are ordered by their bytes, integers by size",
+    "<=": "less or equal",
+    ">": "greater",
+    ">=": "greater or equal",
+    "*": "all columns: select * from T",
+    ".": "a column of one of the tables: T.c",
+    ",": "stands between columns, values and the parts of a set",
+    "(": "begins the columns of a table and the values of an insert, which ) ends",
+    ")": "ends what ( begins",
+    "'": "begins and ends a text; '' is one ' in it",
+    "#": "begins a line that is a comment",
+    ";": "ends a command, and another may follow in the line; it is the shell's, and no sign of the language",
+    "?": "the place of a value that .parameter set 1 VALUE gives",
+    ":": "begins the name of such a place: :least",
+}
+
+#: The language in short.
+LANGUAGE = """\
+table T (a int, b text, c ref U, d ref U null)
+drop table T
+index T c tree|hash
+drop index T c tree|hash
+insert T (1, 'it''s', null)
+update T set b = 'x', c = 2 [where CONDITIONS]
+delete T [where CONDITIONS]
+select [distinct] *|c, T.d, ... from T [join U on T.c = U.a] [where CONDITIONS]
+load T N, and below it N bytes of CSV
+dump T
+tables
+# a comment
+CONDITIONS are a = 1 and T.b <> 'x' and so on; there is no or.
+The first column of a table is its key. A reference names the key of a row that is there.
+Words are in small letters. Names are letters, digits and _, at most 32, and none of these words:
+  and delete distinct drop dump from hash index insert int join load null
+  on ref select set table tables text tree update where
+Signs:"""
+
 #: The words that are no names.
 RESERVED = frozenset(
     "and delete distinct drop dump from hash index insert int join load null on ref select set table tables text tree"

@@ -1,0 +1,114 @@
+"""Commands about files: rows, lines and whole databases."""
+
+from __future__ import annotations
+
+from typing import TYPE_CHECKING, Callable, Optional
+
+import mmdb
+
+from . import dumping, moving
+from .bars import Read, Written
+from .dotted import dotted
+from .files import opened, size_of, written
+from .inspecting import count_of
+from .reading import Stream
+from .schema import table_of, tables_of
+from .trouble import Trouble, told_of
+
+if TYPE_CHECKING:
+    from .bars import Bar
+    from .shell import Settings, Shell
+
+
+@dotted(".load TABLE FILE", "puts in the rows of a CSV file, all or none")
+def _load(shell: Shell, name: str, path: str) -> None:
+    table = table_of(shell.db, name)
+    try:
+        with opened(path, shell.interrupts) as file, told_of(path), shell.bar(size_of(file), "bytes") as bar:
+            count = moving.Load(shell.db, table, shell.interrupts).run(Read(file, bar), shell.settings.block)
+    except mmdb.Refused as why:
+        wanted = f"; its first record has to be {table.header.decode().strip()}" if why.number == 61 else ""
+        raise Trouble(f"{moving.numbered(why)}{wanted}; no row of {path} went in", why.reason) from why
+    shell.note(f"{count} rows of {path} are in {name}")
+
+
+@dotted(".save TABLE FILE", "writes all rows of a table as a CSV file")
+def _save(shell: Shell, name: str, path: str) -> None:
+    table = table_of(shell.db, name)
+    with shell.bar(count_of(shell.db, name), "rows") as bar, written(path) as file, shell.interrupts.allowed():
+        file.write(table.header)
+        for piece in moving.records(shell.db, table):
+            Written(file, bar).write(piece)
+    shell.note(f"{name} is in {path}")
+
+
+@dotted(".read FILE", "does the lines of a file, with their blocks")
+def _read(shell: Shell, path: str) -> None:
+    done, refused = shell.done, shell.refused
+    with opened(path, shell.interrupts) as file:
+        shell.run_file(Stream(file, path))
+    refused = shell.refused - refused
+    shell.note(f"{path} is read: {shell.done - done} lines done, {refused} refused")
+
+
+@dotted(".dump FILE", "writes the whole database to a file")
+def _dump(shell: Shell, path: str) -> None:
+    with shell.bar(_all_rows(shell), "rows") as bar, written(path) as file, shell.interrupts.allowed():
+        dumping.write(shell.db, shell.settings.block, Written(file, bar))
+    shell.note(f"the database is in {path}")
+
+
+@dotted(".restore FILE", "makes an empty database that of a dump, or leaves it")
+def restore(shell: Shell, path: str) -> None:
+    if tables_of(shell.db):
+        raise Trouble("the database has tables, and only an empty one is restored into")
+    _open_dump(shell, path)
+
+
+@dotted(".open [FILE]", "begins an empty database in place of this one, or takes that of a dump")
+def _open(shell: Shell, path: str = "") -> None:
+    if path:
+        _open_dump(shell, path)
+        return
+    _move(shell, shell.settings, lambda db, bar: None)
+    shell.note("the database is empty")
+
+
+def _open_dump(shell: Shell, path: str) -> None:
+    with opened(path, shell.interrupts) as file:
+
+        def fill(db: mmdb.Database, bar: Bar) -> None:
+            dumping.restore(Read(file, bar), path, shell.settings.block, db)
+
+        _move(shell, shell.settings, fill, size_of(file))
+    shell.note(f"the database is that of {path}")
+
+
+@dotted(".policy [NAME]", "shows how plans are chosen, or moves all to another")
+def _policy(shell: Shell, name: str = "") -> None:
+    if not name:
+        shell.say(f"{shell.settings.policy}\n")
+        return
+    if name not in mmdb.POLICIES:
+        raise Trouble(f"a policy is one of {', '.join(mmdb.POLICIES)}")
+    settings = shell.settings._replace(policy=name)
+    _move(shell, settings, lambda db, bar: dumping.copy(shell.db, settings.block, db, bar), _all_rows(shell))
+    shell.note(f"the tables are in a new database, whose policy is {name}")
+
+
+def _all_rows(shell: Shell) -> int:
+    return sum(count_of(shell.db, name) for name in tables_of(shell.db))
+
+
+def _move(
+    shell: Shell, settings: Settings, fill: Callable[[mmdb.Database, Bar], None], total: Optional[int] = None
+) -> None:
+    """Takes a new database once it is filled. Until then the one that is there stays."""
+    new = settings.opened()
+    try:
+        with shell.bar(total, "") as bar, shell.interrupts.allowed():
+            fill(new, bar)
+    except BaseException:
+        new.close()
+        raise
+    shell.take(new, settings)

@@ -1,0 +1,108 @@
+"""Commands that show what there is: help, tables, indexes, and rows of a table."""
+
+from __future__ import annotations
+
+from itertools import islice
+from typing import TYPE_CHECKING, List
+
+import mmdb
+
+from . import helping
+from .dotted import dotted
+from .moving import all_keys, answer, keys_in
+from .schema import Table, table_of, tables_of
+from .trouble import Trouble
+
+if TYPE_CHECKING:
+    from .shell import Shell
+
+# How many rows .head shows where it isn't said.
+_FEW = "10"
+
+
+@dotted(".help [WORD]", "tells of a word of the language or of the shell, or of a refusal by its number")
+def _help(shell: Shell, word: str = "") -> None:
+    lines = list(helping.help_for(word) if word else helping.overview())
+    if not lines:
+        raise Trouble(f"there is no help for {word}; .help lists what there is")
+    shell.say("\n".join(lines) + "\n")
+
+
+@dotted(".tables", "lists the tables by name")
+def _tables(shell: Shell) -> None:
+    shell.say("".join(f"{name}\n" for name in tables_of(shell.db)))
+
+
+@dotted(".schema [TABLE]", "shows the lines that declare tables and indexes")
+def _schema(shell: Shell, name: str = "") -> None:
+    tables = [table_of(shell.db, name)] if name else list(tables_of(shell.db).values())
+    shell.say("".join(f"{line}\n" for table in tables for line in table.lines))
+
+
+@dotted(".indexes [TABLE]", "shows how the indexes of each table, or of one, stand")
+def _indexes(shell: Shell, name: str = "") -> None:
+    rows: List[List[mmdb.Value]] = []
+    for table in [table_of(shell.db, name)] if name else tables_of(shell.db).values():
+        for place, index in enumerate(shell.db.indexes(table.name)):
+            declared = "by index" if place else "with the table"
+            rows.append([table.name, index.column, index.kind, declared, *index[2:]])
+    shell.show(("table", "column", "kind", "declared", *mmdb.Index._fields[2:]), rows)
+
+
+@dotted(
+    ".count [TABLE|SELECT]",
+    "shows how many rows each table has, or one, or a select",
+    ".count emp\n.count select * from emp where dept = 10",
+    is_open=True,
+)
+def _count(shell: Shell, what: str = "") -> None:
+    if not what:
+        shell.show(("table", "rows"), [[name, count_of(shell.db, name)] for name in tables_of(shell.db)])
+        return
+    shell.say(f"{_selected(shell, what) if _is_select(what) else count_of(shell.db, what)}\n")
+
+
+def count_of(db: mmdb.Database, name: str) -> int:
+    """How many rows a table has, which the tree of its key tells."""
+    return db.indexes(name)[0].rows
+
+
+def _selected(shell: Shell, line: str) -> int:
+    """How many rows a select has."""
+    bound, values = shell.parameters.bind(line.encode())
+    if values:
+        return len(shell.db.select(bound.decode(), *values))
+    told = answer(shell.db, bound)
+    return int(told[len(b"rows ") : told.index(b"\n")])
+
+
+@dotted(
+    ".head [N] TABLE|SELECT",
+    "shows the first rows of a table, or of a select: 10, or N",
+    ".head emp\n.head 3 select * from emp where dept = 10",
+    is_open=True,
+)
+def _head(shell: Shell, word: str, rest: str = "") -> None:
+    number, what = (word, rest) if word.isdecimal() else (_FEW, f"{word} {rest}".rstrip(" "))
+    if not what:
+        raise Trouble("it is written .head [N] TABLE|SELECT")
+    most = int(number[:9])
+    if _is_select(what):
+        line, values = shell.parameters.bind(what.encode())
+        rows = shell.db.select(line.decode(), *values)
+    else:
+        rows = _first_rows(shell.db, table_of(shell.db, what), most)
+    shell.show(rows.names, rows[:most])
+
+
+def _first_rows(db: mmdb.Database, table: Table, most: int) -> mmdb.Rows:
+    """The first rows of a table, without a look at the others: those up to the last of the first keys."""
+    line = f"select * from {table.name}"
+    if most and count_of(db, table.name) > most:
+        keys = keys_in(answer(db, all_keys(table)), table.key.kind)
+        return db.select(f"{line} where {table.key.name} <= ?", next(islice(keys, most - 1, None)))
+    return db.select(line)
+
+
+def _is_select(what: str) -> bool:
+    return what.startswith("select ")

@@ -1,0 +1,142 @@
+"""How rows are shown: as a table, a list, CSV, JSON, Markdown, HTML or lines of the language.
+
+A null differs from each text in every mode: in tables and lists it is an empty cell, and the empty text is `''`; in CSV
+it is an empty field, and the empty text is `""`; with tabs it is `\\N`; elsewhere it is `null`.
+"""
+
+from __future__ import annotations
+
+import re
+from itertools import chain, islice
+from typing import Callable, Dict, Iterable, Iterator, List
+
+import mmdb
+
+from . import boxes
+from .boxes import Cells, Look, width
+from .moving import spelled
+from .showing import Names, Rows, cell
+
+#: A mode gives names and rows in pieces of text, the last of which ends a line.
+Mode = Callable[[Names, Rows, Look], Iterator[str]]
+
+# Of rows without types so many are looked at for numbers.
+_LOOKED_AT = 1000
+
+_NEEDS_QUOTES = re.compile('[",\r\n]').search
+_IN_MARKDOWN = re.compile(r"[\\`*_{}\[\]<>#|~&]")
+_IN_TABS = {"\\": "\\\\", "\t": "\\t", "\n": "\\n", "\r": "\\r"}
+_IN_HTML = {"&": "&amp;", "<": "&lt;", ">": "&gt;", '"': "&quot;"}
+
+
+def _cells_of(names: Names, rows: Rows) -> Cells:
+    """What stands in the cells of a table, and which columns have numbers."""
+    types = getattr(rows, "types", None)
+    if types is None:
+        first = list(islice(rows, _LOOKED_AT))
+        numbers = [any(isinstance(row[at], int) for row in first) for at in range(len(names))]
+    else:
+        numbers = [kind is int for kind in types]
+    return Cells(names, (list(map(cell, row)) for row in rows), numbers)
+
+
+def _box(names: Names, rows: Rows, look: Look) -> Iterator[str]:
+    return boxes.box(_cells_of(names, rows), look)
+
+
+def _column(names: Names, rows: Rows, look: Look) -> Iterator[str]:
+    return boxes.columns(_cells_of(names, rows), look)
+
+
+def _line(names: Names, rows: Rows, _look: Look) -> Iterator[str]:
+    """Each value on a line of its own, behind the name of its column, and an empty line between rows."""
+    places = max(map(len, names))
+    before = ""
+    for row in rows:
+        lines = (f"{name:>{places}} = {cell(value)}".rstrip(" ") + "\n" for name, value in zip(names, row))
+        yield before + "".join(lines)
+        before = "\n"
+
+
+def _csv(names: Names, rows: Rows, _look: Look) -> Iterator[str]:
+    yield ",".join(names) + "\n"
+    for row in rows:
+        yield (",".join(map(_field, row)) or '""') + "\n"
+
+
+def _field(value: mmdb.Value) -> str:
+    if not isinstance(value, str):
+        return "" if value is None else str(value)
+    return '"' + value.replace('"', '""') + '"' if not value or _NEEDS_QUOTES(value) else value
+
+
+def _tabs(names: Names, rows: Rows, _look: Look) -> Iterator[str]:
+    """What PostgreSQL reads by COPY."""
+    escapes = str.maketrans(_IN_TABS)
+
+    def field(value: mmdb.Value) -> str:
+        return "\\N" if value is None else str(value).translate(escapes)
+
+    for row in chain([names], rows):
+        yield "\t".join(map(field, row)) + "\n"
+
+
+def _json(names: Names, rows: Rows, _look: Look) -> Iterator[str]:
+    """A list of objects, one a line."""
+    import json
+
+    before = "["
+    for row in rows:
+        yield before + json.dumps(dict(zip(names, row)), ensure_ascii=False)
+        before = ",\n "
+    yield "[]\n" if before == "[" else "]\n"
+
+
+def _markdown(names: Names, rows: Rows, _look: Look) -> Iterator[str]:
+    cells = _cells_of(names, rows)
+    yield _row_of_markdown(cells.names)
+    yield "|" + "|".join("---:" if is_number else "---" for is_number in cells.numbers) + "|\n"
+    for row in cells.rows:
+        yield _row_of_markdown(row)
+
+
+def _row_of_markdown(row: Iterable[str]) -> str:
+    return "|" + "|".join(f" {_IN_MARKDOWN.sub(_escaped, shown)} " for shown in row) + "|\n"
+
+
+def _escaped(mark: "re.Match[str]") -> str:
+    return "\\" + mark[0]
+
+
+def _html(names: Names, rows: Rows, _look: Look) -> Iterator[str]:
+    """The rows of a table of HTML, without the table around them."""
+    escapes = str.maketrans(_IN_HTML)
+    yield "<tr>" + "".join(f"<th>{name.translate(escapes)}</th>" for name in names) + "</tr>\n"
+    for row in rows:
+        yield "<tr>" + "".join(f"<td>{cell(value).translate(escapes)}</td>" for value in row) + "</tr>\n"
+
+
+def _insert(names: Names, rows: Rows, look: Look) -> Iterator[str]:
+    """Lines of the language that put the rows into a table: the one that was named, or that of all columns."""
+    tables: List[str] = list({name.rpartition(".")[0] for name in names})
+    table = look.table or (len(tables) == 1 and tables[0]) or "rows"
+    for row in rows:
+        values = ", ".join("null" if value is None else spelled(value) for value in row)
+        yield f"insert {table} ({values})\n"
+
+
+#: The modes by name.
+MODES: Dict[str, Mode] = {
+    "box": _box,
+    "column": _column,
+    "csv": _csv,
+    "html": _html,
+    "insert": _insert,
+    "json": _json,
+    "line": _line,
+    "markdown": _markdown,
+    "tabs": _tabs,
+}
+
+#: The modes in which the rows are counted at a terminal.
+COUNTED = frozenset(("box", "column", "line"))

@@ -1,0 +1,177 @@
+"""Where the answers of the shell go: files, commands and pages, and the bar of what takes long."""
+
+import io
+import os
+import unittest
+import unittest.mock
+
+from support import shells
+from support.shells import COMPANY
+
+from mmdb_shell import bars
+
+CSV = "emp.id,emp.name,emp.dept\n1,Ann,10\n2,\"\",\n"
+
+
+class Elsewhere(shells.Piped):
+    """Answers go to files and commands."""
+
+    def read(self, name):
+        return (self.room / name).read_text()
+
+    def test_output(self):
+        out = f"'{self.room}/an output'"
+        lines = [*COMPANY, f".output {out}", "select * from emp", ".print more", "tables ?", ".output", ".print shown"]
+        self.check(lines, ["shown"], ["line 10: error 20 not a command: column 8: wanted the end of the line, found ?"])
+        self.assertEqual(self.read("an output"), CSV + "more\n")
+        self.check([f".output {self.room}/left", "table t (id int)", ".tables"], [])
+        self.assertEqual(self.read("left"), "t\n")
+
+    def test_once(self):
+        (self.room / "one").write_text("old")
+        lines = [*COMPANY, f".once {self.room}/one", "", "# a comment", "select * from emp", ".print shown"]
+        self.check(lines, ["shown"])
+        self.assertEqual(self.read("one"), CSV)
+        self.check([f".once {self.room}/one", "selct", ".print shown"], ["shown"], ["line 2: error 20 not a command: column 1: selct is no command: is select meant?"])
+        self.assertEqual(self.read("one"), CSV)
+
+    def test_a_command(self):
+        lines = [*COMPANY, f".once |sort -r > '{self.room}/sorted'", "select * from emp", ".output | tr a-z A-Z", ".print 'in capitals'", ".output", ".print shown"]
+        self.check(lines, ["IN CAPITALS", "shown"])
+        self.assertEqual(self.read("sorted"), "".join(sorted(CSV.splitlines(True), reverse=True)))
+
+    def test_a_command_that_wants_no_more(self):
+        rows = [f"insert t ({at})" for at in range(200)]
+        lines = ["table t (id int)", *rows, ".output |head -n 1", *["select * from t"] * 200, ".output", ".print shown"]
+        self.check(lines, ["t.id", "shown"])
+
+    def test_what_is_refused(self):
+        lines = [".output", f".output {self.room}/no/x", f".once {self.room}", ".once |", ".once", ".output 'x", ".once |exit 3", ".print x", ".once |kill -9 $$", ".print x"]
+        refused = [
+            f"line 2: there is no {self.room}/no/x",
+            f"line 3: {self.room} is a folder",
+            "line 4: behind | a command is missing",
+            "line 5: it is written .once PLACE",
+            "line 6: a quote mark is left open",
+            "line 8: exit 3 ended with status 3",
+            "line 10: kill -9 $$ was ended by the signal 9",
+        ]
+        self.check(lines, [], refused)
+
+    def test_a_place_that_is_full(self):
+        lines = ["table t (id int, s text)", f"insert t (1, '{'x' * 1000}')", ".output /dev/full", *["select * from t"] * 20, ".output", ".print shown"]
+        ran = self.ran(lines)
+        self.assertEqual(ran.returncode, 1)
+        self.assertEqual(ran.stdout.decode().splitlines()[-1], "shown")
+        self.assertRegex(ran.stderr.decode(), r"\Ammdb-shell: line \d+: /dev/full: No space left on device\n\Z")
+
+
+class Shown(shells.AtATerminal):
+    """Modes, pages and the width of a terminal."""
+
+    def test_pages(self):
+        pager = self.file("pager", "#!/bin/sh\nwc -l\necho paged\n")
+        os.chmod(pager, 0o755)
+        shell = self.typed(PAGER=pager, COLUMNS="40", LINES="12")
+        shell.ask("table t (id int)")
+        for at in range(20):
+            shell.ask(f"insert t ({at})")
+        self.assertEqual(shell.ask("select * from t"), "24\npaged\n20 rows\n")
+        self.assertIn("│    1 │\n", shell.ask("select * from t where id < 3"))
+        shell.ask(".pager off")
+        self.assertIn("│   19 │\n", shell.ask("select * from t"))
+        shell.ask(".pager on")
+        shell.ask(f".once {self.room}/rows")
+        self.assertEqual(shell.ask("select * from t"), "")
+        self.assertEqual((self.room / "rows").read_text().count("\n"), 24)
+        shell.type(".quit\n")
+        self.assertEqual(shell.end(), 0)
+
+    def test_a_pager_that_is_left(self):
+        shell = self.typed(PAGER="head -n 1", LINES="12")
+        shell.ask("table t (id int)")
+        for at in range(20):
+            shell.ask(f"insert t ({at})")
+        self.assertTrue(shell.ask("select * from t").startswith("┌──────┐\n"))
+        self.assertEqual(shell.ask(".print shown"), "shown\n")
+        shell.type(".quit\n")
+        self.assertEqual(shell.end(), 0)
+
+    def test_a_narrow_terminal(self):
+        shell = self.typed(COLUMNS="24", LINES="24")
+        shell.ask("table t (id int, s text)")
+        shell.ask("insert t (1, 'one two three four')")
+        box = "┌──────┬───────────────┐\n│ t.id │ t.s           │\n├──────┼───────────────┤\n│    1 │ one two three │\n│      │ four          │\n└──────┴───────────────┘\n1 row\n"
+        self.assertEqual(shell.ask("select * from t"), box)
+        shell.ask(".mode column")
+        self.assertEqual(shell.ask("select * from t"), "t.id  t.s\n----  ------------------\n   1  one two three four\n1 row\n")
+        shell.ask(f".once {self.room}/wide")
+        shell.ask("select * from t")
+        shell.type(".quit\n")
+        self.assertEqual(shell.end(), 0)
+
+    def test_plain_boxes(self):
+        for said, variables in ((["--plain"], {}), ([], {"PYTHONIOENCODING": "ascii"})):
+            shell = self.typed(*said, **variables)
+            shell.ask("table t (id int)")
+            self.assertEqual(shell.ask("select * from t"), "+------+\n| t.id |\n+------+\n+------+\n0 rows\n")
+            shell.type(".quit\n")
+            self.assertEqual(shell.end(), 0)
+
+
+class Bars(unittest.TestCase):
+    """The bar of what takes over a second."""
+
+    def drawn(self, total, unit, counts, seconds):
+        """What a bar writes whose clock goes by so many seconds at each look."""
+        written, clock = [], iter(range(0, 10_000))
+        with unittest.mock.patch.object(bars.time, "monotonic", side_effect=lambda: next(clock) * seconds):
+            bar = bars.Bar(written.append, total, unit)
+            for count in counts:
+                bar.add(count)
+            bar.end()
+        return "".join(written)
+
+    def test_a_part_of_all(self):
+        shown = self.drawn(100, "bytes", [50, 25, 25], 1).split("\r")
+        half = "[" + "#" * 15 + "-" * 15 + "] 50 %"
+        self.assertEqual(shown[1], half)
+        self.assertEqual(shown[-3], "[" + "#" * 30 + "] 100 %")
+        self.assertEqual(shown[-2:], [" " * len(shown[-3]), ""])
+
+    def test_what_has_no_total(self):
+        self.assertTrue(self.drawn(None, "bytes", [1_000, 234], 1).startswith("\r1,000 bytes\r1,234 bytes\r"))
+
+    def test_what_is_done_soon(self):
+        self.assertEqual(self.drawn(10, "rows", [1] * 10, 0.001), "")
+
+    def test_files_are_counted(self):
+        for read in (lambda file: file.read(), lambda file: file.readline()):
+            bar = bars.Bar(None, 7, "bytes")
+            read(bars.Read(io.BytesIO(b"id\n123\n"), bar))
+            self.assertGreater(bar._done, 2)
+        bar = bars.Bar(None, 2, "rows")
+        bars.Written(io.BytesIO(), bar).write(b"1\n2\n")
+        self.assertEqual(bar._done, 2)
+
+
+class LongWork(shells.AtATerminal):
+    """A bar at a terminal, and Ctrl-C behind it."""
+
+    def test_a_load_from_a_slow_pipe(self):
+        shell = self.typed()
+        shell.ask("table t (id int)")
+        os.mkfifo(self.room / "pipe")
+        shell.type(f".load t {self.room}/pipe\n")
+        shell.wait_for("pipe\n")
+        with open(self.room / "pipe", "wb") as pipe:
+            pipe.write(b"id\n")
+            for start in range(0, 10_000_000, 200_000):
+                pipe.write(b"".join(b"%d\n" % at for at in range(start, start + 200_000)))
+                pipe.flush()
+                if shell.sees(" bytes"):
+                    break
+            self.assertIn("interrupted\n", shell.interrupt())
+        self.assertEqual(shell.ask(".count t"), "0\n")
+        shell.type(".quit\n")
+        self.assertEqual(shell.end(), 0)
