@@ -6,7 +6,6 @@ The extension `_mmdb` has the same classes, and replaces this if it was built.
 from __future__ import annotations
 
 import ctypes
-import ctypes.util
 import os
 import struct
 import threading
@@ -66,6 +65,9 @@ def _path() -> str:
         path = os.path.join(place, _NAME)
         if os.path.exists(path):
             return path
+    # (it loads many modules, and is seldom needed)
+    import ctypes.util
+
     return ctypes.util.find_library("mmdb") or _NAME
 
 
