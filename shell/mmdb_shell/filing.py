@@ -42,6 +42,27 @@ def _save(shell: Shell, name: str, path: str) -> None:
     shell.note(f"{name} is in {path}")
 
 
+@dotted(
+    ".import FILE TABLE [OPTION..]",
+    "puts in the rows of a CSV file by the names of its columns, and makes the table where there is none",
+    "--separator S      what stands between fields, as ';' or tab; else a comma\n"
+    "--columns A,B,..   the names of the file's columns, where its first record has none; - leaves one out\n"
+    "--skip N           passes over the first N records\n"
+    "--key A            makes this column the key of a new table; else the first one is\n"
+    "A column of a new table is of integers where each field of it is one, else of texts.",
+)
+def _import(shell: Shell, path: str, name: str, *options: str) -> None:
+    # (it loads the module csv, which most runs need none of)
+    from . import importing
+
+    told = importing.options_of(options)
+    with opened(path, shell.interrupts) as file, told_of(path), shell.bar(size_of(file), "bytes") as bar:
+        count, left_out = importing.Import(shell, name, told).run(file, path, bar)
+    shell.note(f"{count} rows of {path} are in {name}")
+    if left_out:
+        shell.note(f"{name} has no column for {', '.join(left_out)}")
+
+
 @dotted(".read FILE", "does the lines of a file, with their blocks")
 def _read(shell: Shell, path: str) -> None:
     done, refused = shell.done, shell.refused

@@ -1,0 +1,246 @@
+"""The import of a CSV file by the names of its columns, into a table that is there or is made for it."""
+
+from __future__ import annotations
+
+import csv
+import io
+import re
+from itertools import islice
+from typing import TYPE_CHECKING, BinaryIO, Dict, Iterator, List, NamedTuple, Optional, Sequence, TextIO, Tuple
+
+import mmdb
+
+from .bars import Bar, Read
+from .moving import Load, answer, numbered
+from .schema import Table, table_of, tables_of
+from .trouble import Trouble
+from .words import RESERVED
+
+if TYPE_CHECKING:
+    from .shell import Shell
+
+# Up to how many bytes a field of the file has. (A text of a table has 1,024.)
+_LONGEST_FIELD = 1 << 24
+_LONGEST_NAME = 32
+_INTEGER = re.compile(r"-?(?:0|[1-9]\d{0,18})", re.ASCII)
+_LEAST, _GREATEST = -(1 << 63), (1 << 63) - 1
+# How many records are written into one piece of a load.
+_RECORDS = 4096
+_LEFT_OUT = "-"
+
+
+class Options(NamedTuple):
+    """How the file is written, and which column is the key of a new table."""
+
+    separator: str = ","
+    #: The names of the columns, where the file has none.
+    columns: Sequence[str] = ()
+    skip: int = 0
+    key: str = ""
+
+
+def options_of(words: Sequence[str]) -> Options:
+    """The options that words spell."""
+    options = Options()
+    if len(words) % 2:
+        raise Trouble(f"a value is missing behind {words[-1]}")
+    for word, value in zip(words[::2], words[1::2]):
+        if word == "--separator":
+            options = options._replace(separator=_separator(value))
+        elif word == "--columns":
+            options = options._replace(columns=[name.strip() for name in value.split(",")])
+        elif word == "--skip" and value.isdecimal():
+            options = options._replace(skip=int(value))
+        elif word == "--key":
+            options = options._replace(key=value)
+        else:
+            raise Trouble(f"there is no option {word} {value}; .help import lists them")
+    return options
+
+
+def _separator(spelled: str) -> str:
+    separator = {"tab": "\t", "\\t": "\t"}.get(spelled, spelled)
+    if len(separator) != 1 or separator in '"\r\n':
+        raise Trouble("a separator is one character, but no quote mark and no end of a line; tab is spelled tab")
+    return separator
+
+
+class Import:
+    """One import of a file."""
+
+    def __init__(self, shell: Shell, name: str, options: Options) -> None:
+        self._shell = shell
+        self._name = name
+        self._options = options
+
+    def run(self, file: BinaryIO, path: str, bar: Bar) -> Tuple[int, List[str]]:
+        """Puts in the rows, and gives how many they are, and the columns of the file that the table has no place for.
+        If it raises, no row is in, and a table that was made is gone."""
+        csv.field_size_limit(_LONGEST_FIELD)
+        table = tables_of(self._shell.db).get(self._name)
+        made = table is None
+        if table is None:
+            table = self._made(file, bar)
+        try:
+            return self._loaded(table, file, path, bar)
+        except BaseException:
+            if made:
+                answer(self._shell.db, f"drop table {table.name}")
+            raise
+
+    def _loaded(self, table: Table, file: BinaryIO, path: str, bar: Bar) -> Tuple[int, List[str]]:
+        names, records = self._records(file, bar)
+        order = [_place(column.name, names) for column in table.columns]
+        missing = [column.name for column, at in zip(table.columns, order) if at is None and not column.takes_null]
+        if missing:
+            raise Trouble(f"{path} has no column for {', '.join(missing)} of {table.name}; it has {', '.join(names)}")
+        load = Load(self._shell.db, table, self._shell.interrupts)
+        try:
+            count = load.run(_Pieces(table.header, records, len(names), order), self._shell.settings.block)
+        except mmdb.Refused as why:
+            raise Trouble(f"{numbered(why)}; no row of {path} went in", why.reason) from why
+        return count, [name for at, name in enumerate(names) if at not in order and name != _LEFT_OUT]
+
+    def _records(self, file: BinaryIO, bar: Bar) -> Tuple[List[str], Iterator[List[str]]]:
+        """The names of the file's columns, and its records behind them."""
+        text = io.TextIOWrapper(_Raw(Read(file, bar)), "utf-8-sig", "surrogateescape", newline="")
+        records = _parsed(text, self._options.separator)
+        for _ in range(self._options.skip):
+            next(records, None)
+        given = list(self._options.columns) or [name.strip() for name in next(records, [])]
+        if not given:
+            raise Trouble("the file is empty: its first record has the names of its columns")
+        return _names_of(given), records
+
+    def _made(self, file: BinaryIO, bar: Bar) -> Table:
+        """The table that is made for the file, after a look at all its fields."""
+        if not file.seekable():
+            raise Trouble(f"{self._name} is no table, and to make it the file is read twice, which a pipe can't be")
+        names, records = self._records(file, bar)
+        kinds = _kinds(names, records, self._shell)
+        file.seek(0)
+        bar.again()
+        key = self._options.key or next(name for name in names if name != _LEFT_OUT)
+        if key not in kinds:
+            raise Trouble(f"the file has no column {key}; it has {', '.join(kinds)}")
+        order = [key, *(name for name in kinds if name != key)]
+        declared = ", ".join(f"{name} {kinds[name]}" for name in order)
+        answer(self._shell.db, f"table {self._name} ({declared})")
+        return table_of(self._shell.db, self._name)
+
+
+def _parsed(text: TextIO, separator: str) -> Iterator[List[str]]:
+    """The records of a CSV, without empty lines."""
+    reader = csv.reader(text, delimiter=separator)
+    try:
+        yield from filter(None, reader)
+    except csv.Error as why:
+        raise Trouble(f"line {reader.line_num} of the file is no CSV: {why}") from why
+
+
+def _place(name: str, names: List[str]) -> Optional[int]:
+    """Where the file has a column of that name, else of one that differs by small and capital letters alone."""
+    if name in names:
+        return names.index(name)
+    alike = [at for at, other in enumerate(names) if other.lower() == name.lower()]
+    return alike[0] if len(alike) == 1 else None
+
+
+def _kinds(names: List[str], records: Iterator[List[str]], shell: Shell) -> Dict[str, str]:
+    """The types of the columns: integers, where each field is one that an integer is written as, and else texts."""
+    is_number = [True] * len(names)
+    is_empty = True
+    with shell.interrupts.allowed():
+        for record in records:
+            is_empty = False
+            for at, field in enumerate(record[: len(names)]):
+                if is_number[at] and not _is_integer(field):
+                    is_number[at] = False
+    kinds = {}
+    for name, is_int in zip(names, is_number):
+        if name != _LEFT_OUT:
+            kinds[name] = "int" if is_int and not is_empty else "text"
+    return kinds
+
+
+def _is_integer(field: str) -> bool:
+    """Whether a field is an integer that comes back as it was. (007 doesn't, so it is a text.)"""
+    return bool(_INTEGER.fullmatch(field)) and field != "-0" and _LEAST <= int(field) <= _GREATEST
+
+
+def _names_of(given: Sequence[str]) -> List[str]:
+    """Names of the language for those of a file, each once."""
+    names: List[str] = []
+    for spelled in given:
+        if spelled == _LEFT_OUT:
+            names.append(spelled)
+            continue
+        name = re.sub(r"[^A-Za-z0-9_]+", "_", spelled).strip("_") or "column"
+        if name[0].isdigit() or name in RESERVED:
+            name = f"_{name}"
+        names.append(_unused(name[:_LONGEST_NAME], names))
+    return names
+
+
+def _unused(name: str, names: Sequence[str]) -> str:
+    number, unused = 1, name
+    while unused in names:
+        number += 1
+        unused = f"{name[: _LONGEST_NAME - len(str(number)) - 1]}_{number}"
+    return unused
+
+
+class _Raw(io.RawIOBase):
+    """What reads as a file, for a reader of texts."""
+
+    def __init__(self, file: Read) -> None:
+        super().__init__()
+        self._file = file
+
+    def readable(self) -> bool:
+        return True
+
+    def readinto(self, room: bytearray) -> int:  # type: ignore[override]
+        content = self._file.read(len(room))
+        room[: len(content)] = content
+        return len(content)
+
+
+class _Pieces:
+    """The records of a file, with their fields in the order of a table's columns, as a load reads them."""
+
+    def __init__(self, header: bytes, records: Iterator[List[str]], fields: int, order: Sequence[Optional[int]]) -> None:
+        self._records = records
+        #: How many fields a record has, and where those of the table are.
+        self._fields = fields
+        self._order = order
+        self._number = 0
+        self._written = io.StringIO(newline="")
+        self._writer = csv.writer(self._written, lineterminator="\n")
+        self._held = header
+        self._is_at_end = False
+
+    def read(self, count: int, /) -> bytes:
+        """At most so many bytes, and none at the end."""
+        while not self._is_at_end and len(self._held) < count:
+            self._held += self._more()
+        piece, self._held = self._held[:count], self._held[count:]
+        return piece
+
+    def _more(self) -> bytes:
+        """The next records."""
+        records = list(islice(self._records, _RECORDS))
+        self._is_at_end = not records
+        for record in records:
+            self._number += 1
+            if len(record) != self._fields:
+                raise Trouble(f"record {self._number} has {_counted(len(record))}, and the file {_counted(self._fields)}")
+            self._writer.writerow(["" if at is None else record[at] for at in self._order])
+        text = self._written.getvalue()
+        self._written.seek(0)
+        self._written.truncate()
+        return text.encode("utf-8", "surrogateescape")
+
+
+def _counted(fields: int) -> str:
+    return "1 field" if fields == 1 else f"{fields} fields"
