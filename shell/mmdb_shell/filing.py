@@ -63,6 +63,17 @@ def _import(shell: Shell, path: str, name: str, *options: str) -> None:
         shell.note(f"{name} has no column for {', '.join(left_out)}")
 
 
+@dotted(".export sql FILE", "writes the whole database as SQL, which PostgreSQL and SQLite take")
+def _export(shell: Shell, form: str, path: str) -> None:
+    from . import exporting
+
+    if form != "sql":
+        raise Trouble("it is written .export sql FILE")
+    with shell.bar(_all_rows(shell), "rows") as bar, written(path) as file, shell.interrupts.allowed():
+        exporting.write(shell.db, Written(file, bar))
+    shell.note(f"the database is in {path}")
+
+
 @dotted(".read FILE", "does the lines of a file, with their blocks")
 def _read(shell: Shell, path: str) -> None:
     done, refused = shell.done, shell.refused
