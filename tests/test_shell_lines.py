@@ -3,7 +3,7 @@
 import io
 import unittest
 
-from support import harness, shells
+from support import shells
 from support.shells import COMPANY
 
 from mmdb_shell import lines, reading

@@ -13,7 +13,7 @@ from typing import Callable, Dict, Iterable, Iterator, List
 import mmdb
 
 from . import boxes
-from .boxes import Cells, Look, width
+from .boxes import Cells, Look
 from .moving import spelled
 from .showing import Names, Rows, cell
 
