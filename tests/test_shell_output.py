@@ -2,13 +2,15 @@
 
 import io
 import os
+import signal
 import unittest
 import unittest.mock
 
 from support import shells
+from support.binding import mmdb
 from support.shells import COMPANY
 
-from mmdb_shell import bars
+from mmdb_shell import bars, reading, selecting
 
 CSV = "emp.id,emp.name,emp.dept\n1,Ann,10\n2,\"\",\n"
 
@@ -155,6 +157,66 @@ class Bars(unittest.TestCase):
         self.assertEqual(bar._done, 2)
 
 
+class ByRange(shells.InThisProcess):
+    """The rows of a whole table come range by range, and are those of the select."""
+
+    def filled(self, rows):
+        shell = self.shell(block=1 << 20)
+        self.do(shell, "table u (id int)", "insert u (1)", "table t (id int, s text, u ref u null)", "table k (k text, n int)")
+        shell.db.load("t", [(at, f"s{at % 7}", None if at % 3 else 1) for at in range(-rows // 2, rows // 2)])
+        shell.db.load("k", [("\n" * (at % 3) + f"'{at}?", at) for at in range(rows)])
+        return shell
+
+    def test_the_rows_are_the_same(self):
+        shell = self.filled(50)
+        with unittest.mock.patch.multiple(selecting, LEAST=10, _ROWS=7):
+            for line in ("select * from t", " select s , id from t\t", "select u from t\r", "select t.id from t", "select n from k", "select * from k"):
+                with self.subTest(line):
+                    found, expected = selecting.by_range(shell.db, line.encode()), shell.db.execute(line)
+                    self.assertEqual((list(found), len(found), found.names, found.types), (expected, 50, expected.names, expected.types))
+
+    def test_other_selects_are_read_at_once(self):
+        shell = self.filled(50)
+        with unittest.mock.patch.multiple(selecting, LEAST=10):
+            for line in ("select distinct s from t", "select * from t where id > 3", "select * from t join u on t.u = u.id", "select * from u", "select * from nothing", "select 'a' from t"):
+                self.assertIsNone(selecting.by_range(shell.db, line.encode()))
+            for line in ("select nothing from t", "select id, id from t", "select id s from t"):
+                with self.assertRaises(mmdb.Refused) as ranges:
+                    selecting.by_range(shell.db, line.encode())
+                with self.assertRaises(mmdb.Refused) as whole:
+                    shell.db.execute(line)
+                self.assertEqual((ranges.exception.number, ranges.exception.reason), (whole.exception.number, whole.exception.reason))
+
+    def test_the_shell_shows_them(self):
+        shell = self.filled(selecting.LEAST)
+        for mode in ("csv", "json", "box"):
+            self.do(shell, f".mode {mode}", "select * from t", said=None)
+            shown = shell._out.getvalue()
+            self.do(shell, ".timer on", "select * from t", ".timer off", said=None)
+            self.assertEqual(shown, shell._out.getvalue().partition("time: ")[0])
+        self.do(shell, "select nothing from t", refused="error 32 no such column: nothing is no column of t")
+
+
+class Late(shells.InThisProcess):
+    """Ctrl-C that comes while the library is at a line."""
+
+    def test_a_change_that_is_done_is_said_to_be_done(self):
+        shell = self.shell()
+        typed = reading.Terminal()
+        self.do(shell, "table t (id int)", "insert t (1)")
+        with unittest.mock.patch("builtins.input", side_effect=["insert t (2)", "select * from t", "select id from t", EOFError]):
+            execute = shell.db.answer
+
+            def answer(line, block=None):
+                shell.interrupts.on_interrupt(signal.SIGINT, None)
+                return execute(line, block)
+
+            with unittest.mock.patch.object(shell.db, "answer", answer):
+                shell.output.say("")
+                shell.run(typed)
+        self.assertEqual(shell._out.getvalue(), "ok 1\nt.id\n1\n2\nt.id\n1\n2\n")
+
+
 class LongWork(shells.AtATerminal):
     """A bar at a terminal, and Ctrl-C behind it."""
 
@@ -173,5 +235,56 @@ class LongWork(shells.AtATerminal):
                     break
             self.assertIn("interrupted\n", shell.interrupt())
         self.assertEqual(shell.ask(".count t"), "0\n")
+        shell.type(".quit\n")
+        self.assertEqual(shell.end(), 0)
+
+    def check_interrupted(self, shell, line):
+        """A line that goes on until Ctrl-C, which ends it and nothing else."""
+        shell.type(line + "\n")
+        shell.wait_for(line + "\n")
+        self.assertIn("interrupted\n", shell.interrupt())
+        self.assertEqual(shell.ask(".count t"), "50000\n")
+
+    def test_ctrl_c_ends_what_reads_and_writes(self):
+        dump = self.file("dump", "# mmdb dump\ntable t (id int)\n")
+        shell = self.typed()
+        shell.ask("table t (id int)")
+        rows = self.file("rows", "id\n" + "".join(f"{at}\n" for at in range(50_000)))
+        self.assertEqual(shell.ask(f".load t {rows}"), f"50000 rows of {rows} are in t\n")
+        os.mkfifo(self.room / "pipe")
+        for line in ("save t", "dump", "export sql", "output", "once", "load t", "open", "read"):
+            with self.subTest(line):
+                self.check_interrupted(shell, f".{line} {self.room}/pipe")
+        self.check_interrupted(shell, f".import {self.room}/pipe t")
+        self.assertIn("is a part of a dump", shell.ask(f".open {dump}"))
+        shell.type("select * from t\n")
+        shell.wait_for("│     9 │\n")
+        self.assertIn("interrupted\n", shell.interrupt())
+        self.assertEqual(shell.ask(".count t"), "50000\n")
+        shell.type(".quit\n")
+        self.assertEqual(shell.end(), 0)
+
+
+class Plainly(shells.AtATerminal):
+    """A terminal that can do little."""
+
+    def test_without_readline(self):
+        self.file("readline.py", "raise ImportError\n")
+        where = {"PYTHONPATH": str(self.room), "TERM": "dumb"}
+        shell = self.typed("--plain", **where)
+        shell.ask("table t (id int)")
+        shell.type("insert t (1); select *\n")
+        shell.wait_for(" ...> ")
+        shell.type("from t\n")
+        shell.wait_for("+------+\n| t.id |\n+------+\n|    1 |\n+------+\n1 row\nmmdb> ")
+        shell.type("sel\x7f\x7f\x7f.quit\n")
+        self.assertEqual(shell.end(), 0)
+        self.assertFalse((self.room / "state").exists())
+        self.assertNotIn("\x1b", shell.seen)
+
+    def test_no_colours(self):
+        shell = self.typed(TERM="xterm-256color")
+        shell.ask("table t (id int)")
+        self.assertNotIn("\x1b[3", shell.ask("select * from t") + shell.ask("select frm t"))
         shell.type(".quit\n")
         self.assertEqual(shell.end(), 0)

@@ -120,9 +120,10 @@ class Folded(unittest.TestCase):
                 self.assertEqual(sum(line.count("x") for line in drawn), 39 * 20)
 
     def test_rows_below_the_first_thousand(self):
-        cells = boxes.Cells(["a"], ([text] for text in ["1"] * 1000 + ["wider"]), [False])
-        lines = self.lines(boxes.box, 80, cells)
-        self.assertEqual(lines[-6:], ["│ w │", "│ i │", "│ d │", "│ e │", "│ r │", "└───┘"])
+        texts = ["1"] * 1000 + ["wider"]
+        self.assertEqual(self.lines(boxes.box, 80, boxes.Cells(["a"], ([text] for text in texts), [False]))[-2:], ["│ wider │", "└───────┘"])
+        lines = self.lines(boxes.box, 80, boxes.Cells(["a"], ([text] for text in [*texts, "bye"]), [False], [["bye"]]))
+        self.assertEqual(lines[-4:], ["│ wid │", "│ er  │", "│ bye │", "└─────┘"])
 
     def test_the_size_of_the_terminal(self):
         for columns, lines, size in (("7", "8", (7, 8)), ("", "x", (80, 24)), ("0", "8", (80, 8))):

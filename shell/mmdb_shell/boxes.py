@@ -9,7 +9,7 @@ from typing import Iterable, Iterator, List, NamedTuple, Optional, Sequence
 
 from . import terminals
 
-# How many rows are looked at before the first is drawn, where wider cells below can be folded.
+# How many of very many rows are looked at before the first is drawn. Wider cells below them are folded.
 _LOOKED_AT = 1000
 # A column is made no narrower than this, even where the terminal is.
 _NARROWEST = 3
@@ -21,6 +21,8 @@ class Cells(NamedTuple):
     names: Sequence[str]
     rows: Iterable[List[str]]
     numbers: Sequence[bool]
+    #: The last rows, where they are so many that not all of them are looked at before the first is drawn.
+    last: Sequence[List[str]] = ()
 
 
 class Marks(NamedTuple):
@@ -128,8 +130,8 @@ class _Layout:
 
     def __init__(self, cells: Cells, is_folded: bool, beside: int) -> None:
         rows = iter(cells.rows)
-        first = list(islice(rows, _LOOKED_AT) if is_folded else rows)
-        self.widths = [max(map(width, column), default=0) for column in zip(cells.names, *first)]
+        first = list(islice(rows, _LOOKED_AT) if is_folded and cells.last else rows)
+        self.widths = [max(map(width, column)) for column in zip(cells.names, *first, *cells.last)]
         self.rows = chain(first, rows)
         self._numbers = cells.numbers
         self._is_folded = is_folded

@@ -39,7 +39,7 @@ def size_of(file: BinaryIO) -> Optional[int]:
 
 
 @contextmanager
-def written(path: str) -> Iterator[BinaryIO]:
+def written(path: str, interrupts: Optional[Interrupts] = None) -> Iterator[BinaryIO]:
     """A file to be written, which takes its place once it is whole: if that fails, what stood there stays. What is no
     plain file, as a pipe or a device, is written straight."""
     name = full_name(path)
@@ -49,10 +49,16 @@ def written(path: str) -> Iterator[BinaryIO]:
     if is_there and not os.access(name, os.W_OK):
         raise Trouble(f"there is no right to {path}")
     if name.startswith(_STRAIGHT) or is_there and not os.path.isfile(name):
-        with told_of(path), open(name, "wb") as file:
+        with told_of(path), opened_straight(name, interrupts or Interrupts()) as file:
             yield file
     else:
         yield from _replacing(path, os.path.realpath(name))
+
+
+def opened_straight(name: str, interrupts: Interrupts) -> BinaryIO:
+    """A file that is written where it is. Ctrl-C ends the wait for a pipe that nobody reads from."""
+    with interrupts.allowed():
+        return open(name, "wb")
 
 
 def _replacing(path: str, place: str) -> Iterator[BinaryIO]:

@@ -10,9 +10,9 @@ from . import dumping, moving
 from .bars import Read, Written
 from .dotted import dotted
 from .files import opened, size_of, written
-from .inspecting import count_of
 from .reading import Stream
 from .schema import table_of, tables_of
+from .selecting import count_of
 from .trouble import Trouble, told_of
 
 if TYPE_CHECKING:
@@ -35,7 +35,7 @@ def _load(shell: Shell, name: str, path: str) -> None:
 @dotted(".save TABLE FILE", "writes all rows of a table as a CSV file")
 def _save(shell: Shell, name: str, path: str) -> None:
     table = table_of(shell.db, name)
-    with shell.bar(count_of(shell.db, name), "rows") as bar, written(path) as file, shell.interrupts.allowed():
+    with shell.bar(count_of(shell.db, name), "rows") as bar, written(path, shell.interrupts) as file, shell.interrupts.allowed():
         file.write(table.header)
         for piece in moving.records(shell.db, table):
             Written(file, bar).write(piece)
@@ -69,7 +69,7 @@ def _export(shell: Shell, form: str, path: str) -> None:
 
     if form != "sql":
         raise Trouble("it is written .export sql FILE")
-    with shell.bar(_all_rows(shell), "rows") as bar, written(path) as file, shell.interrupts.allowed():
+    with shell.bar(_all_rows(shell), "rows") as bar, written(path, shell.interrupts) as file, shell.interrupts.allowed():
         exporting.write(shell.db, Written(file, bar))
     shell.note(f"the database is in {path}")
 
@@ -85,7 +85,7 @@ def _read(shell: Shell, path: str) -> None:
 
 @dotted(".dump FILE", "writes the whole database to a file")
 def _dump(shell: Shell, path: str) -> None:
-    with shell.bar(_all_rows(shell), "rows") as bar, written(path) as file, shell.interrupts.allowed():
+    with shell.bar(_all_rows(shell), "rows") as bar, written(path, shell.interrupts) as file, shell.interrupts.allowed():
         dumping.write(shell.db, shell.settings.block, Written(file, bar))
     shell.note(f"the database is in {path}")
 

@@ -11,6 +11,7 @@ from . import helping
 from .dotted import dotted
 from .moving import all_keys, answer, keys_in
 from .schema import Table, table_of, tables_of
+from .selecting import count_of
 from .trouble import Trouble
 
 if TYPE_CHECKING:
@@ -60,11 +61,6 @@ def _count(shell: Shell, what: str = "") -> None:
         shell.show(("table", "rows"), [[name, count_of(shell.db, name)] for name in tables_of(shell.db)])
         return
     shell.say(f"{_selected(shell, what) if _is_select(what) else count_of(shell.db, what)}\n")
-
-
-def count_of(db: mmdb.Database, name: str) -> int:
-    """How many rows a table has, which the tree of its key tells."""
-    return db.indexes(name)[0].rows
 
 
 def _selected(shell: Shell, line: str) -> int:

@@ -8,20 +8,21 @@ from __future__ import annotations
 
 import re
 from itertools import chain, islice
-from typing import Callable, Dict, Iterable, Iterator, List
+from typing import Callable, Dict, Iterable, Iterator, List, Sequence
 
 import mmdb
 
 from . import boxes
 from .boxes import Cells, Look
 from .moving import spelled
+from .selecting import RowsByRange
 from .showing import Names, Rows, cell
 
 #: A mode gives names and rows in pieces of text, the last of which ends a line.
 Mode = Callable[[Names, Rows, Look], Iterator[str]]
 
-# Of rows without types so many are looked at for numbers.
-_LOOKED_AT = 1000
+# Of rows without types so many are looked at for numbers, and so many are written at once.
+_LOOKED_AT = _AT_ONCE = 1000
 
 _NEEDS_QUOTES = re.compile('[",\r\n]').search
 _IN_MARKDOWN = re.compile(r"[\\`*_{}\[\]<>#|~&]")
@@ -37,7 +38,12 @@ def _cells_of(names: Names, rows: Rows) -> Cells:
         numbers = [any(isinstance(row[at], int) for row in first) for at in range(len(names))]
     else:
         numbers = [kind is int for kind in types]
-    return Cells(names, (list(map(cell, row)) for row in rows), numbers)
+    last = rows.last() if isinstance(rows, RowsByRange) else []
+    return Cells(names, map(_cells, rows), numbers, list(map(_cells, last)))
+
+
+def _cells(row: Sequence[mmdb.Value]) -> List[str]:
+    return list(map(cell, row))
 
 
 def _box(names: Names, rows: Rows, look: Look) -> Iterator[str]:
@@ -60,8 +66,20 @@ def _line(names: Names, rows: Rows, _look: Look) -> Iterator[str]:
 
 def _csv(names: Names, rows: Rows, _look: Look) -> Iterator[str]:
     yield ",".join(names) + "\n"
-    for row in rows:
-        yield (",".join(map(_field, row)) or '""') + "\n"
+    rest = iter(rows)
+    for several in iter(lambda: list(islice(rest, _AT_ONCE)), []):
+        records = map(",".join, zip(*map(_fields, zip(*several))))
+        yield "".join((record or '""') + "\n" for record in records)
+
+
+def _fields(values: Sequence[mmdb.Value]) -> Iterable[str]:
+    """The values of a column as fields. Most columns have nothing that needs quote marks."""
+    kinds = set(map(type, values))
+    if kinds == {int}:
+        return map(str, values)
+    if kinds == {str} and all(values) and not _NEEDS_QUOTES("".join(map(str, values))):
+        return map(str, values)
+    return map(_field, values)
 
 
 def _field(value: mmdb.Value) -> str:

@@ -7,7 +7,8 @@ from contextlib import ExitStack
 from typing import TYPE_CHECKING, Any, Callable, Optional, TextIO
 
 from . import terminals
-from .files import full_name, written
+from .files import full_name, opened_straight, written
+from .interrupts import Interrupts
 from .trouble import Trouble, Unwritable, sentence, told_of
 
 if TYPE_CHECKING:
@@ -21,8 +22,9 @@ class Stopped(Exception):
 class Output:
     """Takes what is said. It goes to standard output unless `to` names another place."""
 
-    def __init__(self, out: TextIO) -> None:
+    def __init__(self, out: TextIO, interrupts: Interrupts) -> None:
         self._out = out
+        self._interrupts = interrupts
         self._target: Optional[_Target] = None
         #: How many requests are left until the place is left again; None where it stays.
         self._left: Optional[int] = None
@@ -70,7 +72,7 @@ class Output:
         if place.startswith("|"):
             self._target = _Command(place[1:].strip())
         else:
-            self._target = _File(place, is_once)
+            self._target = _File(place, is_once, self._interrupts)
         self._left = 2 if is_once else None
 
     def done(self) -> None:
@@ -125,14 +127,14 @@ class _Target:
 class _File(_Target):
     """A file. For one answer it takes its place once it is whole, else it is written as answers come."""
 
-    def __init__(self, name: str, is_whole: bool) -> None:
+    def __init__(self, name: str, is_whole: bool, interrupts: Interrupts) -> None:
         super().__init__(name)
         self._stack = ExitStack()
         if is_whole:
-            self._stream = self._stack.enter_context(written(name))
+            self._stream = self._stack.enter_context(written(name, interrupts))
         else:
             with told_of(name):
-                self._stream = self._stack.enter_context(open(full_name(name), "wb"))
+                self._stream = self._stack.enter_context(opened_straight(full_name(name), interrupts))
 
     def end(self) -> None:
         with told_of(self.name):

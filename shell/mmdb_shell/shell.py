@@ -21,8 +21,12 @@ from .output import Output, Pager, Stopped, pager_command
 from .parameters import Parameters
 from .reading import Source, block_length
 from .requests import Attempt, Request, Requests
+from .selecting import RowsByRange, by_range
 from .showing import Names, Rows, count, refusal
 from .trouble import NAME, Bailed, Trouble, Unreadable
+
+#: What a line is answered: rows, or a text.
+Answer = Union[mmdb.Rows, RowsByRange, str]
 
 # How deep files may read files.
 _DEEPEST = 16
@@ -50,7 +54,7 @@ class Shell:
         self.settings = settings
         self.db = settings.opened()
         self.interrupts = Interrupts()
-        self.output = Output(out)
+        self.output = Output(out, self.interrupts)
         self.look = look
         self.mode = "box" if is_at_terminal else "csv"
         self.parameters = Parameters()
@@ -192,17 +196,20 @@ class Shell:
         began = time.perf_counter()
         told = self._answered(self._line, block, values)
         took = time.perf_counter() - began
-        if isinstance(told, mmdb.Rows):
-            self.show(told.names, told)
-        else:
+        if isinstance(told, str):
             self._show_answer(source, line.split()[0], told)
+        else:
+            self.show(told.names, told)
         if self.has_timer:
             self.say(f"time: {took:.6f} s\n")
 
-    def _answered(self, line: bytes, block: Optional[bytes], values: Sequence[mmdb.Value] = ()) -> Union[mmdb.Rows, str]:
+    def _answered(self, line: bytes, block: Optional[bytes], values: Sequence[mmdb.Value] = ()) -> Answer:
         """The rows of a select, with the types of their columns; of another line what the library answers."""
         if not values and not line.lstrip(b" \t").startswith(b"select"):
             return answer(self.db, line, block).decode()
+        ranges = None if values or self.has_timer else by_range(self.db, line)
+        if ranges is not None:
+            return ranges
         try:
             found = self.db.execute(line.decode(), *values)
         except ValueError as why:
@@ -211,8 +218,8 @@ class Shell:
             raise Trouble(str(why).replace("mmdb: ", "")) from why
         if isinstance(found, int):
             return f"ok {found}\n"
-        rows: Union[mmdb.Rows, str] = "ok\n" if found is None else found
-        return rows
+        told: Answer = "ok\n" if found is None else found
+        return told
 
     # ---- answers
 
@@ -241,9 +248,12 @@ class Shell:
             self.changed_in_all += self.changed
         if word == b"tables" and not source.is_typed:
             told = told[: told.rindex("ok ")]
-        if source.is_typed or not told.startswith("ok"):
+        if not told.startswith("ok"):
             with self.interrupts.allowed():
                 self.say(told)
+        elif source.is_typed:
+            # (Ctrl-C came too late for it, so that it was done is said)
+            self.say(told)
         if word in _CHANGES and self.tells_changes:
             self.say(f"changes: {self.changed}, total: {self.changed_in_all}\n")
 

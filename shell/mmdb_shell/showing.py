@@ -3,7 +3,7 @@
 from __future__ import annotations
 
 import re
-from typing import Sequence
+from typing import Iterator, Protocol, Sequence
 
 import mmdb
 
@@ -13,8 +13,18 @@ from .lines import column_of
 from .moving import numbered
 from .trouble import Trouble
 
-#: The rows of a table, and the names of its columns.
-Rows = Sequence[Sequence[mmdb.Value]]
+
+class Rows(Protocol):
+    """The rows of a table: a list of them, or what gives them one after another."""
+
+    def __len__(self) -> int:
+        """How many they are."""
+
+    def __iter__(self) -> Iterator[Sequence[mmdb.Value]]:
+        """Each in its turn."""
+
+
+#: The names of the columns of a table.
 Names = Sequence[str]
 
 _IS_ODD = re.compile(r"\A(?:'|\s|\Z)|\s\Z").search
