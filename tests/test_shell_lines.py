@@ -227,6 +227,22 @@ class Typed(shells.AtATerminal):
         shell.type(".quit\n")
         self.assertEqual(shell.end(), 0)
 
+    def test_the_history_has_whole_commands(self):
+        shell = self.typed()
+        shell.ask(".print 1")
+        shell.type("table t (\nid int,\nid2 int)\n")
+        shell.wait_for("ok\nmmdb> ")
+        shell.type("\x1b[A")
+        shell.wait_for("table t ( id int, id2 int)")
+        shell.type("\x1b[A\n")
+        shell.wait_for("1\nmmdb> ")
+        shell.type("table u (k text)\ninsert u ('a\nb')\n")
+        shell.wait_for("ok 1\nmmdb> ")
+        shell.type(".quit\n")
+        self.assertEqual(shell.end(), 0)
+        kept = (self.room / "state" / "mmdb" / "history").read_text()
+        self.assertEqual(kept, ".print 1\ntable t ( id int, id2 int)\n.print 1\ntable u (k text)\ninsert u ('a\nb')\n.quit\n")
+
     def test_the_init_file(self):
         (self.room / "config" / "mmdb").mkdir(parents=True)
         self.file("config/mmdb/init", ".mode json\ntable t (id int)\nselct\n")

@@ -6,6 +6,7 @@ import os
 from typing import List, Optional
 
 from .completing import Completer
+from .lines import joined
 from .reading import Terminal
 from .shell import Shell
 from .trouble import sentence
@@ -35,6 +36,8 @@ class History:
     def __init__(self, path: str) -> None:
         self._path = path
         self._before = 0
+        #: How many lines there were when the command began.
+        self._kept = 0
 
     def read(self) -> None:
         """Takes the lines that are kept. Raises OSError where there is a file that can't be read."""
@@ -42,7 +45,19 @@ class History:
             readline.read_history_file(self._path)
         except FileNotFoundError:
             pass
-        self._before = readline.get_current_history_length()
+        self._before = self._kept = readline.get_current_history_length()
+
+    def on_done(self, command: str) -> None:
+        """Puts the lines of a command that is done into one, so that all of it is had again at once. Where a text goes
+        over several lines they stay, since a line of the history can't hold it."""
+        whole, *lines = command.encode().splitlines() or [b""]
+        for line in lines:
+            whole = joined(whole, line)
+        if lines and b"\n" not in whole:
+            while readline.get_current_history_length() > self._kept:
+                readline.remove_history_item(self._kept)
+            readline.add_history(whole.decode())
+        self._kept = readline.get_current_history_length()
 
     def write(self) -> None:
         """Keeps the lines of this run. Raises OSError where it can't."""
@@ -84,6 +99,7 @@ def prepare(shell: Shell, terminal: Terminal) -> Optional[History]:
     is_libedit = "libedit" in (readline.__doc__ or "")
     readline.parse_and_bind("bind ^I rl_complete" if is_libedit else "tab: complete")
     history = History(history_file())
+    terminal.on_done = history.on_done
     try:
         history.read()
     except OSError as why:

@@ -3,7 +3,7 @@
 from __future__ import annotations
 
 import re
-from typing import BinaryIO, Optional, Union
+from typing import BinaryIO, Callable, Optional, Union
 
 import mmdb
 
@@ -132,9 +132,12 @@ class Terminal(Source):
         self._typed = b""
         #: The lines of the command that is being typed, before this one.
         self.before = ""
+        #: What is called with the lines of a command before the next one is read.
+        self.on_done: Callable[[str], None] = lambda lines: None
 
     def line(self, is_more: bool = False) -> Optional[bytes]:
         if not is_more:
+            self.on_done(self.before)
             self.before = ""
         if not self._typed and not self._read(PROMPT_FOR_MORE if is_more else PROMPT):
             return None
