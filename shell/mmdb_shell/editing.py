@@ -5,7 +5,6 @@ from __future__ import annotations
 import os
 from typing import List, Optional
 
-from .completing import Completer
 from .lines import joined
 from .reading import Terminal
 from .shell import Shell
@@ -77,16 +76,19 @@ class Completion:
     """The words that a word can become, one after the other, as readline asks for them."""
 
     def __init__(self, shell: Shell, terminal: Terminal) -> None:
-        self._completer = Completer(shell)
+        self._shell = shell
         self._terminal = terminal
         self._found: List[str] = []
 
     def complete(self, text: str, state: int) -> Optional[str]:
         """The word of that number, or None where there is none any more."""
         if state == 0:
+            # (only here, so that the shell starts sooner)
+            from .completing import Completer
+
             line = readline.get_line_buffer()
             before = self._terminal.before + line[: readline.get_begidx()]
-            self._found = self._completer.words(before, text, line[readline.get_endidx() :])
+            self._found = Completer(self._shell).words(before, text, line[readline.get_endidx() :])
         return self._found[state] if state < len(self._found) else None
 
 
