@@ -102,9 +102,10 @@ def box(cells: Cells, drawn: Look) -> Iterator[str]:
     def line(left: str, along: str, between: str, right: str) -> str:
         return left + between.join(along * (places + 2) for places in layout.widths) + right + "\n"
 
+    left, between, right = f"{marks.beside} ", f" {marks.beside} ", f" {marks.beside}\n"
+
     def record(row: Sequence[str]) -> str:
-        lines = (f" {marks.beside} ".join(padded) for padded in layout.padded(row))
-        return "".join(f"{marks.beside} {padded} {marks.beside}\n" for padded in lines)
+        return "".join([left + between.join(padded) + right for padded in layout.padded(row)])
 
     yield line(*marks.top)
     yield record(cells.names)
@@ -131,21 +132,34 @@ class _Layout:
     def __init__(self, cells: Cells, is_folded: bool, beside: int) -> None:
         rows = iter(cells.rows)
         first = list(islice(rows, _LOOKED_AT) if is_folded and cells.last else rows)
-        self.widths = [max(map(width, column)) for column in zip(cells.names, *first, *cells.last)]
+        self.widths = list(map(width, cells.names))
+        for at in range(0, len(first), _LOOKED_AT):
+            self._widen(first[at : at + _LOOKED_AT])
+        self._widen(cells.last)
         self.rows = chain(first, rows)
         self._numbers = cells.numbers
         self._is_folded = is_folded
         if is_folded:
             self.widths = _narrowed(self.widths, terminals.size()[0] - beside)
 
-    def padded(self, row: Sequence[str]) -> Iterator[List[str]]:
+    def _widen(self, rows: Sequence[List[str]]) -> None:
+        """Makes the columns wide enough for these rows."""
+        if rows:
+            self.widths = [max(places, *map(width, column)) for places, column in zip(self.widths, zip(*rows))]
+
+    def padded(self, row: Sequence[str]) -> Iterator[Sequence[str]]:
         """The lines of a row: in each, what stands in its columns, with blanks up to their width."""
-        if not self._is_folded:
-            yield [_padded(*of_cell) for of_cell in zip(row, self.widths, self._numbers)]
+        if not self._is_folded or all(map(_fits, row, self.widths)):
+            yield list(map(_padded, row, self.widths, self._numbers))
             return
         pieces = [folded(text, places) for text, places in zip(row, self.widths)]
         for line in zip_longest(*pieces, fillvalue=""):
-            yield [_padded(*of_cell) for of_cell in zip(line, self.widths, self._numbers)]
+            yield list(map(_padded, line, self.widths, self._numbers))
+
+
+def _fits(text: str, places: int) -> bool:
+    # (a character takes two places at most)
+    return 2 * len(text) <= places or width(text) <= places
 
 
 def _narrowed(widths: List[int], room: int) -> List[int]:
@@ -159,5 +173,7 @@ def _narrowed(widths: List[int], room: int) -> List[int]:
 
 
 def _padded(text: str, places: int, to_the_right: bool) -> str:
+    if text.isascii():
+        return text.rjust(places) if to_the_right else text.ljust(places)
     room = " " * (places - width(text))
     return room + text if to_the_right else text + room

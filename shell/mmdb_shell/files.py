@@ -5,6 +5,7 @@ from __future__ import annotations
 import os
 import stat
 from contextlib import contextmanager
+from io import BufferedReader
 from typing import BinaryIO, Iterator, Optional, Tuple
 
 from .interrupts import Interrupts
@@ -24,7 +25,7 @@ def full_name(path: str) -> str:
 
 
 @contextmanager
-def opened(path: str, interrupts: Interrupts) -> Iterator[BinaryIO]:
+def opened(path: str, interrupts: Interrupts) -> Iterator[BufferedReader]:
     """A file to be read. Ctrl-C ends the wait for a pipe that nobody writes into."""
     with told_of(path), interrupts.allowed():
         file = open(full_name(path), "rb")

@@ -5,13 +5,15 @@ from __future__ import annotations
 import csv
 import io
 import re
+from io import BufferedReader
 from itertools import islice
-from typing import TYPE_CHECKING, BinaryIO, Dict, Iterator, List, NamedTuple, Optional, Sequence, TextIO, Tuple
+from typing import TYPE_CHECKING, Dict, Iterator, List, NamedTuple, Optional, Sequence, TextIO, Tuple
 
 import mmdb
 
 from .bars import Bar, Read
-from .moving import Load, answer, numbered
+from .cutting import MARK
+from .moving import Load, Readable, answer, numbered
 from .schema import Table, table_of, tables_of
 from .trouble import Trouble
 from .words import RESERVED
@@ -22,7 +24,9 @@ if TYPE_CHECKING:
 # Up to how many bytes a field of the file has. (A text of a table has 1,024.)
 _LONGEST_FIELD = 1 << 24
 _LONGEST_NAME = 32
-_INTEGER = re.compile(r"-?(?:0|[1-9]\d{0,18})", re.ASCII)
+_INTEGER = re.compile(r"0|-?[1-9][0-9]{0,18}").fullmatch
+# Integers of fewer characters have at most 64 bits.
+_SURELY_SHORT = 19
 _LEAST, _GREATEST = -(1 << 63), (1 << 63) - 1
 # How many records are written into one piece of a load.
 _RECORDS = 4096
@@ -73,7 +77,7 @@ class Import:
         self._name = name
         self._options = options
 
-    def run(self, file: BinaryIO, path: str, bar: Bar) -> Tuple[int, List[str]]:
+    def run(self, file: BufferedReader, path: str, bar: Bar) -> Tuple[int, List[str]]:
         """Puts in the rows, and gives how many they are, and the columns of the file that the table has no place for.
         If it raises, no row is in, and a table that was made is gone."""
         csv.field_size_limit(_LONGEST_FIELD)
@@ -88,20 +92,25 @@ class Import:
                 answer(self._shell.db, f"drop table {table.name}")
             raise
 
-    def _loaded(self, table: Table, file: BinaryIO, path: str, bar: Bar) -> Tuple[int, List[str]]:
+    def _loaded(self, table: Table, file: BufferedReader, path: str, bar: Bar) -> Tuple[int, List[str]]:
+        if self._options == Options() and _is_of(table, file):
+            return self._put(table, Read(file, bar), path), []
         names, records = self._records(file, bar)
         order = [_place(column.name, names) for column in table.columns]
         missing = [column.name for column, at in zip(table.columns, order) if at is None and not column.takes_null]
         if missing:
             raise Trouble(f"{path} has no column for {', '.join(missing)} of {table.name}; it has {', '.join(names)}")
-        load = Load(self._shell.db, table, self._shell.interrupts)
-        try:
-            count = load.run(_Pieces(table.header, records, len(names), order), self._shell.settings.block)
-        except mmdb.Refused as why:
-            raise Trouble(f"{numbered(why)}; no row of {path} went in", why.reason) from why
+        count = self._put(table, _Pieces(table.header, records, len(names), order), path)
         return count, [name for at, name in enumerate(names) if at not in order and name != _LEFT_OUT]
 
-    def _records(self, file: BinaryIO, bar: Bar) -> Tuple[List[str], Iterator[List[str]]]:
+    def _put(self, table: Table, file: Readable, path: str) -> int:
+        """Loads what is in the form of a load."""
+        try:
+            return Load(self._shell.db, table, self._shell.interrupts).run(file, self._shell.settings.block)
+        except mmdb.Refused as why:
+            raise Trouble(f"{numbered(why)}; no row of {path} went in", why.reason) from why
+
+    def _records(self, file: BufferedReader, bar: Bar) -> Tuple[List[str], Iterator[List[str]]]:
         """The names of the file's columns, and its records behind them."""
         text = io.TextIOWrapper(_Raw(Read(file, bar)), "utf-8-sig", "surrogateescape", newline="")
         records = _parsed(text, self._options.separator)
@@ -112,7 +121,7 @@ class Import:
             raise Trouble("the file is empty: its first record has the names of its columns")
         return _names_of(given), records
 
-    def _made(self, file: BinaryIO, bar: Bar) -> Table:
+    def _made(self, file: BufferedReader, bar: Bar) -> Table:
         """The table that is made for the file, after a look at all its fields."""
         if not file.seekable():
             raise Trouble(f"{self._name} is no table, and to make it the file is read twice, which a pipe can't be")
@@ -127,6 +136,13 @@ class Import:
         declared = ", ".join(f"{name} {kinds[name]}" for name in order)
         answer(self._shell.db, f"table {self._name} ({declared})")
         return table_of(self._shell.db, self._name)
+
+
+def _is_of(table: Table, file: BufferedReader) -> bool:
+    """Whether a file begins as a load of the table does, so that it is one as it is."""
+    front = file.peek(len(MARK) + len(table.header) + 1)
+    front = front[len(MARK) :] if front.startswith(MARK) else front
+    return front.startswith((table.header, table.header[:-1] + b"\r\n"))
 
 
 def _parsed(text: TextIO, separator: str) -> Iterator[List[str]]:
@@ -148,24 +164,28 @@ def _place(name: str, names: List[str]) -> Optional[int]:
 
 def _kinds(names: List[str], records: Iterator[List[str]], shell: Shell) -> Dict[str, str]:
     """The types of the columns: integers, where each field is one that an integer is written as, and else texts."""
-    is_number = [True] * len(names)
+    numbers = set(range(len(names)))
     is_empty = True
     with shell.interrupts.allowed():
-        for record in records:
+        for several in _in_pieces(records):
             is_empty = False
-            for at, field in enumerate(record[: len(names)]):
-                if is_number[at] and not _is_integer(field):
-                    is_number[at] = False
-    kinds = {}
-    for name, is_int in zip(names, is_number):
-        if name != _LEFT_OUT:
-            kinds[name] = "int" if is_int and not is_empty else "text"
-    return kinds
+            # (a record of another length is refused where it is put in)
+            columns = list(zip(*several))
+            numbers = {at for at in numbers if at < len(columns) and all(map(_is_integer, columns[at]))}
+    found = enumerate(names)
+    return {name: "int" if at in numbers and not is_empty else "text" for at, name in found if name != _LEFT_OUT}
+
+
+def _in_pieces(records: Iterator[List[str]]) -> Iterator[List[List[str]]]:
+    """The records, several at a time."""
+    return iter(lambda: list(islice(records, _RECORDS)), [])
 
 
 def _is_integer(field: str) -> bool:
     """Whether a field is an integer that comes back as it was. (007 doesn't, so it is a text.)"""
-    return bool(_INTEGER.fullmatch(field)) and field != "-0" and _LEAST <= int(field) <= _GREATEST
+    if not _INTEGER(field):
+        return False
+    return len(field) < _SURELY_SHORT or _LEAST <= int(field) <= _GREATEST
 
 
 def _names_of(given: Sequence[str]) -> List[str]:
@@ -230,16 +250,25 @@ class _Pieces:
     def _more(self) -> bytes:
         """The next records."""
         records = list(islice(self._records, _RECORDS))
-        self._is_at_end = not records
-        for record in records:
-            self._number += 1
-            if len(record) != self._fields:
-                raise Trouble(f"record {self._number} has {_counted(len(record))}, and the file {_counted(self._fields)}")
-            self._writer.writerow(["" if at is None else record[at] for at in self._order])
+        if not records:
+            self._is_at_end = True
+            return b""
+        if set(map(len, records)) - {self._fields}:
+            self._refuse(records)
+        # (a column that the file lacks has null in all rows)
+        columns = [*zip(*records), ("",) * len(records)]
+        self._writer.writerows(zip(*(columns[-1 if at is None else at] for at in self._order)))
+        self._number += len(records)
         text = self._written.getvalue()
         self._written.seek(0)
         self._written.truncate()
         return text.encode("utf-8", "surrogateescape")
+
+    def _refuse(self, records: List[List[str]]) -> None:
+        """Tells of the first record that has too few fields, or too many."""
+        for number, record in enumerate(records, self._number + 1):
+            if len(record) != self._fields:
+                raise Trouble(f"record {number} has {_counted(len(record))}, and the file {_counted(self._fields)}")
 
 
 def _counted(fields: int) -> str:

@@ -101,11 +101,15 @@ def _tabs(names: Names, rows: Rows, _look: Look) -> Iterator[str]:
 
 def _json(names: Names, rows: Rows, _look: Look) -> Iterator[str]:
     """A list of objects, one a line."""
-    import json
+    from json.encoder import encode_basestring as text
 
+    def shown(value: mmdb.Value) -> str:
+        return text(value) if isinstance(value, str) else "null" if value is None else str(value)
+
+    fronts = [f"{text(name)}: " for name in names]
     before = "["
     for row in rows:
-        yield before + json.dumps(dict(zip(names, row)), ensure_ascii=False)
+        yield before + "{" + ", ".join(map(str.__add__, fronts, map(shown, row))) + "}"
         before = ",\n "
     yield "[]\n" if before == "[" else "]\n"
 

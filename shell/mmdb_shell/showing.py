@@ -27,6 +27,8 @@ class Rows(Protocol):
 #: The names of the columns of a table.
 Names = Sequence[str]
 
+# A text of ASCII that stands in a cell as it is.
+_IS_PLAIN = re.compile(r"[!-&(-~](?:[ -~]*[!-~])?").fullmatch
 _IS_ODD = re.compile(r"\A(?:'|\s|\Z)|\s\Z").search
 # What moves a terminal's place or changes the line: controls, and marks of lines and of direction.
 _CONTROLS = re.compile("[\0-\x1f\x7f-\x9f\u061c\u200e\u200f\u2028-\u202e\u2066-\u2069]")
@@ -53,6 +55,8 @@ def cell(value: mmdb.Value) -> str:
         return ""
     if isinstance(value, int):
         return str(value)
+    if _IS_PLAIN(value):
+        return value
     shown = visible(value)
     return f"'{shown}'" if _IS_ODD(value) or not width(shown) else shown
 
