@@ -2,7 +2,8 @@
 
 from __future__ import annotations
 
-from typing import TYPE_CHECKING, Callable, Optional
+from contextlib import contextmanager
+from typing import TYPE_CHECKING, Callable, Iterator, Optional
 
 import mmdb
 
@@ -35,10 +36,10 @@ def _load(shell: Shell, name: str, path: str) -> None:
 @dotted(".save TABLE FILE", "writes all rows of a table as a CSV file")
 def _save(shell: Shell, name: str, path: str) -> None:
     table = table_of(shell.db, name)
-    with shell.bar(count_of(shell.db, name), "rows") as bar, written(path, shell.interrupts) as file, shell.interrupts.allowed():
+    with _new_file(shell, path, count_of(shell.db, name)) as file:
         file.write(table.header)
         for piece in moving.records(shell.db, table):
-            Written(file, bar).write(piece)
+            file.write(piece)
     shell.note(f"{name} is in {path}")
 
 
@@ -69,8 +70,8 @@ def _export(shell: Shell, form: str, path: str) -> None:
 
     if form != "sql":
         raise Trouble("it is written .export sql FILE")
-    with shell.bar(_all_rows(shell), "rows") as bar, written(path, shell.interrupts) as file, shell.interrupts.allowed():
-        exporting.write(shell.db, Written(file, bar))
+    with _new_file(shell, path, _all_rows(shell)) as file:
+        exporting.write(shell.db, file)
     shell.note(f"the database is in {path}")
 
 
@@ -85,8 +86,8 @@ def _read(shell: Shell, path: str) -> None:
 
 @dotted(".dump FILE", "writes the whole database to a file")
 def _dump(shell: Shell, path: str) -> None:
-    with shell.bar(_all_rows(shell), "rows") as bar, written(path, shell.interrupts) as file, shell.interrupts.allowed():
-        dumping.write(shell.db, shell.settings.block, Written(file, bar))
+    with _new_file(shell, path, _all_rows(shell)) as file:
+        dumping.write(shell.db, shell.settings.block, file)
     shell.note(f"the database is in {path}")
 
 
@@ -126,6 +127,14 @@ def _policy(shell: Shell, name: str = "") -> None:
     settings = shell.settings._replace(policy=name)
     _move(shell, settings, lambda db, bar: dumping.copy(shell.db, settings.block, db, bar), _all_rows(shell))
     shell.note(f"the tables are in a new database, whose policy is {name}")
+
+
+@contextmanager
+def _new_file(shell: Shell, path: str, rows: int) -> Iterator[Written]:
+    """A file for so many rows, with a bar. Ctrl-C ends it, and what was there stays."""
+    with shell.bar(rows, "rows") as bar, written(path, shell.interrupts) as file:
+        with shell.interrupts.allowed():
+            yield Written(file, bar)
 
 
 def _all_rows(shell: Shell) -> int:

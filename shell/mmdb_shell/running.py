@@ -2,6 +2,7 @@
 
 from __future__ import annotations
 
+import gc
 import io
 import os
 import sys
@@ -25,6 +26,8 @@ def main(words: Optional[List[str]]) -> int:
         return fail(REFUSED, "standard input is closed")
     if sys.stdout is None:
         return fail(UNWRITABLE, "standard output is closed")
+    # Rows are many objects and no circles, so a search for circles is seldom worth its time.
+    gc.set_threshold(50_000, 20, 100)
     try:
         return _run(options)
     except mmdb.NoMemory:
