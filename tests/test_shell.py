@@ -97,7 +97,7 @@ class ThroughAPipe(shells.Piped):
         ran = self.ran(lines)
         out = ran.stdout.decode()
         self.assertEqual(ran.stderr.decode(), f"mmdb-shell: {script}, line 4: error 20 not a command\n")
-        expected = [".timer on|off", "  tells after each line how long it took", "dept", "emp", COMPANY[1], COMPANY[2]]
+        expected = [".timer on|off", "  shows how long each line took", "dept", "emp", COMPANY[1], COMPANY[2]]
         expected += ['[{"dept.id": 10}]', "table,column,kind,declared,rows,height,nodes,fill,buckets,longest"]
         expected += ["dept,id,tree,with the table,1,1,1,1,,", "emp,id,tree,with the table,3,1,1,3,,", "emp,dept,tree,by index,3,1,1,3,,"]
         expected += ["tree", "| emp.id | emp.name | emp.dept |"]

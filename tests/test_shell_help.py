@@ -110,7 +110,7 @@ class Helped(shells.Piped):
     def test_what_is_said(self):
         self.check([".help join"], ["join", f"  {words.KEYWORDS['join']}"])
         self.check([".help =", ".help '#'"], ["=", f"  {words.SIGNS['=']}", "#", f"  {words.SIGNS['#']}"])
-        self.check([".help once"], [".once PLACE", "  the same for the next answer alone", *(f"  {line}" for line in commands.DOTTED[".once"].more.splitlines())])
+        self.check([".help once"], [".once FILE", "  does so for the next answer only", *(f"  {line}" for line in commands.DOTTED[".once"].more.splitlines())])
         told = self.ran([".help language"]).stdout.decode()
         for word in model.RESERVED:
             self.assertIn(f" {word}", f" {told}")

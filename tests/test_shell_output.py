@@ -53,7 +53,7 @@ class Elsewhere(shells.Piped):
             f"line 2: there is no {self.room}/no/x",
             f"line 3: {self.room} is a folder",
             "line 4: behind | a command is missing",
-            "line 5: it is written .once PLACE",
+            "line 5: it is written .once FILE",
             "line 6: a quote mark is left open",
             "line 8: exit 3 ended with status 3",
             "line 10: kill -9 $$ was ended by the signal 9",

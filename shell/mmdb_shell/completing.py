@@ -68,12 +68,13 @@ class Completer:
 
     def _of_kind(self, kind: str, text: str, tables: List[str]) -> Iterable[str]:
         """The words of a kind that a command of the shell takes, or the word that it takes as it is."""
-        if kind in ("FILE", "PLACE"):
+        if kind == "FILE":
             return _files(text)
         helped = [*COMMANDS, *KEYWORDS, "language", *(name[1:] for name in DOTTED), *map(str, REFUSALS)]
         by_kind: Dict[str, Iterable[str]] = {
             "TABLE": tables,
             "MODE": MODES,
+            "ACTION": ["clear", "list", "set", "unset"],
             "NAME": mmdb.POLICIES,
             "WORD": helped,
             "SELECT": ["select"],

@@ -21,7 +21,7 @@ if TYPE_CHECKING:
     from .shell import Settings, Shell
 
 
-@dotted(".load TABLE FILE", "puts in the rows of a CSV file, all or none")
+@dotted(".load TABLE FILE", "loads a CSV file, all rows or none")
 def _load(shell: Shell, name: str, path: str) -> None:
     table = table_of(shell.db, name)
     try:
@@ -33,7 +33,7 @@ def _load(shell: Shell, name: str, path: str) -> None:
     shell.note(f"{count} rows of {path} are in {name}")
 
 
-@dotted(".save TABLE FILE", "writes all rows of a table as a CSV file")
+@dotted(".save TABLE FILE", "writes a table to a CSV file")
 def _save(shell: Shell, name: str, path: str) -> None:
     table = table_of(shell.db, name)
     with _new_file(shell, path, count_of(shell.db, name)) as file:
@@ -45,12 +45,12 @@ def _save(shell: Shell, name: str, path: str) -> None:
 
 @dotted(
     ".import FILE TABLE [OPTION..]",
-    "puts in the rows of a CSV file by the names of its columns, and makes the table where there is none",
-    "--separator S      what stands between fields, as ';' or tab; else a comma\n"
-    "--columns A,B,..   the names of the file's columns, where its first record has none; - leaves one out\n"
-    "--skip N           passes over the first N records\n"
-    "--key A            makes this column the key of a new table; else the first one is\n"
-    "A column of a new table is of integers where each field of it is one, else of texts.",
+    "imports a CSV file by column names; creates the table if needed",
+    "--separator S      the separator of the fields, such as ';' or tab; default: a comma\n"
+    "--columns A,B,..   the names of the file's columns if it has no header; - leaves a column out\n"
+    "--skip N           skips the first N records\n"
+    "--key A            the key of a new table; default: its first column\n"
+    "A new column is int if all of its fields are integers, otherwise text.",
 )
 def _import(shell: Shell, path: str, name: str, *options: str) -> None:
     # (it loads the module csv, which most runs need none of)
@@ -64,7 +64,7 @@ def _import(shell: Shell, path: str, name: str, *options: str) -> None:
         shell.note(f"{name} has no column for {', '.join(left_out)}")
 
 
-@dotted(".export sql FILE", "writes the whole database as SQL, which PostgreSQL and SQLite take")
+@dotted(".export sql FILE", "writes the database as SQL for PostgreSQL and SQLite")
 def _export(shell: Shell, form: str, path: str) -> None:
     from . import exporting
 
@@ -75,7 +75,7 @@ def _export(shell: Shell, form: str, path: str) -> None:
     shell.note(f"the database is in {path}")
 
 
-@dotted(".read FILE", "does the lines of a file, with their blocks")
+@dotted(".read FILE", "runs the lines of a file")
 def _read(shell: Shell, path: str) -> None:
     done, refused = shell.done, shell.refused
     with opened(path, shell.interrupts) as file:
@@ -91,14 +91,14 @@ def _dump(shell: Shell, path: str) -> None:
     shell.note(f"the database is in {path}")
 
 
-@dotted(".restore FILE", "makes an empty database that of a dump, or leaves it")
+@dotted(".restore FILE", "reads a dump into an empty database")
 def restore(shell: Shell, path: str) -> None:
     if tables_of(shell.db):
         raise Trouble("the database has tables, and only an empty one is restored into")
     _open_dump(shell, path)
 
 
-@dotted(".open [FILE]", "begins an empty database in place of this one, or takes that of a dump")
+@dotted(".open [FILE]", "starts an empty database, or opens a dump")
 def _open(shell: Shell, path: str = "") -> None:
     if path:
         _open_dump(shell, path)
@@ -117,7 +117,7 @@ def _open_dump(shell: Shell, path: str) -> None:
     shell.note(f"the database is that of {path}")
 
 
-@dotted(".policy [NAME]", "shows how plans are chosen, or moves all to another")
+@dotted(".policy [NAME]", "shows or changes how plans are chosen")
 def _policy(shell: Shell, name: str = "") -> None:
     if not name:
         shell.say(f"{shell.settings.policy}\n")

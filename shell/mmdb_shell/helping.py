@@ -10,10 +10,10 @@ from .words import COMMANDS, KEYWORDS, LANGUAGE, REFUSALS, SIGNS
 
 def overview() -> Iterator[str]:
     """The commands of the language and of the shell."""
-    yield "Commands of the language; .help WORD tells of a word, .help language of all, .help NUMBER of a refusal:"
+    yield "Commands of the language; .help WORD explains a word, .help language all, .help NUMBER an error:"
     yield "  " + " ".join(COMMANDS)
-    yield "Commands of the shell; a front of a name that only one has is enough:"
-    for name, command in DOTTED.items():
+    yield "Commands of the shell; an unambiguous prefix is enough:"
+    for name, command in sorted(DOTTED.items()):
         yield f"  {' '.join([name, *command.usage]):36} {command.does}"
 
 

@@ -21,7 +21,7 @@ if TYPE_CHECKING:
 _FEW = "10"
 
 
-@dotted(".help [WORD]", "tells of a word of the language or of the shell, or of a refusal by its number")
+@dotted(".help [WORD]", "explains a word of the language or the shell, or an error number")
 def _help(shell: Shell, word: str = "") -> None:
     lines = list(helping.help_for(word) if word else helping.overview())
     if not lines:
@@ -29,18 +29,18 @@ def _help(shell: Shell, word: str = "") -> None:
     shell.say("\n".join(lines) + "\n")
 
 
-@dotted(".tables", "lists the tables by name")
+@dotted(".tables", "lists the tables")
 def _tables(shell: Shell) -> None:
     shell.say("".join(f"{name}\n" for name in tables_of(shell.db)))
 
 
-@dotted(".schema [TABLE]", "shows the lines that declare tables and indexes")
+@dotted(".schema [TABLE]", "shows the declarations of tables and indexes")
 def _schema(shell: Shell, name: str = "") -> None:
     tables = [table_of(shell.db, name)] if name else list(tables_of(shell.db).values())
     shell.say("".join(f"{line}\n" for table in tables for line in table.lines))
 
 
-@dotted(".indexes [TABLE]", "shows how the indexes of each table, or of one, stand")
+@dotted(".indexes [TABLE]", "shows the state of the indexes")
 def _indexes(shell: Shell, name: str = "") -> None:
     rows: List[List[mmdb.Value]] = []
     for table in [table_of(shell.db, name)] if name else tables_of(shell.db).values():
@@ -52,7 +52,7 @@ def _indexes(shell: Shell, name: str = "") -> None:
 
 @dotted(
     ".count [TABLE|SELECT]",
-    "shows how many rows each table has, or one, or a select",
+    "counts the rows of each table, one table, or a select",
     ".count emp\n.count select * from emp where dept = 10",
     is_open=True,
 )
@@ -74,7 +74,7 @@ def _selected(shell: Shell, line: str) -> int:
 
 @dotted(
     ".head [N] TABLE|SELECT",
-    "shows the first rows of a table, or of a select: 10, or N",
+    "shows the first 10 rows, or N, of a table or a select",
     ".head emp\n.head 3 select * from emp where dept = 10",
     is_open=True,
 )

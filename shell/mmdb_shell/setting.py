@@ -14,9 +14,9 @@ if TYPE_CHECKING:
 
 @dotted(
     ".mode [MODE] [TABLE]",
-    "shows or sets how rows are shown",
+    "shows or sets the output mode",
     f"MODE is {', '.join([*MODES][:-1])} or {[*MODES][-1]}.\n"
-    "TABLE is that of the lines of .mode insert; without it they name the table that was asked.",
+    "TABLE is the table of the lines of .mode insert; default: the table that was selected from.",
 )
 def _mode(shell: Shell, name: str = "", table: str = "") -> None:
     if not name:
@@ -30,12 +30,11 @@ def _mode(shell: Shell, name: str = "", table: str = "") -> None:
 
 
 @dotted(
-    ".output [PLACE]",
-    "lets answers go to a file, or to a command after |",
-    "PLACE is the name of a file, which is written as answers come, or | and a command of the system, which reads them:\n"
-    "  .output rows.csv\n"
-    "  .output |sort | head\n"
-    "Without PLACE answers are shown again. The file is whole, and the command has ended, by then.",
+    ".output [FILE]",
+    "sends answers to a file or, after |, to a command",
+    ".output rows.csv      writes answers to the file\n"
+    ".output |sort | head  sends them to the command\n"
+    ".output               closes the file, or waits for the command, and shows answers again",
     is_open=True,
 )
 def _output(shell: Shell, place: str = "") -> None:
@@ -46,9 +45,9 @@ def _output(shell: Shell, place: str = "") -> None:
 
 
 @dotted(
-    ".once PLACE",
-    "the same for the next answer alone",
-    "PLACE is as with .output. A file takes its place once it is whole; if that fails, what was there stays.",
+    ".once FILE",
+    "does so for the next answer only",
+    ".once rows.csv replaces the file when the answer is complete; .once |sort sends it to the command.",
     is_open=True,
 )
 def _once(shell: Shell, place: str) -> None:
@@ -64,18 +63,19 @@ def _unquoted(place: str) -> str:
     return place[1:-1]
 
 
-@dotted(".print [TEXT..]", "shows a text, in the place where answers go")
+@dotted(".print [TEXT..]", "prints a text")
 def _print(shell: Shell, *words: str) -> None:
     shell.say(" ".join(words) + "\n")
 
 
 @dotted(
-    ".parameter [set|unset|clear|list] [PLACE] [VALUE]",
+    ".parameter [ACTION] [PLACE] [VALUE]",
     "shows or sets the values of ? and :name",
-    ".parameter set 1 'Ann'     the value of the first ? of each line\n"
-    ".parameter set :least 7    that of each place :least\n"
-    ".parameter unset 1         takes one away, and .parameter clear all\n"
-    "A value is spelled as in a line. What is no number, no text in quotes and no null is a text as it is.",
+    ".parameter set 1 'Ann'   sets the value of the first ? of each line\n"
+    ".parameter set :least 7  sets the value of :least\n"
+    ".parameter unset 1       removes a value; .parameter clear removes all\n"
+    ".parameter list          shows all values\n"
+    "A value without quotes that is no number and not null is a text.",
     is_open=True,
 )
 def _parameter(shell: Shell, what: str = "list", place: str = "", value: str = "") -> None:
@@ -92,27 +92,27 @@ def _parameter(shell: Shell, what: str = "list", place: str = "", value: str = "
         raise Trouble("it is written .parameter set PLACE VALUE, unset PLACE, clear or list")
 
 
-@dotted(".bail on|off", "ends a file, or lines that nobody types, at the first refusal")
+@dotted(".bail on|off", "stops a script at the first refused line")
 def _bail(shell: Shell, word: str) -> None:
     shell.bails = _is_on(word)
 
 
-@dotted(".changes on|off", "shows after each change how many rows it was about, and all so far")
+@dotted(".changes on|off", "shows how many rows each change affected")
 def _changes(shell: Shell, word: str) -> None:
     shell.tells_changes = _is_on(word)
 
 
-@dotted(".timer on|off", "tells after each line how long it took")
+@dotted(".timer on|off", "shows how long each line took")
 def _timer(shell: Shell, word: str) -> None:
     shell.has_timer = _is_on(word)
 
 
-@dotted(".explain on|off", "tells why a line is refused")
+@dotted(".explain on|off", "explains why a line is refused")
 def _explain(shell: Shell, word: str) -> None:
     shell.explains = _is_on(word)
 
 
-@dotted(".pager on|off", "shows long answers by the command that PAGER names, as at first")
+@dotted(".pager on|off", "shows long answers with the command in $PAGER")
 def _pager(shell: Shell, word: str) -> None:
     shell.has_pager = _is_on(word)
 
@@ -123,13 +123,13 @@ def _is_on(word: str) -> bool:
     return word == "on"
 
 
-@dotted(".exit [STATUS]", "leaves with this status")
+@dotted(".exit [STATUS]", "leaves, with an exit status")
 def _exit(_shell: Shell, status: str = "") -> None:
     if status and not (status.isdecimal() and len(status) < 4 and int(status) < 256):
         raise Trouble("a status is a number from 0 to 255")
     raise Quit(int(status) if status else None)
 
 
-@dotted(".quit", "leaves; Ctrl-D does so too")
+@dotted(".quit", "leaves; so does Ctrl-D")
 def _quit(_shell: Shell) -> None:
     raise Quit

@@ -3,6 +3,7 @@
 What must hold: each test has a folder of its own, in which the shell keeps its history and looks for its init file.
 """
 
+import codecs
 import contextlib
 import io
 import os
@@ -73,7 +74,12 @@ class Typed:
             for number in (signal.SIGINT, signal.SIGHUP):
                 signal.signal(number, signal.SIG_DFL)
             os.execve(RUN[0], [*RUN, *said], environment)
+        self.decoder = codecs.getincrementaldecoder("utf-8")()
         self.seen = ""
+
+    def read(self):
+        """Takes what has come."""
+        self.seen += self.decoder.decode(os.read(self.terminal, 65536)).replace("\r\n", "\n")
 
     def type(self, keys):
         os.write(self.terminal, keys.encode())
@@ -85,7 +91,7 @@ class Typed:
             if not select.select([self.terminal], [], [], max(0, latest - time.monotonic()))[0]:
                 raise AssertionError(f"{text!r} never came, but {self.seen!r}")
             try:
-                self.seen += os.read(self.terminal, 65536).decode().replace("\r\n", "\n")
+                self.read()
             except OSError as why:
                 raise AssertionError(f"{text!r} never came, but {self.seen!r}, and the end") from why
         before, self.seen = self.seen.split(text, 1)
@@ -95,7 +101,7 @@ class Typed:
         """Whether a text comes soon. What has come stays to be waited for."""
         latest = time.monotonic() + seconds
         while text not in self.seen and select.select([self.terminal], [], [], max(0, latest - time.monotonic()))[0]:
-            self.seen += os.read(self.terminal, 65536).decode().replace("\r\n", "\n")
+            self.read()
         return text in self.seen
 
     def interrupt(self):
@@ -123,7 +129,7 @@ class Typed:
                 return os.waitstatus_to_exitcode(status)
             with contextlib.suppress(OSError):
                 if select.select([self.terminal], [], [], 0.01)[0]:
-                    self.seen += os.read(self.terminal, 65536).decode()
+                    self.read()
         raise AssertionError("it doesn't end")
 
 
