@@ -254,6 +254,20 @@ class Typed(shells.AtATerminal):
             shell.type(".quit\n")
             self.assertEqual(shell.end(), 0)
 
+    def test_an_init_file_that_ends_early(self):
+        (self.room / "config" / "mmdb").mkdir(parents=True)
+        for content, seen in ((".bail on\nselct\n.print never\n", "selct is no command"), (None, "init is a folder")):
+            if content is None:
+                (self.room / "config" / "mmdb" / "init").unlink()
+                (self.room / "config" / "mmdb" / "init").mkdir()
+            else:
+                self.file("config/mmdb/init", content)
+            shell = shells.Typed(self.environment())
+            shell.wait_for(seen)
+            self.assertNotIn("never", shell.wait_for("mmdb> "))
+            shell.type(".quit\n")
+            self.assertEqual(shell.end(), 0)
+
     def test_a_dump_and_a_file_that_bails(self):
         dump = self.file("dump", "# mmdb dump\ntable t (id int)\nload t 5\nid\n7\n# end of the dump\n")
         shell = self.typed("--restore", dump)

@@ -3,9 +3,8 @@
 from __future__ import annotations
 
 import signal
-from contextlib import contextmanager
 from types import FrameType
-from typing import Iterator, Optional
+from typing import Optional
 
 
 class Interrupts:
@@ -24,15 +23,14 @@ class Interrupts:
             if signal.getsignal(number) is not signal.SIG_IGN:
                 signal.signal(number, taken)
 
-    @contextmanager
-    def allowed(self) -> Iterator[None]:
+    def allowed(self) -> "_Allowed":
         """Lets KeyboardInterrupt come meanwhile, and at once if one was noted."""
-        before, self._is_allowed = self._is_allowed, True
-        try:
-            self.check()
-            yield
-        finally:
-            self._is_allowed = before
+        return _Allowed(self)
+
+    def allow(self, is_allowed: bool) -> bool:
+        """Says whether KeyboardInterrupt may come at once, and gives what was said before."""
+        before, self._is_allowed = self._is_allowed, is_allowed
+        return before
 
     def check(self) -> None:
         """Raises KeyboardInterrupt if one was noted."""
@@ -53,3 +51,22 @@ class Interrupts:
 
     def _on_end(self, number: int, _frame: Optional[FrameType]) -> None:
         raise SystemExit(128 + number)
+
+
+class _Allowed:
+    """A while in which KeyboardInterrupt may come. (It is entered for each line, so it is no generator.)"""
+
+    def __init__(self, interrupts: Interrupts) -> None:
+        self._interrupts = interrupts
+        self._before = False
+
+    def __enter__(self) -> None:
+        self._before = self._interrupts.allow(True)
+        try:
+            self._interrupts.check()
+        except KeyboardInterrupt:
+            self._interrupts.allow(self._before)
+            raise
+
+    def __exit__(self, *_: object) -> None:
+        self._interrupts.allow(self._before)

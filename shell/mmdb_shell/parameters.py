@@ -49,7 +49,7 @@ class Parameters:
     def bind(self, line: bytes) -> Bound:
         """Puts the values into the places of a line. Raises Trouble where a place has none."""
         has_places = bool(self._values) and (b"?" in line or b":" in line)
-        if is_comment(line) or not (has_places or b"\n" in line) or is_refused_anyway(line):
+        if not (has_places or b"\n" in line) or is_comment(line) or is_refused_anyway(line):
             return Bound(line, ())
         binding = _Binding(self._values if has_places else None)
         bound = _TEXT_OR_PLACE.sub(binding.put, line.decode())

@@ -51,10 +51,13 @@ class Requests:
     def next(self) -> Optional[Request]:
         """The next request, or None at the end of the source."""
         line: Optional[bytes] = self._rest
-        if is_blank(self._rest):
+        if not line or is_blank(line):
             line = self.source.line()
         if line is None:
             return None
+        if b";" not in line:
+            self._rest = b""
+            return Request(line, self.source.number, False)
         front, is_ended, self._rest = cut(line)
         return Request(front, self.source.number, is_ended)
 

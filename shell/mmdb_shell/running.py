@@ -112,12 +112,21 @@ def _begun(shell: Shell, options: Options, is_typed: bool) -> bool:
             commands.filing.restore(shell, options.restored)
     except (mmdb.Refused, Trouble, MemoryError) as why:
         return _refused(shell, why)
-    path = options.init
-    if path is None and options.has_init and is_typed:
-        path = init_file()
-        if not os.path.exists(path):
-            return True
-    return path is None or _do_file(shell, path)
+    if options.init is not None:
+        return _do_file(shell, options.init)
+    if options.has_init and is_typed and os.path.exists(init_file()):
+        _do_init(shell)
+    return True
+
+
+def _do_init(shell: Shell) -> None:
+    """Does the user's init file at a terminal. Where it ends early, the prompt comes all the same."""
+    try:
+        _do_file(shell, init_file())
+    except Bailed:
+        pass
+    except KeyboardInterrupt:
+        shell.output.say("interrupted\n")
 
 
 def init_file() -> str:

@@ -93,12 +93,14 @@ class Shell:
 
     def _step(self, requests: Requests) -> bool:
         """Does one request, and tells whether the source goes on."""
-        source = requests.source
+        source, self._line = requests.source, b""
         try:
             if source.is_typed:
                 self.interrupts.forget()
-            with self._reading_lines():
+            self._is_doing = False
+            with self.interrupts.allowed():
                 request = requests.next()
+            self._is_doing = True
             if request is None:
                 return False
             self._do(requests, request)
@@ -116,14 +118,6 @@ class Shell:
             self._refuse(source, why)
             return not isinstance(why, Unreadable)
         return True
-
-    @contextmanager
-    def _reading_lines(self) -> Iterator[None]:
-        """Lets Ctrl-C come while lines are waited for."""
-        self._is_doing, self._line = False, b""
-        with self.interrupts.allowed():
-            yield
-        self._is_doing = True
 
     def _do(self, requests: Requests, request: Request) -> None:
         """Does a request, and where its line ends too early, that line with those after it."""
@@ -146,8 +140,10 @@ class Shell:
             if not last.has_open_text:
                 best = last
                 source.mark()
-            with self._reading_lines():
+            self._is_doing = False
+            with self.interrupts.allowed():
                 request = requests.continued(last.request)
+            self._is_doing = True
             if request is None:
                 break
             attempt = self._try(source, request)
@@ -197,7 +193,7 @@ class Shell:
         told = self._answered(self._line, block, values)
         took = time.perf_counter() - began
         if isinstance(told, str):
-            self._show_answer(source, line.split()[0], told)
+            self._show_answer(source, line.split(None, 1)[0], told)
         else:
             self.show(told.names, told)
         if self.has_timer:
@@ -300,7 +296,8 @@ class Shell:
     @contextmanager
     def bar(self, total: Optional[int], unit: str) -> Iterator[Bar]:
         """A bar for what may take long, at a terminal."""
-        bar = Bar(self._write_error if self.is_at_terminal else None, total, unit)
+        is_shown = self.is_at_terminal and self._err.isatty()
+        bar = Bar(self._write_error if is_shown else None, total, unit)
         try:
             yield bar
         finally:
