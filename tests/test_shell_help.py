@@ -151,5 +151,6 @@ class AtTheTerminal(shells.AtATerminal):
         shell.type("select *\nfr\tde\t\n")
         shell.wait_for(" ...> from dept")
         shell.wait_for("│ toys      │\n")
+        shell.wait_for("mmdb> ")
         shell.type("\x04")
         self.assertEqual(shell.end(), 0)

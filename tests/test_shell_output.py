@@ -240,9 +240,7 @@ class LongWork(shells.AtATerminal):
 
     def check_interrupted(self, shell, line):
         """A line that goes on until Ctrl-C, which ends it and nothing else."""
-        shell.type(line + "\n")
-        shell.wait_for(line + "\n")
-        self.assertIn("interrupted\n", shell.interrupt())
+        shell.interrupt_line(line)
         self.assertEqual(shell.ask(".count t"), "50000\n")
 
     def test_ctrl_c_ends_what_reads_and_writes(self):

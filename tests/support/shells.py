@@ -112,6 +112,15 @@ class Typed:
                 return self.wait_for("mmdb> ", 1)
         raise AssertionError(f"there is no new prompt, but {self.seen!r}")
 
+    def interrupt_line(self, line):
+        """Types a line that goes on until Ctrl-C, which ends it. One that comes before the line begins takes a new prompt alone."""
+        for _ in range(20):
+            self.type(line + "\n")
+            self.wait_for(line + "\n")
+            if "interrupted\n" in self.interrupt():
+                return
+        raise AssertionError(f"{line} is never interrupted")
+
     def ask(self, line):
         """What a line is answered."""
         self.type(line + "\n")
