@@ -113,7 +113,12 @@ class ThroughAPipe(shells.Piped):
         self.assertEqual(self.ran([], "--version").stdout.decode(), f"mmdb-shell {harness.VERSION}\n")
         self.assertIn("--policy", self.ran([], "--help").stdout.decode())
         self.check([".policy", ".mode"], ["merge", "json"], said=["--policy", "merge", "--mode", "json"])
-        self.check(["table t (id int)", "insert t (1)", "insert t (2)"], [], ["line 3: error 43 table full: t has 1 rows, and there can be no more"], said=["--rows", "1"])
+        self.check(
+            ["table t (id int)", "insert t (1)", "insert t (2)"],
+            [],
+            ["line 3: error 43 table full: t has 1 rows, and there can be no more"],
+            said=["--rows", "1"],
+        )
         for said in (["--policy", "fast"], ["--rows", "0"], ["--block", "x"], ["--file"]):
             with self.subTest(said), contextlib.redirect_stderr(io.StringIO()) as err, self.assertRaises(SystemExit) as ended:
                 starting.main(said)
@@ -367,7 +372,11 @@ class Loads(shells.InThisProcess):
         shell = self.shell()
         self.do(shell, "table t (id int, s text)")
         path = self.file("t.csv", "id,t\n1,a\n")
-        self.do(shell, f".load t {path}", refused=f"error 61 bad header; its first record has to be id,s; no row of {path} went in: field 2 of the header is t, and column 2 is s")
+        self.do(
+            shell,
+            f".load t {path}",
+            refused=f"error 61 bad header; its first record has to be id,s; no row of {path} went in: field 2 of the header is t, and column 2 is s",
+        )
         path = self.file("t.csv", "id,s\n" + "1,a\n" * 1 + '2,"' + "x" * 70 + "\n")
         why = "behind record 1 no record ends within a block of 64 bytes; is a quote mark left open? (no row of the file went in)"
         self.do(shell, f".load t {path}", refused=why)

@@ -120,7 +120,10 @@ class Exports(shells.InThisProcess):
             other.executescript(pathlib.Path(path).read_bytes().decode())
             for table in ("u", "v", "Order_", "none"):
                 rows = other.execute(f'select * from "{table}"').fetchall()
-                self.assertEqual(sorted(map(list, rows), key=lambda row: row[0]), sorted(shell.db.execute(f"select * from {table}"), key=lambda row: row[0]))
+                self.assertEqual(
+                    sorted(map(list, rows), key=lambda row: row[0]),
+                    sorted(shell.db.execute(f"select * from {table}"), key=lambda row: row[0]),
+                )
             self.assertEqual(other.execute('pragma foreign_key_list("Order_")').fetchall()[0][2:5], ("v", "v", None))
             with self.assertRaises(sqlite3.IntegrityError):
                 other.execute('insert into "Order_" values (9999, \'\', null, 7)')
@@ -136,7 +139,12 @@ class Exports(shells.InThisProcess):
             self.skipTest("sqlite3 is not installed")
         # (it drops a carriage return at the end of a line that it reads)
         with open(self.exported(self.filled(without="\0\r")), "rb") as file:
-            ran = subprocess.run(["sqlite3", ":memory:", ".bail on", ".read /dev/stdin", 'select count(*) from "Order_"'], stdin=file, capture_output=True, check=False)
+            ran = subprocess.run(
+                ["sqlite3", ":memory:", ".bail on", ".read /dev/stdin", 'select count(*) from "Order_"'],
+                stdin=file,
+                capture_output=True,
+                check=False,
+            )
         self.assertEqual((ran.returncode, ran.stdout, ran.stderr), (0, b"1200\n", b""))
 
     def test_postgresql(self):
@@ -173,7 +181,15 @@ class Exports(shells.InThisProcess):
     def test_names_of_indexes(self):
         long = "a" * 32
         shell = self.shell()
-        self.do(shell, f"table {long} (id int, {long} int)", f"index {long} {long} tree", "table t (id int, b int)", "index t b hash", "table t_b (id int)", "table T_B_ (id int)")
+        self.do(
+            shell,
+            f"table {long} (id int, {long} int)",
+            f"index {long} {long} tree",
+            "table t (id int, b int)",
+            "index t b hash",
+            "table t_b (id int)",
+            "table T_B_ (id int)",
+        )
         text = pathlib.Path(self.exported(shell)).read_text()
         self.assertIn(f'create index "index_1" on "{long}" ("{long}");\n', text)
         self.assertIn('create index "index_2" on "t" ("b");\n', text)

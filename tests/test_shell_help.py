@@ -22,7 +22,20 @@ class Completed(shells.InThisProcess):
             self.assertEqual(self.completer.words(before, text, behind), found)
 
     def test_tables(self):
-        for before in ("select * from ", "insert ", "delete ", "dump ", "load ", "update ", "index ", "drop table ", "drop index ", "table t (a ref ", "select * from emp join ", "select * from emp join dept on "):
+        for before in (
+            "select * from ",
+            "insert ",
+            "delete ",
+            "dump ",
+            "load ",
+            "update ",
+            "index ",
+            "drop table ",
+            "drop index ",
+            "table t (a ref ",
+            "select * from emp join ",
+            "select * from emp join dept on ",
+        ):
             self.check(before, "", ["dept", "emp", "staff"])
         self.check("select * from emp join ", "de", ["dept"])
 
@@ -110,7 +123,10 @@ class Helped(shells.Piped):
     def test_what_is_said(self):
         self.check([".help join"], ["join", f"  {words.KEYWORDS['join']}"])
         self.check([".help =", ".help '#'"], ["=", f"  {words.SIGNS['=']}", "#", f"  {words.SIGNS['#']}"])
-        self.check([".help once"], [".once FILE", "  does so for the next answer only", *(f"  {line}" for line in commands.DOTTED[".once"].more.splitlines())])
+        self.check(
+            [".help once"],
+            [".once FILE", "  does so for the next answer only", *(f"  {line}" for line in commands.DOTTED[".once"].more.splitlines())],
+        )
         told = self.ran([".help language"]).stdout.decode()
         for word in model.RESERVED:
             self.assertIn(f" {word}", f" {told}")
@@ -130,7 +146,10 @@ class Named(unittest.TestCase):
     def test_fronts(self):
         for name in dotted.DOTTED:
             self.assertEqual(dotted.found(name), name)
-        self.assertEqual([dotted.found(name) for name in (".sc", ".par", ".ou", ".onc", ".imp")], [".schema", ".parameter", ".output", ".once", ".import"])
+        self.assertEqual(
+            [dotted.found(name) for name in (".sc", ".par", ".ou", ".onc", ".imp")],
+            [".schema", ".parameter", ".output", ".once", ".import"],
+        )
 
 
 class AtTheTerminal(shells.AtATerminal):

@@ -28,13 +28,22 @@ class Imports(shells.InThisProcess):
 
     def test_types_that_it_finds(self):
         shell = self.imported("id,n,zip,mixed,big,empty,neg\n1,5,007,1,9223372036854775807,,-3\n2,6,123,x,9223372036854775808,,-0\n")
-        self.do(shell, ".schema", "select * from t where id = 2", said="table t (id int, n int, zip text, mixed text, big text, empty text, neg text)\nt.id,t.n,t.zip,t.mixed,t.big,t.empty,t.neg\n2,6,123,x,9223372036854775808,\"\",-0\n")
+        self.do(
+            shell,
+            ".schema",
+            "select * from t where id = 2",
+            said="table t (id int, n int, zip text, mixed text, big text, empty text, neg text)\nt.id,t.n,t.zip,t.mixed,t.big,t.empty,t.neg\n2,6,123,x,9223372036854775808,\"\",-0\n",
+        )
         shell = self.imported("a,b\n")
         self.do(shell, ".schema", said="table t (a text, b text)\n")
 
     def test_names_that_it_makes(self):
         shell = self.imported("\ufeffFull Name,select,2nd,Straße,full name,Full Name,,x\n" + "1,2,3,4,5,6,7,8\n")
-        self.do(shell, ".schema", said="table t (Full_Name int, _select int, _2nd int, Stra_e int, full_name int, Full_Name_2 int, column int, x int)\n")
+        self.do(
+            shell,
+            ".schema",
+            said="table t (Full_Name int, _select int, _2nd int, Stra_e int, full_name int, Full_Name_2 int, column int, x int)\n",
+        )
         long = "a" * 40
         shell = self.imported(f"{long},{long}b\n1,2\n")
         self.do(shell, ".schema", said=f"table t ({long[:32]} int, {long[:30]}_2 int)\n")
@@ -63,7 +72,12 @@ class Imports(shells.InThisProcess):
             ("id,s\n1,a\n2\n", "", (), "error 62 bad record 2; no row of PATH went in: a row of t has a field for each column: 2, not 1"),
             ("s,id\na,1\nb\n", "--key id", (), "record 2 has 1 field, and the file 2 fields"),
             ("id,more,s\n1,a\n", "", ["table t (id int, s text)"], "record 1 has 2 fields, and the file 3 fields"),
-            ("id\nx\n", "", ["table t (id int)"], "error 62 bad record 1; no row of PATH went in: the field of id is x, and that is no integer of 64 bits"),
+            (
+                "id\nx\n",
+                "",
+                ["table t (id int)"],
+                "error 62 bad record 1; no row of PATH went in: the field of id is x, and that is no integer of 64 bits",
+            ),
             ("id\n1\n", "--key no", (), "the file has no column no; it has id"),
             ("id\n1\n", "--separator ab", (), "a separator is one character, but no quote mark and no end of a line; tab is spelled tab"),
             ("id\n1\n", "--separator", (), "a value is missing behind --separator"),
@@ -103,7 +117,11 @@ class Imports(shells.InThisProcess):
             order = draw.sample(["id int", "a text", "b text", "c text"][1:], 3)
             with self.subTest(number=number, text=text.getvalue()):
                 shell = self.shell(block=draw.choice([600, 1 << 16]))
-                self.do(shell, f"table t (id int, {', '.join(order)})", f".import {self.file('f.csv', text.getvalue())} t --separator {'tab' if separator == chr(9) else repr(separator)}")
+                self.do(
+                    shell,
+                    f"table t (id int, {', '.join(order)})",
+                    f".import {self.file('f.csv', text.getvalue())} t --separator {'tab' if separator == chr(9) else repr(separator)}",
+                )
                 self.assertEqual(shell.db.execute("select id, a, b, c from t"), rows)
 
     def drawn(self, draw):
@@ -114,16 +132,40 @@ class FirstRows(shells.Piped):
     """`.count` and `.head`."""
 
     def test_count(self):
-        lines = [*COMPANY, ".count", ".count emp", ".count select * from emp where dept = 10", ".parameter set 1 10", ".count select * from emp where dept = ?", ".count staff"]
+        lines = [
+            *COMPANY,
+            ".count",
+            ".count emp",
+            ".count select * from emp where dept = 10",
+            ".parameter set 1 10",
+            ".count select * from emp where dept = ?",
+            ".count staff",
+        ]
         self.check(lines, ["table,rows", "dept,1", "emp,2", "2", "1", "1"], ["line 12: error 30 no such table: staff is no table"])
 
     def test_head(self):
         rows = [f"insert t ('k{at:02}')" for at in range(20)]
-        lines = ["table t (k text)", *rows, ".head 2 t", ".head 1 select * from t where k > 'k05'", ".head 0 t", ".count select * from t", ".head t", ".head 99 t"]
+        lines = [
+            "table t (k text)",
+            *rows,
+            ".head 2 t",
+            ".head 1 select * from t where k > 'k05'",
+            ".head 0 t",
+            ".count select * from t",
+            ".head t",
+            ".head 99 t",
+        ]
         first = [f"k{at:02}" for at in range(20)]
         self.check(lines, ["t.k", "k00", "k01", "t.k", "k06", "t.k", "20", "t.k", *first[:10], "t.k", *first])
-        refused = ["line 1: error 30 no such table: t is no table", "line 2: it is written .head [N] TABLE|SELECT", "line 3: it is written .head [N] TABLE|SELECT"]
+        refused = [
+            "line 1: error 30 no such table: t is no table",
+            "line 2: it is written .head [N] TABLE|SELECT",
+            "line 3: it is written .head [N] TABLE|SELECT",
+        ]
         self.check([".head t", ".head 7", ".head"], [], refused)
 
     def test_a_key_with_a_line_feed(self):
-        self.check(["table t (k text)", "insert t ('a\n')", "insert t ('b')", "insert t ('c')", ".head 1 t", ".head 2 t"], ["t.k", '"a', '"', "t.k", '"a', '"', "b"])
+        self.check(
+            ["table t (k text)", "insert t ('a\n')", "insert t ('b')", "insert t ('c')", ".head 1 t", ".head 2 t"],
+            ["t.k", '"a', '"', "t.k", '"a', '"', "b"],
+        )

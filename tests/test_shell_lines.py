@@ -14,13 +14,28 @@ class OverSeveralLines(shells.Piped):
     """A command goes on in the next line where it ends too early, and a semicolon ends it."""
 
     def test_semicolons(self):
-        self.check(["table t (id int, s text); insert t (1, 'a;b');insert t (2, 'it''s; so') ; ;", "select s from t; tables;"], ["t.s", "a;b", "it's; so", "table t (id int, s text)"])
+        self.check(
+            ["table t (id int, s text); insert t (1, 'a;b');insert t (2, 'it''s; so') ; ;", "select s from t; tables;"],
+            ["t.s", "a;b", "it's; so", "table t (id int, s text)"],
+        )
         self.check(["# tables; nothing", "table t (id int);", ".print a;b"], ["a;b"])
 
     def test_a_command_over_several_lines(self):
         stream = ["table emp (", "  id int, # no comment here", ")"]
         self.assertEqual(self.ran(stream).returncode, 1)
-        stream = ["table emp (", "  # the key", "  id int,", "", "  name text", ")", "insert emp (1,\r", "\t'Ann'); select", "name", "from emp where id =", "1"]
+        stream = [
+            "table emp (",
+            "  # the key",
+            "  id int,",
+            "",
+            "  name text",
+            ")",
+            "insert emp (1,\r",
+            "\t'Ann'); select",
+            "name",
+            "from emp where id =",
+            "1",
+        ]
         self.check(stream, ["emp.name", "Ann"])
 
     def test_a_text_over_several_lines(self):
@@ -41,7 +56,11 @@ class OverSeveralLines(shells.Piped):
     def test_the_end_of_the_stream(self):
         wanted = "line 2: error 20 not a command: column 7: wanted distinct, * or a column's name, found the end of the line"
         self.check(["table t (id int)", "select", "tables"], ["table t (id int)"], [wanted])
-        self.check(b"table t (id int)\ndelete t where id =", [], ["line 2: error 20 not a command: column 20: wanted a value, found the end of the line"])
+        self.check(
+            b"table t (id int)\ndelete t where id =",
+            [],
+            ["line 2: error 20 not a command: column 20: wanted a value, found the end of the line"],
+        )
 
     def test_a_mistake_in_a_later_line(self):
         refused = [
@@ -119,7 +138,11 @@ class Parametrised(shells.Piped):
         why = "it is written .parameter set PLACE VALUE, unset PLACE, clear or list"
         for words in ("set 1", "unset", "clear 1", "list 1", "get 1"):
             self.check([f".parameter {words}"], [], [f"line 1: {why}"])
-        self.check([".parameter set 0 1", ".parameter unset 1"], [], ["line 1: 0 is no place: places are ?1, ?2 and so on, or :name", "line 2: no value is set for ?1"])
+        self.check(
+            [".parameter set 0 1", ".parameter unset 1"],
+            [],
+            ["line 1: 0 is no place: places are ?1, ?2 and so on, or :name", "line 2: no value is set for ?1"],
+        )
 
     def test_the_place_of_what_is_wrong(self):
         self.check(
@@ -141,7 +164,10 @@ class Started(shells.Piped):
 
     def test_files_and_lines(self):
         self.check_started([self.company, "-c", "select name from emp; .print done"], ["emp.name", "Ann", '""', "done"])
-        self.check_started([self.company, "-"], ["table dept (id int, name text)", "table emp (id int, name text, dept ref dept null)", "index emp dept tree"])
+        self.check_started(
+            [self.company, "-"],
+            ["table dept (id int, name text)", "table emp (id int, name text, dept ref dept null)", "index emp dept tree"],
+        )
         self.check_started(["-c", "table t (id int)", "-c", ".tables"], ["t"])
         self.check_started(["-c", "selct"], [], ["-c, line 1: error 20 not a command: column 1: selct is no command: is select meant?"])
         self.check_started([f"{self.room}/no", self.company], [], [f"there is no {self.room}/no"])
@@ -171,11 +197,36 @@ class Started(shells.Piped):
 
     def test_open(self):
         dump = str(self.room / "dump")
-        self.check_started([self.company, "-c", f".dump {dump}", "-c", ".open", "-c", ".tables", "-c", f".open {dump}", "-c", f".open {dump}", "-c", ".tables"], ["dept", "emp"])
-        self.check([*COMPANY, f".open {self.company}", ".tables"], ["dept", "emp"], [f"line 7: {self.company} is no dump: it doesn't begin with the line # mmdb dump"])
+        self.check_started(
+            [
+                self.company,
+                "-c",
+                f".dump {dump}",
+                "-c",
+                ".open",
+                "-c",
+                ".tables",
+                "-c",
+                f".open {dump}",
+                "-c",
+                f".open {dump}",
+                "-c",
+                ".tables",
+            ],
+            ["dept", "emp"],
+        )
+        self.check(
+            [*COMPANY, f".open {self.company}", ".tables"],
+            ["dept", "emp"],
+            [f"line 7: {self.company} is no dump: it doesn't begin with the line # mmdb dump"],
+        )
 
     def test_changes(self):
-        self.check([*COMPANY, ".changes on", "update emp set name = 'x'", "insert dept (11, '')", "delete dept where id = 12", "tables ?"], ["changes: 2, total: 5", "changes: 1, total: 6", "changes: 0, total: 6"], ["line 11: error 20 not a command: column 8: wanted the end of the line, found ?"])
+        self.check(
+            [*COMPANY, ".changes on", "update emp set name = 'x'", "insert dept (11, '')", "delete dept where id = 12", "tables ?"],
+            ["changes: 2, total: 5", "changes: 1, total: 6", "changes: 0, total: 6"],
+            ["line 11: error 20 not a command: column 8: wanted the end of the line, found ?"],
+        )
 
     def test_words_in_short(self):
         self.check([".tim on", ".e", ".x"], [], ["line 2: .e can be .exit, .explain or .export", "line 3: there is no .x; .help lists what there is"])
@@ -246,7 +297,11 @@ class Typed(shells.AtATerminal):
     def test_the_init_file(self):
         (self.room / "config" / "mmdb").mkdir(parents=True)
         self.file("config/mmdb/init", ".mode json\ntable t (id int)\nselct\n")
-        for said, seen, mode in (([], "selct is no command", "json\n"), (["--no-init"], "mmdb ", "box\n"), (["--init", self.file("own", ".mode csv\n")], "mmdb ", "csv\n")):
+        for said, seen, mode in (
+            ([], "selct is no command", "json\n"),
+            (["--no-init"], "mmdb ", "box\n"),
+            (["--init", self.file("own", ".mode csv\n")], "mmdb ", "csv\n"),
+        ):
             shell = shells.Typed(self.environment(), *said)
             shell.wait_for(seen)
             shell.wait_for("mmdb> ")

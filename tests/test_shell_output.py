@@ -34,11 +34,23 @@ class Elsewhere(shells.Piped):
         lines = [*COMPANY, f".once {self.room}/one", "", "# a comment", "select * from emp", ".print shown"]
         self.check(lines, ["shown"])
         self.assertEqual(self.read("one"), CSV)
-        self.check([f".once {self.room}/one", "selct", ".print shown"], ["shown"], ["line 2: error 20 not a command: column 1: selct is no command: is select meant?"])
+        self.check(
+            [f".once {self.room}/one", "selct", ".print shown"],
+            ["shown"],
+            ["line 2: error 20 not a command: column 1: selct is no command: is select meant?"],
+        )
         self.assertEqual(self.read("one"), CSV)
 
     def test_a_command(self):
-        lines = [*COMPANY, f".once |sort -r > '{self.room}/sorted'", "select * from emp", ".output | tr a-z A-Z", ".print 'in capitals'", ".output", ".print shown"]
+        lines = [
+            *COMPANY,
+            f".once |sort -r > '{self.room}/sorted'",
+            "select * from emp",
+            ".output | tr a-z A-Z",
+            ".print 'in capitals'",
+            ".output",
+            ".print shown",
+        ]
         self.check(lines, ["IN CAPITALS", "shown"])
         self.assertEqual(self.read("sorted"), "".join(sorted(CSV.splitlines(True), reverse=True)))
 
@@ -48,7 +60,18 @@ class Elsewhere(shells.Piped):
         self.check(lines, ["t.id", "shown"])
 
     def test_what_is_refused(self):
-        lines = [".output", f".output {self.room}/no/x", f".once {self.room}", ".once |", ".once", ".output 'x", ".once |exit 3", ".print x", ".once |kill -9 $$", ".print x"]
+        lines = [
+            ".output",
+            f".output {self.room}/no/x",
+            f".once {self.room}",
+            ".once |",
+            ".once",
+            ".output 'x",
+            ".once |exit 3",
+            ".print x",
+            ".once |kill -9 $$",
+            ".print x",
+        ]
         refused = [
             f"line 2: there is no {self.room}/no/x",
             f"line 3: {self.room} is a folder",
@@ -61,7 +84,14 @@ class Elsewhere(shells.Piped):
         self.check(lines, [], refused)
 
     def test_a_place_that_is_full(self):
-        lines = ["table t (id int, s text)", f"insert t (1, '{'x' * 1000}')", ".output /dev/full", *["select * from t"] * 20, ".output", ".print shown"]
+        lines = [
+            "table t (id int, s text)",
+            f"insert t (1, '{'x' * 1000}')",
+            ".output /dev/full",
+            *["select * from t"] * 20,
+            ".output",
+            ".print shown",
+        ]
         ran = self.ran(lines)
         self.assertEqual(ran.returncode, 1)
         self.assertEqual(ran.stdout.decode().splitlines()[-1], "shown")
@@ -157,6 +187,36 @@ class Bars(unittest.TestCase):
         self.assertEqual(bar._done, 2)
 
 
+class Screen(io.StringIO):
+    """A standard error that is a terminal."""
+
+    def isatty(self):
+        return True
+
+
+class WorksWithABar(shells.InThisProcess):
+    """Each command that may take long has a bar."""
+
+    def test_each(self):
+        rows = self.file("rows", "id\n" + "".join(f"{at}\n" for at in range(3_000)))
+        shell = self.shell(block=1 << 12)
+        shell.is_at_terminal, shell._err = True, Screen()
+        lines = [f".load t {rows}", f".import {rows} u", f".save t {rows}2", f".dump {self.room}/dump", f".export sql {self.room}/sql"]
+        lines += [".policy tree", f".open {self.room}/dump", ".open", f".restore {self.room}/dump"]
+        shell.db.execute("table t (id int)")
+        with unittest.mock.patch.multiple(bars, AFTER=0, EACH=0):
+            for line in lines:
+                with self.subTest(line):
+                    shell._err.seek(0)
+                    shell._err.truncate()
+                    shell.run(reading.Stream(io.BytesIO(line.encode()), ""))
+                    shown = shell._err.getvalue()
+                    if line != ".open":
+                        self.assertRegex(shown, r"\A\r\[[#-]{30}\] \d+ %")
+                        self.assertRegex(shown, r"\r *\r\Z")
+                    self.assertNotIn("error", shown)
+
+
 class ByRange(shells.InThisProcess):
     """The rows of a whole table come range by range, and are those of the select."""
 
@@ -170,7 +230,14 @@ class ByRange(shells.InThisProcess):
     def test_the_rows_are_the_same(self):
         shell = self.filled(50)
         with unittest.mock.patch.multiple(selecting, LEAST=10, _ROWS=7):
-            for line in ("select * from t", " select s , id from t\t", "select u from t\r", "select t.id from t", "select n from k", "select * from k"):
+            for line in (
+                "select * from t",
+                " select s , id from t\t",
+                "select u from t\r",
+                "select t.id from t",
+                "select n from k",
+                "select * from k",
+            ):
                 with self.subTest(line):
                     found, expected = selecting.by_range(shell.db, line.encode()), shell.db.execute(line)
                     self.assertEqual((list(found), len(found), found.names, found.types), (expected, 50, expected.names, expected.types))
@@ -178,7 +245,14 @@ class ByRange(shells.InThisProcess):
     def test_other_selects_are_read_at_once(self):
         shell = self.filled(50)
         with unittest.mock.patch.multiple(selecting, LEAST=10):
-            for line in ("select distinct s from t", "select * from t where id > 3", "select * from t join u on t.u = u.id", "select * from u", "select * from nothing", "select 'a' from t"):
+            for line in (
+                "select distinct s from t",
+                "select * from t where id > 3",
+                "select * from t join u on t.u = u.id",
+                "select * from u",
+                "select * from nothing",
+                "select 'a' from t",
+            ):
                 self.assertIsNone(selecting.by_range(shell.db, line.encode()))
             for line in ("select nothing from t", "select id, id from t", "select id s from t"):
                 with self.assertRaises(mmdb.Refused) as ranges:

@@ -106,7 +106,16 @@ class Folded(unittest.TestCase):
 
     def test_a_box_as_wide_as_the_terminal(self):
         cells = boxes.Cells(["id", "text"], [["1", "one two three four five"], ["22", "short"]], [True, False])
-        expected = ["┌────┬───────────┐", "│ id │ text      │", "├────┼───────────┤", "│  1 │ one two   │", "│    │ three     │", "│    │ four five │", "│ 22 │ short     │", "└────┴───────────┘"]
+        expected = [
+            "┌────┬───────────┐",
+            "│ id │ text      │",
+            "├────┼───────────┤",
+            "│  1 │ one two   │",
+            "│    │ three     │",
+            "│    │ four five │",
+            "│ 22 │ short     │",
+            "└────┴───────────┘",
+        ]
         self.assertEqual(self.lines(boxes.box, 18, cells), expected)
         self.assertEqual(self.lines(boxes.columns, 13, cells), ["id  text", "--  ---------", " 1  one two", "    three", "    four five", "22  short"])
 
