@@ -64,8 +64,9 @@ def named(files, version=harness.VERSION):
 
 
 def below(folder):
-    """The files and links below a folder."""
-    return {str(path.relative_to(folder)) for path in folder.rglob("*") if path.is_symlink() or not path.is_dir()}
+    """The files and links below a folder, without what Python makes of its modules."""
+    found = {path for path in folder.rglob("*") if path.is_symlink() or not path.is_dir()}
+    return {str(path.relative_to(folder)) for path in found if path.parent.name != "__pycache__"}
 
 
 def note(top):
@@ -209,6 +210,11 @@ class Uses(Installs):
         _, stream, answers = next(harness.rows())
         ran = subprocess.run([self.prefix / "bin" / "mmdb"], input=stream, capture_output=True, check=False)
         self.assertEqual((ran.returncode, ran.stdout, ran.stderr), (0, answers, b""))
+
+    def test_the_modules_are_compiled(self):
+        for folder in (self.prefix / "share" / "mmdb" / "shell" / "mmdb_shell", self.lib / "python3" / "dist-packages" / "mmdb"):
+            compiled = {path.name.partition(".")[0] for path in (folder / "__pycache__").iterdir()}
+            self.assertEqual(compiled, {path.stem for path in folder.glob("*.py")})
 
     def test_the_shell_runs(self):
         lines = "table t (id int)\ninsert t (7)\nselect * from t\n"
