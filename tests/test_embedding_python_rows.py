@@ -8,7 +8,7 @@ from support import binding
 
 
 class Names(binding.WithDatabase):
-    """A row is the list of its values, which are also had by name."""
+    """A row is the tuple of its values, which can also be read by name."""
 
     def setUp(self):
         super().setUp()
@@ -50,27 +50,39 @@ class Names(binding.WithDatabase):
         with self.assertRaises(IndexError):
             row[2]  # pylint: disable=pointless-statement
 
-    def test_names_that_lists_or_python_have(self):
+    def test_names_that_tuples_or_python_have(self):
         names = ["count", "sort", "mro", "__del__", "__eq__", "__len__", "__class__", "_names", "_places", "x__"]
         self.db.execute(f"table odd ({', '.join(f'{name} int' for name in names)})")
         self.db.load("odd", [range(len(names))])
         (row,) = self.db.select("select * from odd")
         self.assertEqual([row[name] for name in names], list(range(len(names))))
-        self.assertEqual((len(row), row, row.count(1), row.mro, row.x__), (10, list(range(10)), 1, 2, 9))
+        self.assertEqual((len(row), row, row.count(1), row.sort, row.mro, row.x__), (10, tuple(range(10)), 1, 1, 2, 9))
 
-    def test_a_row_is_a_list(self):
+    def test_a_row_is_a_tuple(self):
         found = self.db.select("select * from emp")
-        row = found[0]
-        self.assertIsInstance(row, list)
-        self.assertEqual((row, repr(row), row[-1], row[:2]), ([1, 'Ann "A"', 10], repr([1, 'Ann "A"', 10]), 10, [1, 'Ann "A"']))
+        row, values = found[0], (1, 'Ann "A"', 10)
+        self.assertIsInstance(row, tuple)
+        self.assertEqual((row, repr(row), row[-1], row[:2], row + (2,)), (values, repr(values), 10, values[:2], (*values, 2)))
+        self.assertEqual((hash(row), {row: 1}[values], {values, row}), (hash(values), 1, {values}))
         self.assertEqual(json.dumps(found), '[[1, "Ann \\"A\\"", 10], [2, "Bob, B", null]]')
         for copied in (copy.copy(row), copy.deepcopy(row), pickle.loads(pickle.dumps(row))):
-            self.assertEqual((copied, copied.name, copied["emp.id"]), (row, 'Ann "A"', 1))
+            self.assertEqual((type(copied), copied, copied.name, copied["emp.id"]), (type(row), row, 'Ann "A"', 1))
         copied = pickle.loads(pickle.dumps(found))
         self.assertEqual((copied, copied.names, copied[1].name), (found, found.names, "Bob, B"))
         found.sort(key=lambda row: row.dept or 0)
-        row[0] = 7
-        self.assertEqual((found[1].id, found[0].id), (7, 2))
+        self.assertEqual([row.id for row in found], [2, 1])
+        with self.assertRaises(TypeError):
+            row[0] = 7
+        self.assertEqual(self.db.select("select * from emp where id > 2"), [])
+
+    def test_what_a_row_is_equal_to(self):
+        (row,) = self.db.select("select * from dept")
+        for other, is_equal in (((10, "toys"), True), ([10, "toys"], True), ((10,), False), ([10, "toys", 1], False), ("toys", False), (None, False)):
+            with self.subTest(other=other):
+                self.assertEqual((row == other, other == row, row != other, other != row), (is_equal, is_equal, not is_equal, not is_equal))
+        self.assertTrue(row < (11, "") and row >= (10, "toys") and (9, "z") < row)
+        with self.assertRaises(TypeError):
+            row < [11, ""]  # pylint: disable=pointless-statement
 
     def test_dicts(self):
         self.assertEqual(self.db.select("select dept, id from emp").dicts(), [{"dept": 10, "id": 1}, {"dept": None, "id": 2}])

@@ -578,7 +578,7 @@ static int add_type(PyObject *into, PyTypeObject **type, PyType_Spec *spec, cons
 PyMODINIT_FUNC PyInit__mmdb(void)
 {
     PyObject *made = PyModule_Create(&module);
-    if (made != NULL && (statement_begin() < 0 || kept_begin() < 0 ||
+    if (made != NULL && (statement_begin() < 0 || kept_begin() < 0 || named_begin(made) < 0 ||
                          add_type(made, &turn_type, &turn_spec, NULL) < 0 ||
                          add_type(made, &handle_type, &handle_spec, "Handle") < 0 ||
                          add_type(made, &prepared_type, &prepared_spec, "Prepared") < 0))

@@ -118,6 +118,11 @@ Statement *kept_plain(Handle *handle, PyObject *line);
 
 void kept_forget_all(Handle *handle);
 
+/* What _named.c has: tuples with names for their values. */
+
+/* Makes the type of them, and puts it into the module. */
+int named_begin(PyObject *module);
+
 /* Gives the memory of an object of one of the types here back. */
 void free_object(PyObject *self);
 

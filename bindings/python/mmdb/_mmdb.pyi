@@ -4,6 +4,9 @@ from typing import Any, ContextManager, List, Optional, Tuple
 
 from .lines import Placed
 
+class Named(Tuple[Any, ...]):
+    """A tuple with names for its values, of which `mmdb.Row` is made."""
+
 class Handle:
     """An open database, of which `mmdb.Database` is made."""
 

@@ -210,7 +210,7 @@ static PyObject *value_of(const mmdb_rows *rows, const mmdb_cell *cell)
     return none();
 }
 
-/* How empty lists are made of a type that is made of list. */
+/* How objects are made of a type that is made of list or tuple. */
 typedef struct {
     PyTypeObject *type;
     newfunc make;
@@ -237,16 +237,36 @@ static int push(PyObject *list, PyObject *value)
     return status;
 }
 
-/* A row, whose bytes in the library are added to the size. */
+/* Puts the values of a row into a new tuple, which may be null, and gives it. Their bytes in the library are added to the
+   size. */
+static PyObject *filled(PyObject *tuple, const mmdb_rows *rows, size_t number, size_t *size)
+{
+    for (size_t column = 0; tuple != NULL && column < rows->columns; column++) {
+        const mmdb_cell *cell = mmdb_cell_at(rows, number, column);
+        PyObject *value = value_of(rows, cell);
+        *size += sizeof *cell + (cell->kind == MMDB_TEXT ? cell->length : 0);
+        if (value == NULL || PyTuple_SetItem(tuple, (Py_ssize_t)column, value) < 0)
+            Py_CLEAR(tuple);
+    }
+    return tuple;
+}
+
+/* Whether a tuple has nothing but its items, so that it is whole once they are put into it. From Python 3.14 on it also
+   has its hash, and is made by its type alone. */
+static int is_items_alone;
+
+/* A row. */
 static PyObject *row_of(Maker maker, const mmdb_rows *rows, size_t number, size_t *size)
 {
-    PyObject *row = empty_list(maker);
-    for (size_t column = 0; row != NULL && column < rows->columns; column++) {
-        const mmdb_cell *cell = mmdb_cell_at(rows, number, column);
-        *size += sizeof *cell + (cell->kind == MMDB_TEXT ? cell->length : 0);
-        if (push(row, value_of(rows, cell)) < 0)
-            Py_CLEAR(row);
-    }
+    Py_ssize_t columns = (Py_ssize_t)rows->columns;
+    if (is_items_alone)
+        return filled(PyType_GenericAlloc(maker.type, columns), rows, number, size);
+    PyObject *values = filled(PyTuple_New(columns), rows, number, size), *row = NULL;
+    PyObject *argument = values == NULL ? NULL : PyTuple_Pack(1, values);
+    if (argument != NULL)
+        row = maker.make(maker.type, argument, NULL);
+    Py_XDECREF(argument);
+    Py_XDECREF(values);
     return row;
 }
 
@@ -526,6 +546,8 @@ PyObject *named_of(PyObject *const *values, PyObject *keywords)
 
 int statement_begin(void)
 {
+    PyObject *version = PySys_GetObject("hexversion");
+    is_items_alone = version != NULL && PyLong_AsLong(version) < 0x030E0000;
     names_word = PyUnicode_InternFromString("names");
     types_word = PyUnicode_InternFromString("types");
     nothing = PyTuple_New(0);

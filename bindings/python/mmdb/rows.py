@@ -4,27 +4,28 @@ from __future__ import annotations
 
 import collections
 import functools
+import operator
 from typing import TYPE_CHECKING, Any, Callable, ClassVar, Dict, Iterable, List, NamedTuple, Sequence, Tuple, Type
 
-_item: Callable[[List[Any], Any], Any] = list.__getitem__
+from .chosen import extension
 
 if TYPE_CHECKING:
-    _Values = List[Any]
+    _Values = Tuple[Any, ...]
+    _ListOfRows = List["Row"]
 else:
-    _Values = list
+    _Values = tuple
+    _ListOfRows = list
+
+_item: Callable[[Tuple[Any, ...], Any], Any] = tuple.__getitem__
+_equal: Callable[[Tuple[Any, ...], object], bool] = tuple.__eq__
+_unequal: Callable[[Tuple[Any, ...], object], bool] = tuple.__ne__
 
 
-class Row(_Values):
-    """A row: the list of its values, which also have the names of their columns.
-
-    `row["emp.id"]` is the value of a column by its full name, and `row["id"]` and `row.id` if only one column has that
-    name. A name that lists have, as `count`, or that begins and ends with two underscores, works as `row["count"]`
-    only.
-    """
+class _Named(_Values):
+    """A tuple with names for its values. (The extension has the same class.)"""
 
     __slots__ = ()
 
-    _names: ClassVar[Tuple[str, ...]] = ()
     _places: ClassVar[Dict[str, int]] = {}
 
     def __getitem__(self, key: Any) -> Any:
@@ -35,16 +36,48 @@ class Row(_Values):
                 if not isinstance(key, str):
                     raise
         place = self._places.get(key)
-        if place is None:
-            raise KeyError(self._why_not(key))
-        return _item(self, place)
+        return self._missing(key) if place is None else _item(self, place)
+
+    def __eq__(self, other: object) -> bool:
+        return _equal(self, tuple(other) if isinstance(other, list) else other)
+
+    def __ne__(self, other: object) -> bool:
+        return _unequal(self, tuple(other) if isinstance(other, list) else other)
+
+    __hash__ = tuple.__hash__
+
+    def _missing(self, name: str) -> Any:
+        raise KeyError(name)
+
+
+if not TYPE_CHECKING and extension is not None:
+    _Named = extension.Named
+
+
+class Row(_Named):
+    """A row: the tuple of its values, which can also be read by the names of their columns.
+
+    `row["emp.id"]` is the value of a column by its full name. `row["id"]` and `row.id` are that of the one column with
+    that name. If a tuple has an attribute of the same name, such as `count`, or the name begins and ends with two
+    underscores, only `row["count"]` reads the column.
+
+    A row is equal to a tuple of its values and has the hash of that tuple. It is also equal to a list of its values.
+    """
+
+    __slots__ = ()
+
+    _names: ClassVar[Tuple[str, ...]] = ()
+    _places: ClassVar[Dict[str, int]] = {}
 
     def __getattr__(self, name: str) -> Any:
         # (each column that can be had so is a property, so there is none)
         raise AttributeError(self._why_not(name))
 
     def __reduce__(self) -> Any:
-        return _remade, (self._names, list(self))
+        return _remade, (self._names, tuple(self))
+
+    def _missing(self, name: str) -> Any:
+        raise KeyError(self._why_not(name))
 
     def _why_not(self, name: str) -> str:
         having = [full for full in self._names if full.endswith(f".{name}")]
@@ -53,7 +86,7 @@ class Row(_Values):
         return f"mmdb: the row has no column {name!r}; its columns are {', '.join(self._names)}"
 
 
-def _remade(names: Tuple[str, ...], values: List[Any]) -> Row:
+def _remade(names: Tuple[str, ...], values: Iterable[Any]) -> Row:
     return row_type(names)(values)
 
 
@@ -72,8 +105,13 @@ def short_names(names: Sequence[str]) -> List[str]:
     return [short if counts[short] == 1 else name for short, name in zip(bare, names)]
 
 
-def _value_at(place: int) -> property:
-    return property(lambda row: _item(row, place))
+def _value_at(place: int) -> Any:
+    """What reads the value at a place, as an attribute."""
+    try:
+        # (it takes a fifth of the time of a property)
+        return collections._tuplegetter(place, None)  # type: ignore[attr-defined]
+    except AttributeError:
+        return property(operator.itemgetter(place))
 
 
 @functools.lru_cache(maxsize=512)
@@ -85,16 +123,10 @@ def row_type(names: Tuple[str, ...]) -> Type[Row]:
     return type("Row", (Row,), {**members, "__slots__": (), "_names": names, "_places": places})
 
 
-if TYPE_CHECKING:
-    _ListOfRows = List[Row]
-else:
-    _ListOfRows = list
-
-
 class Rows(_ListOfRows):
     """A list of rows, with the names of their columns.
 
-    It equals each list with the same rows, and each row equals a list of its values.
+    It is equal to each list that has the same rows.
     """
 
     __slots__ = ("names", "types")
