@@ -296,7 +296,34 @@ class Reasons(binding.WithDatabase):
     def test_lines_that_a_new_user_might_type(self):
         for line, told in zip(hand.LINES, hand.TOLD, strict=True):
             with self.subTest(line=line):
-                self.assertEqual(str(self.refused(int(told[6:8]), self.db.execute, line)), told)
+                self.assertEqual(str(self.refused(int(told[6:8]), self.db.execute, line)).split("\n")[0], told)
+
+    def test_the_line_has_a_caret_below_the_place(self):
+        for line, given, shown, caret in (
+            ("selct * from emp", {}, "selct * from emp", "^"),
+            ("select * frm emp", {}, "select * frm emp", "         ^"),
+            ("select *\tfrm emp", {}, "select * frm emp", "         ^"),
+            ("insert dept (:id, :name)", {"id": 10, "name": "a"}, "insert dept (:id, :name)", "             ^"),
+            ("delete dept where name = '日本' und id = 1", {}, "delete dept where name = '日本' und id = 1", " " * 32 + "^"),
+            ("select " + "name, " * 40 + "? from emp", {}, "…" + ("name, " * 40)[-48:] + "? from emp", " " * 49 + "^"),
+            ("select ? " + "x" * 90, {}, "select ? " + "x" * 28 + "…", "       ^"),
+        ):
+            with self.subTest(line=line):
+                with self.assertRaises(mmdb.Refused) as raised:
+                    self.db.execute(line, None) if "?" in line else self.db.execute(line, **given)
+                _, first, second = str(raised.exception).split("\n")
+                self.assertEqual((first, second), (f"  {shown}", f"  {caret}"))
+
+    def test_no_caret_without_a_place(self):
+        for line in ("select * from nowhere", "insert dept (10, 'a')", "select salary from dept"):
+            with self.subTest(line=line):
+                self.assertNotIn("\n", str(self.refused_somehow_of(line)))
+        self.assertNotIn("\n", str(mmdb.Refused(20, "not a command", None, "column 1: nothing")))
+
+    def refused_somehow_of(self, line):
+        with self.assertRaises(mmdb.Refused) as raised:
+            self.db.execute(line)
+        return raised.exception
 
     def test_each_call(self):
         there, nowhere = "dept has a row with the key 10", "emp is no table"

@@ -5,6 +5,7 @@ are loaded.
 """
 
 import os
+import re
 import subprocess
 import sys
 import unittest
@@ -46,7 +47,9 @@ class WithDatabase(unittest.TestCase):
     def refused(self, number, call, *given, **named):
         """The refusal of that number, which a call raises."""
         why = self.refused_somehow(number, call, *given, **named)
-        self.assertEqual(str(why), f"error {number} {why.text}: {why.reason}")
+        first, *pointed = str(why).split("\n")
+        self.assertEqual(first, f"error {number} {why.text}: {why.reason}")
+        self.assertEqual(len(pointed), 2 if re.match(r"column \d+: ", why.reason) else 0)
         return why
 
     def refused_without_reason(self, number, call, *given, **named):

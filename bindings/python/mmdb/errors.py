@@ -4,6 +4,8 @@ from __future__ import annotations
 
 from typing import Dict, Optional, Type
 
+from .pointing import pointed
+
 
 class Warning(Exception):  # pylint: disable=redefined-builtin
     """Never raised; PEP 249 has it."""
@@ -72,7 +74,8 @@ class Refused(DatabaseError):
         self.written = line if written is None else written
 
     def __str__(self) -> str:
-        return f"error {self.number} {self.text}" + (f": {self.reason}" if self.reason else "")
+        told = f"error {self.number} {self.text}" + (f": {self.reason}" if self.reason else "")
+        return told + pointed(self.written, self.reason)
 
     def __repr__(self) -> str:
         return f"{type(self).__name__}({self.number}, {self.text!r}, {self.line!r}, {self.reason!r})"
