@@ -125,6 +125,54 @@ class Calls(binding.WithDatabase):
             with self.subTest(line=line):
                 self.assertEqual(self.db.execute(line), given)
 
+    def test_commands_over_several_lines(self):
+        self.db.execute("""
+            # the words
+            table t (
+                id int,
+                s text
+            )
+        """)
+        self.assertEqual(self.db.execute("tables\n"), "table t (id int, s text)\n")
+        for line, parameters, found in (
+            ("\n\n# it's a comment\n  insert t\n\t(?, 'it''s ?')\n# ? :s 'a\n", (1,), 1),
+            ("insert\r\nt (?,\r\n?)\r\n", (2, "b\n"), 1),
+            ("insert t (3, '#')", (), 1),
+            ("select s\nfrom t where\n id = ?", (2,), [("b\n",)]),
+            ("select s\nfrom t\nwhere id = 1 and s <> '# '", (), [("it's ?",)]),
+            ("delete t\n# where\nwhere id = 3", (), 1),
+            ("# delete t\n# where id = 1", (), None),
+            ("\n", (), None),
+            ("\n \r\n#", (), None),
+        ):
+            for _ in range(2):
+                with self.subTest(line=line):
+                    self.assertEqual(self.db.execute(line, *parameters), found)
+                if type(found) is int:
+                    break
+        with self.db.prepare("select id\nfrom t\nwhere s = :s\n") as statement:
+            self.assertEqual((statement.execute(s="b\n"), statement.line.count("\n")), ([(2,)], 3))
+        self.assertEqual(self.db.select("\n  select id\n  from t\n"), [(1,), (2,)])
+        self.assertEqual(self.db.executemany("insert t\n(?, ?)", [(4, "d"), (5, "e")]), 2)
+        self.assertEqual(self.db.change("\ndelete t"), 4)
+        with self.assertRaisesRegex(TypeError, "begins with tables"):
+            self.db.select("\n# a\ntables")
+
+    def test_a_refusal_of_a_command_over_several_lines(self):
+        self.db.execute("table t (id int, s text)")
+        for line, shown in (
+            ("select *\nfrom t\nwhere id == 1", ["where id == 1", "          ^"]),
+            ("# a\n  selct *\n  from t", ["  selct *", "  ^"]),
+            ("select *\nfrom t\n# all\nwhere", ["where", "     ^"]),
+            ("table u (\n  id int,\n  id2 in\n)", ["  id2 in", "      ^"]),
+        ):
+            with self.subTest(line=line):
+                why = self.refused(20, self.db.execute, line)
+                self.assertEqual((why.written, str(why).split("\n")[1:]), (line, [f"  {each}" for each in shown]))
+        why = self.refused(35, self.db.execute, "insert t (\n  :id,\n  :s\n)", id=1, s=2)
+        self.assertEqual(str(why).split("\n")[1:], ["    :s", "    ^"])
+        self.assertEqual(why.line, "insert t (   1,   2 )")
+
     def test_rows_have_the_names_of_their_columns(self):
         self.db.execute("table t (id int, s text)")
         self.assertEqual(self.db.execute("select s, id from t").names, ("t.s", "t.id"))
@@ -551,9 +599,10 @@ class Parameters(binding.WithDatabase):
         self.assertEqual([row[0] for row in self.db.dump("t")], [-(2**63), 1 - 2**63, 2**63 - 2, 2**63 - 1])
 
     def test_lines_are_one_request(self):
-        for line in ("insert t (1, 'a')\ndelete t", "insert t (1, 'a')\n", "\n", "load t 9", "load t 99999999999"):
+        for line in ("load t 9", "load t 99999999999", "load t\n9", "insert t (1, 'a\n')", "insert t (1,\n'it''s\n')"):
             with self.subTest(line=line), self.assertRaises(ValueError):
                 self.db.execute(line)
+        self.refused(20, self.db.execute, "insert t (1, 'a')\ndelete t")
         for line, block in (("load t 3", b"ab"), ("load t 3", b""), ("tables", b"a"), ("load t 3\n", b"abc")):
             with self.subTest(line=line), self.assertRaises(ValueError):
                 self.db.answer(line, block)

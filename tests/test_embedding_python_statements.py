@@ -126,7 +126,7 @@ class Statements(binding.WithDatabase):
         for line in (None, b"select * from emp", 5):
             with self.subTest(line=line), self.assertRaisesRegex(TypeError, "a line is a str"):
                 self.db.prepare(line)
-        for line in ("select * from emp\n", "insert emp (?, :name, null)", "delete emp where name = '\ud800'"):
+        for line in ("select * from emp where name = '\n'", "insert emp (?, :name, null)", "delete emp where name = '\ud800'"):
             with self.subTest(line=line), self.assertRaises(ValueError):
                 self.db.prepare(line)
 

@@ -23,8 +23,8 @@ int statement_take(Statement *statement, PyObject *placed)
     PyObject *line, *names;
     Py_ssize_t places, wanted;
     int is_select, is_statement;
-    if (!PyArg_ParseTuple(placed, "SOnO!npp", &line, &(PyObject *){ NULL }, &places, &PyTuple_Type, &names, &wanted,
-                          &is_select, &is_statement))
+    if (!PyArg_ParseTuple(placed, "SOnO!nppO", &line, &(PyObject *){ NULL }, &places, &PyTuple_Type, &names, &wanted,
+                          &is_select, &is_statement, &(PyObject *){ NULL }))
         return -1;
     statement_clear(statement);
     statement->placed = Py_NewRef(placed);

@@ -7,7 +7,7 @@ from typing import TYPE_CHECKING, Any, Dict, Iterable, List, Mapping, NoReturn, 
 from .errors import NoMemory, OperationalError, WrongUse, refusal_of
 from .handles import Handle
 from .indexes import Index, indexes_of
-from .lines import CHANGES, Placed, check_kind, check_line, placed
+from .lines import CHANGES, Placed, check_kind, check_line, one_line, placed
 from .rows import Rows, Shape, shape_of
 from .statement import Statement
 from .values import Column, Value, as_bytes, block_of, check_rows, check_values, columns_of, encoded, rows_of, rows_of_dicts
@@ -64,13 +64,14 @@ class Database(Handle):
             Each `?` of the line outside of texts is the place of a parameter, an int, a str or None, which is
             null. If the places are of the form `:name`, the parameters are keywords or a mapping.
 
-            A select returns its `Rows`; `insert`, `update` and `delete` return the number of rows; `tables` returns
-            the text of the declarations, each with a line feed, and `dump` the text of the load that it answers.
-            All other commands, comments and blank lines return None.
+            A select gives its `Rows`; `insert`, `update` and `delete` give how many rows they were about; `tables`
+            gives the text of the declarations, each with a line feed, and `dump` the text of the load that it answers.
+            All other commands give None, and so do comments and blank lines. A command may be written over several
+            lines, some of which may be comments.
 
-            Raises `Refused` if it is refused. Raises ValueError if the parameters don't fit the places, a text has a
-            lone surrogate, an integer has more than 64 bits, or the line has a line feed or is a load with a block.
-            Raises TypeError if a parameter is of any other type, bool among them.
+            Raises `Refused` where it is refused. Raises ValueError where the parameters don't fit the places, a text
+            has a lone surrogate, an integer has more than 64 bits, a text that is written in the line has a line feed,
+            or it is a load with a block. Raises TypeError where a parameter is of any other type, bool among them.
             """
 
         def select(self, line: str, /, *parameters: Any, **named: Value) -> Rows:
@@ -204,7 +205,7 @@ class Database(Handle):
             return self._done(str.__str__(line), at, values)
         sent = encoded(at.filled(values))
         with self._turn:
-            return _outcome(line, self._accepted(sent))
+            return _outcome(one_line(line), self._accepted(sent, written=None if at.places else at.given))
 
     def _check_values(self, values: Sequence[Any]) -> None:
         """Raises what is wrong with these values."""
@@ -224,7 +225,7 @@ class Database(Handle):
         if isinstance(at, str):
             raise refusal_of(answer, encoded(at), reason)
         told = None if reason is None else at.pointed(reason)
-        raise refusal_of(answer, encoded(at.filled(values)), told, at.written())
+        raise refusal_of(answer, encoded(at.filled(values)), told, at.given)
 
     def _failed(self, status: int) -> NoReturn:
         """Raises what a call says that the library didn't do."""
@@ -254,11 +255,11 @@ class Database(Handle):
             self._forget_columns()
             raise
 
-    def _accepted(self, line: bytes, block: Optional[bytes] = None) -> bytes:
-        """What is answered. Raises the refusal where it is one."""
+    def _accepted(self, line: bytes, block: Optional[bytes] = None, written: Optional[str] = None) -> bytes:
+        """What is answered to a line, which was written so. Raises the refusal where it is one."""
         answer = self._answer(line, block)
         if answer.startswith(b"error "):
-            raise refusal_of(answer, line, self._reason(line, block or b""))
+            raise refusal_of(answer, line, self._reason(line, block or b""), written)
         return answer
 
     def _counted(self, line: bytes, block: Optional[bytes] = None) -> int:

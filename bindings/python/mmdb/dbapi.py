@@ -6,6 +6,7 @@ from typing import Any, Iterable, List, Mapping, NoReturn, Optional, Sequence, T
 
 from .database import MOST, Database, Parameters
 from .errors import NotSupportedError, WrongType, WrongUse
+from .lines import one_line
 from .rows import Row, Rows, row_type, short_names
 
 apilevel = "2.0"
@@ -154,7 +155,7 @@ class Cursor:
     def _take(self, operation: str, found: Any) -> None:
         """Keeps what a command gave."""
         if isinstance(found, str):
-            found = _one_text(operation.split()[0], found)
+            found = _one_text(one_line(operation).split()[0], found)
         if isinstance(found, Rows):
             names = short_names(found.names)
             self.description = [(name, kind, None, None, None, None, None) for name, kind in zip(names, found.types)]

@@ -3,8 +3,9 @@
 from __future__ import annotations
 
 import functools
+import itertools
 import re
-from typing import Any, Iterable, Iterator, List, Mapping, NamedTuple, Optional, Tuple
+from typing import Any, Iterable, List, Mapping, NamedTuple, Optional, Tuple
 
 from .errors import WrongType, WrongUse
 from .values import encoded, row_of, spelled
@@ -47,15 +48,12 @@ class Placed(NamedTuple):
     is_select: bool
     #: Whether it is an insert, an update, a delete or a select, by its first word, and not too long.
     is_statement: bool
+    #: The line as it was given, which may be written over several lines.
+    given: str
 
     def filled(self, values: Iterable[Any]) -> str:
         """The line with values in its places, as literals."""
         return self.text % tuple(map(spelled, values))
-
-    def written(self) -> str:
-        """The line as it was given."""
-        names = iter(self.names)
-        return _TEXT_OR_PLACE.sub(lambda found: _written_as(found, names), self.prepared.decode())
 
     def pointed(self, reason: str) -> str:
         """A reason, whose column is one of the prepared line, with that of the line as it was given."""
@@ -117,9 +115,9 @@ class Placed(NamedTuple):
 
 @functools.lru_cache(maxsize=512)
 def placed(line: str) -> Placed:
-    """A line, and where its parameters are. Raises WrongUse if it has a line feed, or places of both kinds."""
-    if "\n" in line:
-        raise WrongUse("mmdb: a line has no line feed")
+    """A line, and where its parameters stand. Raises WrongUse where a text in it has a line feed, or it has places of both
+    kinds."""
+    given, line = line, one_line(line)
     pieces: List[str] = [line]
     marks: List[Optional[str]] = []
     if "?" in line or ":" in line:
@@ -138,7 +136,31 @@ def placed(line: str) -> Placed:
         len(set(names)) if names else len(marks),
         word == "select",
         word in STATEMENTS and len(marked) <= _LONGEST,
+        given,
     )
+
+
+def one_line(line: str) -> str:
+    """A command that is written over several lines, as one: with a blank for each line feed, and blanks for each line that is
+    a comment. So each character of it stays in its place. Raises WrongUse where a text in it has a line feed."""
+    if "\n" not in line:
+        return line
+    pieces = [_without_comment(piece) for piece in line.split("\n")]
+    if _has_open_text(pieces[:-1]):
+        raise WrongUse("mmdb: a text in a line has no line feed; one that is passed as a parameter may have some")
+    return " ".join(pieces).rstrip(" ")
+
+
+def _without_comment(piece: str) -> str:
+    """One of several lines, as blanks where it is a comment."""
+    if piece.lstrip(" \t").startswith("#"):
+        return " " * len(piece)
+    return f"{piece[:-1]} " if piece.endswith("\r") else piece
+
+
+def _has_open_text(pieces: List[str]) -> bool:
+    """Whether a text that begins in one of these lines goes on behind its end."""
+    return any(count % 2 for count in itertools.accumulate(piece.count("'") for piece in pieces))
 
 
 def _cut(line: str) -> Tuple[List[str], List[Optional[str]]]:
@@ -156,12 +178,6 @@ def _cut(line: str) -> Tuple[List[str], List[Optional[str]]]:
             names.append(found[1])
     pieces[-1] += line[at:]
     return pieces, names
-
-
-def _written_as(found: re.Match[str], names: Iterator[str]) -> str:
-    """A text as it is, and a place as it was written."""
-    name = next(names, None) if found[0] == "?" else None
-    return found[0] if name is None else f":{name}"
 
 
 def _texts_and_places(line: str) -> Iterable[re.Match[str]]:
@@ -192,7 +208,7 @@ def check_line(line: Any) -> None:
 def check_kind(call: str, line: str, *commands: str) -> None:
     """Raises WrongType if a line is another command than these by its first word, or none."""
     check_line(line)
-    found = _BEGINNING.match(line)
+    found = _BEGINNING.match(one_line(line))
     if found is None or found[1] in commands:
         return
     if found[2] is not None or found[1] in _COMMANDS:
