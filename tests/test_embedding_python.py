@@ -258,7 +258,7 @@ class Calls(binding.WithDatabase):
             (ValueError, {"id": 2}, "no place :id .row 2."),
             (ValueError, (2, "\ud800"), "surrogate.* .row 2."),
             (ValueError, (2**63, "b"), "64 bits .row 2."),
-            (TypeError, (2, 2.5), "not float .row 2."),
+            (TypeError, (2, 2.5), "not float.* .row 2."),
             (TypeError, "ab", "not str .row 2."),
             (TypeError, {1, 2}, "not set .row 2."),
             (TypeError, 7, "not int .row 2."),
@@ -569,7 +569,7 @@ class Parameters(binding.WithDatabase):
                     self.db.execute(line, values)
 
     def test_values_of_no_type(self):
-        for value in (True, False, 1.0, b"a", (), [1], {}, 1j):
+        for value in (1.0, b"a", (), [1], {}, 1j):
             with self.subTest(value=value):
                 with self.assertRaises(TypeError):
                     self.db.execute("insert t (1, ?)", value)

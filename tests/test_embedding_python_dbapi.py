@@ -157,7 +157,7 @@ class Connections(unittest.TestCase):
             (mmdb.ProgrammingError, "delete t where s = ?", b"a"),
             (mmdb.ProgrammingError, "delete t where s = ?", 1),
             (mmdb.ProgrammingError, "delete t where s = ?", None),
-            (mmdb.ProgrammingError, "delete t where s = ?", (datetime.date(2026, 1, 1),)),
+            (mmdb.ProgrammingError, "delete t where s = ?", (datetime.timedelta(1),)),
             (mmdb.ProgrammingError, "delete t where s = :s", {"t": 1}),
             (mmdb.ProgrammingError, None, ()),
             (mmdb.DataError, "delete t where id <> ?", (2**63,)),

@@ -145,7 +145,8 @@ class Loads(binding.WithDatabase):
             (ValueError, (2**63, "x", None), "64 bits .row 2."),
             (ValueError, (2, "x", ""), "the empty text as null .row 2."),
             (TypeError, ("2", "x", None), "the column id takes int, not str .row 2."),
-            (TypeError, (True, "x", None), "the column id takes int, not bool .row 2."),
+            (TypeError, (2.0, "x", None), "the column id takes int, not float .row 2."),
+            (TypeError, (2, True, None), "the column s takes str, not int .row 2."),
             (TypeError, (2, None, None), "the column s takes str, not NoneType .row 2."),
             (TypeError, (2, "x", 3), "the column u takes str or None, not int .row 2."),
         ):

@@ -11,6 +11,7 @@ MMDB_LIBRARY is set, it is `libmmdb.so`, by ctypes: from the folder that MMDB_LI
 beside it, else from where the system keeps libraries.
 """
 
+from .conversions import Adapter, Converter, register_adapter, register_converter
 from .database import MOST, POLICIES, Database, Parameters
 from .dbapi import NUMBER, STRING, Connection, Cursor, apilevel, connect, paramstyle, threadsafety
 from .errors import (
@@ -38,7 +39,9 @@ __all__ = [
     "NUMBER",
     "POLICIES",
     "STRING",
+    "Adapter",
     "Connection",
+    "Converter",
     "Cursor",
     "DataError",
     "Database",
@@ -63,6 +66,8 @@ __all__ = [
     "connect",
     "implementation",
     "paramstyle",
+    "register_adapter",
+    "register_converter",
     "threadsafety",
 ]
 __version__ = "0.1.0"

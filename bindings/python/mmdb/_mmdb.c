@@ -142,6 +142,28 @@ static PyObject *handle_close(PyObject *self, PyObject *Py_UNUSED(none))
     return none();
 }
 
+/* Ends the turn of a call, and gives what it found: rows with those columns read as other types that are to be. */
+static PyObject *ended(Handle *handle, PyObject *found)
+{
+    PyObject *shape = handle->converting, *read = found;
+    handle->converting = NULL;
+    give(handle->turn);
+    if (shape == NULL)
+        return found;
+    if (found != NULL) {
+        read = PyObject_CallMethod(shape, "converted", "(O)", found);
+        Py_DECREF(found);
+    }
+    Py_DECREF(shape);
+    return read;
+}
+
+static PyObject *nothing_raised(void)
+{
+    PyErr_SetString(PyExc_SystemError, "mmdb: nothing was raised");
+    return NULL;
+}
+
 /* Does what a line says that came to one of the calls, and is no statement that is kept, or doesn't fit it. */
 static PyObject *perform(Handle *handle, const char *call, PyObject *const *given, Py_ssize_t count, PyObject *keywords)
 {
@@ -168,7 +190,7 @@ static PyObject *do_line(PyObject *self, const char *call, int is_select, PyObje
             statement = kept_plain(handle, given[0]);
         if (statement != NULL && (is_select < 0 || is_select == statement->is_select))
             told = statement_done_by(handle, statement, given + 1, count - 1, keywords);
-        give(handle->turn);
+        told = ended(handle, told);
         if (told != NULL || PyErr_Occurred())
             return told;
     }
@@ -190,32 +212,52 @@ static PyObject *handle_change(PyObject *self, PyObject *const *given, Py_ssize_
     return do_line(self, "change", 0, given, count, keywords);
 }
 
-static PyObject *handle_done(PyObject *self, PyObject *given)
+/* A line, where its parameters stand, and their values, or several rows of these. */
+typedef struct {
+    PyObject *line, *placed, *values;
+} Given;
+
+static PyObject *done_with(PyObject *self, const Given *given, PyObject *values,
+                           PyObject *(*done)(Handle *, Statement *, PyObject *))
 {
     Handle *handle = (Handle *)self;
-    PyObject *line, *placed, *values, *told = NULL;
-    if (!PyArg_ParseTuple(given, "OO!O!", &line, &PyTuple_Type, &placed, &PyTuple_Type, &values))
-        return NULL;
+    PyObject *found = NULL;
     take(handle->turn);
-    Statement *statement = kept_anyway(handle, line, placed);
+    Statement *statement = kept_anyway(handle, given->line, given->placed);
     if (statement != NULL)
-        told = statement_done(handle, statement, values);
-    give(handle->turn);
-    return told;
+        found = done(handle, statement, values);
+    return ended(handle, found);
 }
 
-static PyObject *handle_done_many(PyObject *self, PyObject *given)
+/* The same, where values that aren't stored as they are, are put into that form by a method. */
+static PyObject *done_anyhow(PyObject *self, const Given *given, const char *how,
+                             PyObject *(*done)(Handle *, Statement *, PyObject *))
 {
-    Handle *handle = (Handle *)self;
-    PyObject *line, *placed, *rows, *told = NULL;
-    if (!PyArg_ParseTuple(given, "OO!O!", &line, &PyTuple_Type, &placed, &PyList_Type, &rows))
+    PyObject *found = done_with(self, given, given->values, done);
+    if (found != NULL || PyErr_Occurred())
+        return found;
+    PyObject *stored = PyObject_CallMethod(self, how, "(O)", given->values);
+    if (stored == NULL)
         return NULL;
-    take(handle->turn);
-    Statement *statement = kept_anyway(handle, line, placed);
-    if (statement != NULL)
-        told = statement_done_many(handle, statement, rows);
-    give(handle->turn);
-    return told;
+    found = done_with(self, given, stored, done);
+    Py_DECREF(stored);
+    return found != NULL || PyErr_Occurred() ? found : nothing_raised();
+}
+
+static PyObject *handle_done(PyObject *self, PyObject *words)
+{
+    Given given;
+    if (!PyArg_ParseTuple(words, "OO!O!", &given.line, &PyTuple_Type, &given.placed, &PyTuple_Type, &given.values))
+        return NULL;
+    return done_anyhow(self, &given, "_stored_values", statement_done);
+}
+
+static PyObject *handle_done_many(PyObject *self, PyObject *words)
+{
+    Given given;
+    if (!PyArg_ParseTuple(words, "OO!O!", &given.line, &PyTuple_Type, &given.placed, &PyList_Type, &given.values))
+        return NULL;
+    return done_anyhow(self, &given, "_stored_rows", statement_done_many);
 }
 
 /* The bytes of an answer, or none of an empty line; or null, and what a status says is raised. */
@@ -475,8 +517,8 @@ static PyObject *prepared_execute(PyObject *self, PyObject *const *given, Py_ssi
     Handle *handle = turn_of(prepared);
     PyObject *found = NULL, *parameters, *named;
     if (handle != NULL) {
-        found = statement_done_by(handle, &prepared->statement, given, count, keywords);
-        end_turn(handle);
+        found = ended(handle, statement_done_by(handle, &prepared->statement, given, count, keywords));
+        Py_DECREF(handle);
     }
     if (found != NULL || PyErr_Occurred())
         return found;
@@ -489,26 +531,37 @@ static PyObject *prepared_execute(PyObject *self, PyObject *const *given, Py_ssi
     return found;
 }
 
-static PyObject *prepared_done(PyObject *self, PyObject *values)
+/* Does it with values or with rows of them. Those that aren't stored as they are, are put into that form by a method. */
+static PyObject *prepared_done_anyhow(PyObject *self, PyObject *values, const char *how,
+                                      PyObject *(*done)(Handle *, Statement *, PyObject *))
 {
     Prepared *prepared = (Prepared *)self;
-    Handle *handle = turn_of(prepared);
-    if (handle == NULL)
-        return is_closed();
-    PyObject *found = statement_done(handle, &prepared->statement, values);
-    end_turn(handle);
-    return found;
+    PyObject *found = NULL, *stored = Py_NewRef(values);
+    for (int tries = 0; tries < 2 && stored != NULL && found == NULL && !PyErr_Occurred(); tries++) {
+        Handle *handle = turn_of(prepared);
+        if (handle == NULL) {
+            is_closed();
+            break;
+        }
+        found = ended(handle, done(handle, &prepared->statement, stored));
+        if (found == NULL && !PyErr_Occurred()) {
+            Py_DECREF(stored);
+            stored = PyObject_CallMethod((PyObject *)handle, how, "(O)", values);
+        }
+        Py_DECREF(handle);
+    }
+    Py_XDECREF(stored);
+    return found != NULL || PyErr_Occurred() ? found : nothing_raised();
+}
+
+static PyObject *prepared_done(PyObject *self, PyObject *values)
+{
+    return prepared_done_anyhow(self, values, "_stored_values", statement_done);
 }
 
 static PyObject *prepared_done_many(PyObject *self, PyObject *rows)
 {
-    Prepared *prepared = (Prepared *)self;
-    Handle *handle = turn_of(prepared);
-    if (handle == NULL)
-        return is_closed();
-    PyObject *changed = statement_done_many(handle, &prepared->statement, rows);
-    end_turn(handle);
-    return changed;
+    return prepared_done_anyhow(self, rows, "_stored_rows", statement_done_many);
 }
 
 static PyObject *prepared_names(PyObject *self, PyObject *Py_UNUSED(none))

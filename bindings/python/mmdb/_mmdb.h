@@ -2,7 +2,7 @@
 
    The extension does what library.py does by ctypes, over the library's archive. What goes well is done in it. What
    wants to be put in order, doesn't fit, or is refused is handed to the Python class that is made of the one here, by
-   its methods `_perform`, `_check_values`, `_check_rows`, `_shaped`, `_refuse` and `_failed`.
+   its methods `_perform`, `_stored_values`, `_stored_rows`, `_shaped`, `_refuse` and `_failed`.
 
    Each call has its turn, so that they come one after another. The interpreter's lock is held too, but for lines and
    loads, which may last; it alone wouldn't do, since a refusal asks for its words by Python code, and nothing may come
@@ -52,6 +52,7 @@ typedef struct {
     PyObject *kept;        /* by each line its Kept */
     Kept *oldest, *newest; /* of these, by their last use */
     uint64_t declarations; /* what is known of columns is known as of one of these numbers */
+    PyObject *converting;  /* the shape of the rows just found, where columns of it are read as other types; or null */
     uint32_t *let_go;      /* the numbers of statements that were let go while another call had its turn */
     size_t let_go_count;
 } Handle;
@@ -82,14 +83,16 @@ int statement_know_shape(Handle *handle, Statement *statement);
 /* The names of its columns, whatever its values are. What refuses them tells why of a line whose places have nulls. */
 PyObject *statement_names(Handle *handle, Statement *statement);
 
-/* Does a statement with the values of a tuple. Gives its rows, or how many rows it was about. */
+/* Does a statement with the values of a tuple. Gives its rows, or how many rows it was about. Gives null, and nothing is
+   raised, where one of the values isn't stored as it is. */
 PyObject *statement_done(Handle *handle, Statement *statement, PyObject *values);
 
 /* Does it with the parameters of a call. Gives null, and nothing is raised, where they don't fit at the first look. */
 PyObject *statement_done_by(Handle *handle, Statement *statement, PyObject *const *parameters, Py_ssize_t count,
                             PyObject *keywords);
 
-/* Does an insert, an update or a delete with each row of a list of tuples, and gives how many rows all were about. */
+/* Does an insert, an update or a delete with each row of a list of tuples, and gives how many rows all were about. Gives
+   null, and nothing is raised or done, where one of the values isn't stored as it is. */
 PyObject *statement_done_many(Handle *handle, Statement *statement, PyObject *rows);
 
 /* Raises what a status says of a call. Gives -1. */

@@ -343,8 +343,11 @@ static PyObject *selected(Handle *handle, Statement *statement, PyObject *const 
     for (int tries = 0; tries < 2; tries++) {
         if (statement_know_shape(handle, statement) < 0 || execute(handle, statement, values, count, &rows) < 0)
             return NULL;
-        if (statement->shape != NULL && statement->columns == rows.columns)
+        if (statement->shape != NULL && statement->columns == rows.columns) {
+            if (PyTuple_GetItem(statement->shape, 4) != Py_None)
+                handle->converting = Py_NewRef(statement->shape);
             return rows_of(statement, &rows, size);
+        }
         Py_CLEAR(statement->shape);
     }
     handle_failed(handle, MMDB_REFUSED);
@@ -437,8 +440,6 @@ PyObject *statement_done(Handle *handle, Statement *statement, PyObject *tuple)
     if (values == NULL)
         return NULL;
     PyObject *given = done(handle, statement, values, count, &fits);
-    if (given == NULL && !fits)
-        raised(PyObject_CallMethod((PyObject *)handle, "_check_values", "(O)", tuple));
     if (values != room)
         PyMem_Free(values);
     return given;
@@ -490,10 +491,7 @@ static int add_row(Handle *handle, Statement *statement, PyObject *row, uint64_t
 PyObject *statement_done_many(Handle *handle, Statement *statement, PyObject *rows)
 {
     uint64_t changed = 0;
-    int checked = check_rows(rows);
-    if (checked == NO_VALUE)
-        raised(PyObject_CallMethod((PyObject *)handle, "_check_rows", "(O)", rows));
-    if (checked != MMDB_DONE)
+    if (check_rows(rows) != MMDB_DONE)
         return NULL;
     for (Py_ssize_t number = 0; number < PyList_Size(rows); number++) {
         if (number % ROWS_BETWEEN_SIGNALS == ROWS_BETWEEN_SIGNALS - 1 && PyErr_CheckSignals() < 0)

@@ -2,15 +2,16 @@
 
 from __future__ import annotations
 
-from typing import TYPE_CHECKING, Any, Dict, Iterable, List, Mapping, NoReturn, Optional, Sequence, Tuple, Union
+from typing import TYPE_CHECKING, Any, Callable, Dict, Iterable, List, Mapping, NoReturn, Optional, Sequence, Tuple, Union
 
-from .errors import NoMemory, OperationalError, WrongUse, refusal_of
+from .conversions import Converter, converter_of
+from .errors import NoMemory, WrongType, WrongUse, refusal_of
 from .handles import Handle
 from .indexes import Index, indexes_of
 from .lines import CHANGES, Placed, check_kind, check_line, one_line, placed
 from .rows import Rows, Shape, shape_of
 from .statement import Statement
-from .values import Column, Value, as_bytes, block_of, check_rows, check_values, columns_of, encoded, rows_of, rows_of_dicts
+from .values import Column, Value, as_bytes, block_of, columns_of, encoded, rows_of, rows_of_dicts, stored_rows, stored_values
 
 #: How plans are chosen. No policy changes an answer.
 POLICIES = ("auto", "scan", "hash", "tree", "merge")
@@ -19,7 +20,7 @@ POLICIES = ("auto", "scan", "hash", "tree", "merge")
 MOST = 1 << 24
 
 #: The parameters of one line: values in their order, or by name.
-Parameters = Union[Sequence[Value], Mapping[str, Value]]
+Parameters = Union[Sequence[Any], Mapping[str, Any]]
 
 # The lines of the calls that don't take all.
 _TAKEN = {"select": ("select",), "change": CHANGES}
@@ -44,6 +45,7 @@ class Database(Handle):
         if not 1 <= rows <= MOST or not 0 <= block <= MOST:
             raise WrongUse(f"mmdb: rows lie from 1 to {MOST}, and block from 0 to {MOST}")
         self._declared: Optional[Dict[str, List[Column]]] = None
+        self._converters: Dict[str, Converter] = {}
         super().__init__(POLICIES.index(policy), rows, block)
 
     def __enter__(self) -> Database:
@@ -58,11 +60,11 @@ class Database(Handle):
     if TYPE_CHECKING:
         # (these are those of the handle, so that what goes well doesn't come by here)
 
-        def execute(self, line: str, /, *parameters: Any, **named: Value) -> Any:
-            """Executes a command, and returns its answer.
+        def execute(self, line: str, /, *parameters: Any, **named: Any) -> Any:
+            """Does what a command says, and gives what it answers.
 
-            Each `?` of the line outside of texts is the place of a parameter, an int, a str or None, which is
-            null. If the places are of the form `:name`, the parameters are keywords or a mapping.
+            Each `?` of the line that stands in no text is the place of a parameter, an int, a str or None, which is
+            null, or a value of a type with an adapter. Where the places are of the form `:name`, the parameters are given as keywords, or as a mapping.
 
             A select gives its `Rows`; `insert`, `update` and `delete` give how many rows they were about; `tables`
             gives the text of the declarations, each with a line feed, and `dump` the text of the load that it answers.
@@ -71,17 +73,17 @@ class Database(Handle):
 
             Raises `Refused` where it is refused. Raises ValueError where the parameters don't fit the places, a text
             has a lone surrogate, an integer has more than 64 bits, a text that is written in the line has a line feed,
-            or it is a load with a block. Raises TypeError where a parameter is of any other type, bool among them.
+            or it is a load with a block. Raises TypeError where a parameter is of any other type, float among them.
             """
 
-        def select(self, line: str, /, *parameters: Any, **named: Value) -> Rows:
-            """Executes a select, and returns its rows.
+        def select(self, line: str, /, *parameters: Any, **named: Any) -> Rows:
+            """Does a select, and gives its rows.
 
             Raises what `execute` raises, and TypeError for a line that begins with the word of another command.
             """
 
-        def change(self, line: str, /, *parameters: Any, **named: Value) -> int:
-            """Executes an insert, an update or a delete, and returns the number of rows.
+        def change(self, line: str, /, *parameters: Any, **named: Any) -> int:
+            """Does an insert, an update or a delete, and gives how many rows it was about.
 
             Raises what `execute` raises, and TypeError for a line that begins with the word of another command.
             """
@@ -109,12 +111,12 @@ class Database(Handle):
         if at.is_statement and given:
             count: int = self._done_many(str.__str__(line), at, given)
             return count
-        check_rows(given)
+        lines = [encoded(at.filled(values)) for values in stored_rows(given)]
         with self._turn:
-            return sum(self._counted(encoded(at.filled(values))) for values in given)
+            return sum(map(self._counted, lines))
 
-    def load(self, table: str, rows: Iterable[Iterable[Value]]) -> int:
-        """Inserts these rows into a table, all of them or none, and returns their number.
+    def load(self, table: str, rows: Iterable[Iterable[Any]]) -> int:
+        """Puts these rows into a table, all of them or none, and gives how many they are.
 
         Each row has a value for each column, in their order. A text may have line feeds here.
 
@@ -124,19 +126,15 @@ class Database(Handle):
         str, a dict or no row at all.
         """
         given = rows_of(rows)
-        with self._turn:
-            columns = self._columns(table)
-            return self._loaded(table, block_of(columns, given) if columns else b"")
+        return self._load_rows(table, lambda columns: given)
 
-    def load_dicts(self, table: str, dicts: Iterable[Mapping[str, Value]]) -> int:
-        """Inserts rows given by the names of the columns into a table, all of them or none.
+    def load_dicts(self, table: str, dicts: Iterable[Mapping[str, Any]]) -> int:
+        """Puts rows into a table that are given by the names of its columns, all of them or none.
 
         Raises what `load` raises, and ValueError if a dict lacks a column or has a key that is none.
         """
         given = list(dicts)
-        with self._turn:
-            columns = self._columns(table)
-            return self._loaded(table, block_of(columns, rows_of_dicts(table, columns, given)) if columns else b"")
+        return self._load_rows(table, lambda columns: rows_of_dicts(table, columns, given))
 
     def load_csv(self, table: str, block: Union[str, bytes]) -> int:
         """Inserts the rows of a CSV into a table, all of them or none, and returns their number.
@@ -145,6 +143,35 @@ class Database(Handle):
         """
         with self._turn:
             return self._loaded(table, as_bytes(block))
+
+    def _load_rows(self, table: str, rows: Callable[[List[Column]], List[Tuple[Any, ...]]]) -> int:
+        """Puts rows into a table, which a function gives in the order of its columns.
+
+        Their block is made while other threads may use the database, and again if the table was declared anew meanwhile.
+        """
+        with self._turn:
+            columns = self._columns(table)
+        while True:
+            block = block_of(columns, rows(columns)) if columns else b""
+            with self._turn:
+                before, columns = columns, self._columns(table)
+                if columns == before:
+                    return self._loaded(table, block)
+
+    def convert(self, column: str, to: Union[None, type, Converter]) -> None:
+        """Has a column read as a type, in the rows of selects and dumps from now on.
+
+        `column` is its full name, as `"emp.hired"`. `to` is a type with a converter, as `datetime.date` or an Enum; a
+        function that takes an int or a str; or None, which has the column read as it is stored. Nulls stay None.
+        """
+        if not isinstance(column, str) or column.count(".") != 1:
+            raise WrongType(f"mmdb: a column is named as table.column, not {column!r}")
+        if to is None:
+            self._converters.pop(column, None)
+        else:
+            self._converters[column] = converter_of(to)
+        with self._turn:
+            self._forget()
 
     def dump(self, table: str) -> Rows:
         """All rows of a table by rising keys, with the bare names of its columns.
@@ -207,17 +234,19 @@ class Database(Handle):
         with self._turn:
             return _outcome(one_line(line), self._accepted(sent, written=None if at.places else at.given))
 
-    def _check_values(self, values: Sequence[Any]) -> None:
-        """Raises what is wrong with these values."""
-        check_values(values)
+    def _stored_values(self, values: Iterable[Any]) -> Tuple[Value, ...]:
+        """Values as columns store them. Raises what is wrong with one of them."""
+        return stored_values(values)
 
-    def _check_rows(self, rows: Sequence[Sequence[Any]]) -> None:
-        """Raises what is wrong with these rows of values."""
-        check_rows(rows)
+    def _stored_rows(self, rows: Iterable[Iterable[Any]]) -> List[Tuple[Value, ...]]:
+        """The same of rows of values."""
+        return stored_rows(rows)
 
     def _shaped(self, names: Tuple[str, ...], kinds: Tuple[int, ...]) -> Shape:
         """What rows with these columns are made of."""
-        return shape_of(names, kinds)
+        shape = shape_of(names, kinds)
+        converters = tuple(map(self._converters.get, names)) if self._converters else ()
+        return shape._replace(converters=converters) if any(converters) else shape
 
     def _refuse(self, at: Union[Placed, str], values: Sequence[Any], answer: bytes, reason: Optional[str]) -> NoReturn:
         """Raises the refusal that the library has just answered to a statement with these values, or to a line, for this

@@ -14,8 +14,8 @@ from typing import Any, List, Optional, Sequence, Tuple
 
 from .errors import WrongUse
 from .lines import Placed
-from .rows import Rows, Shape, shape_of
-from .values import check_rows, check_values
+from .rows import Rows, Shape
+from .values import PLAIN, stored_rows, stored_values
 
 _NAME = "libmmdb.so"
 
@@ -140,6 +140,7 @@ class Handle:
 
     # What the calls of here want of the database that is made of it.
     _perform: Any
+    _shaped: Any
     _refuse: Any
     _failed: Any
 
@@ -192,11 +193,15 @@ class Handle:
 
     def _done(self, line: str, placed: Placed, values: Tuple[Any, ...]) -> Any:
         """Does a statement, which is kept by its line, with these values."""
+        values = _plain(values)
         with self._turn:
-            return self._statement(line, placed).done(self, values)
+            statement = self._statement(line, placed)
+            found, shape = statement.done(self, values), statement.shape
+        return _read(found, shape)
 
     def _done_many(self, line: str, placed: Placed, rows: List[Tuple[Any, ...]]) -> int:
         """Does a statement, which is kept by its line, with each of these rows of values."""
+        rows = stored_rows(rows)
         with self._turn:
             return self._statement(line, placed).done_many(self, rows)
 
@@ -280,8 +285,7 @@ class _Statement:
         return found
 
     def done_many(self, handle: Handle, rows: List[Tuple[Any, ...]]) -> int:
-        """Does it with each of these rows of values, and returns the number of all rows."""
-        check_rows(rows)
+        """Does it with each of these rows of values, and gives how many rows all were about."""
         count: int = 0
         for values in rows:
             self.prepare(handle, values)
@@ -315,7 +319,7 @@ class _Statement:
             elif value is None:
                 status = _BIND_NULL(at, number, place)
             else:
-                check_values((value,))
+                stored_values((value,))
                 if isinstance(value, str):
                     text = str.encode(value)
                     size += len(text)
@@ -334,7 +338,7 @@ class _Statement:
         status = _COLUMNS(handle._at, self.number, handle._cells_at)
         # (if it is refused, the execution is too, and says why)
         if not status:
-            self.shape = shape_of(*map(tuple, _columns_of(handle._cells)))
+            self.shape = handle._shaped(*map(tuple, _columns_of(handle._cells)))
 
     def execute(self, handle: Handle, values: Tuple[Any, ...]) -> None:
         status = _EXECUTE(handle._at, self.number, handle._cells_at)
@@ -374,6 +378,18 @@ class _Statement:
             line = self.placed.prepared
             return handle._words(_PREPARE_REASON(handle._at, line, len(line), handle._told_at))
         return handle._words(_STATEMENT_REASON(handle._at, self.number, handle._told_at))
+
+
+def _plain(values: Tuple[Any, ...]) -> Tuple[Any, ...]:
+    """Values as columns store them, where one of them is of another type than is bound."""
+    return values if PLAIN.issuperset(map(type, values)) else stored_values(values)
+
+
+def _read(found: Any, shape: Optional[Shape]) -> Any:
+    """What a statement gave, with its columns read as other types where they are to be."""
+    if shape is None or shape.converters is None or not isinstance(found, Rows):
+        return found
+    return shape.converted(found)
 
 
 def _columns_of(cells: _Cells) -> List[List[Any]]:
@@ -453,12 +469,15 @@ class Prepared:
 
     def _done(self, values: Tuple[Any, ...]) -> Any:
         """Does it with these values."""
+        values = _plain(values)
         handle = self._open_handle()
         with handle._turn:
-            return self._statement.done(handle, values)
+            found, shape = self._statement.done(handle, values), self._statement.shape
+        return _read(found, shape)
 
     def _done_many(self, rows: List[Tuple[Any, ...]]) -> int:
         """Does it with each of these rows of values."""
+        rows = stored_rows(rows)
         handle = self._open_handle()
         with handle._turn:
             return self._statement.done_many(handle, rows)

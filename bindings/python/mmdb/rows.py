@@ -5,9 +5,11 @@ from __future__ import annotations
 import collections
 import functools
 import operator
-from typing import TYPE_CHECKING, Any, Callable, ClassVar, Dict, Iterable, List, NamedTuple, Sequence, Tuple, Type
+from typing import TYPE_CHECKING, Any, Callable, ClassVar, Dict, Iterable, List, NamedTuple, Optional, Sequence, Tuple, Type
 
 from .chosen import extension
+from .conversions import Converter
+from .errors import WrongValue
 
 if TYPE_CHECKING:
     _Values = Tuple[Any, ...]
@@ -150,12 +152,33 @@ class Shape(NamedTuple):
     names: Tuple[str, ...]
     types: Tuple[type, ...]
     row: Type[Row]
+    #: For each column what its values are read by, or None. It is None if all are read as they are stored.
+    converters: Optional[Tuple[Optional[Converter], ...]] = None
+
+    def converted(self, rows: Rows) -> Rows:
+        """Rows of stored values, with the values of other types that their columns are read as."""
+        columns = [
+            column if converter is None else _converted(name, converter, column)
+            for name, converter, column in zip(self.names, self.converters or (), zip(*rows))
+        ]
+        return self.rows(columns)
 
     def rows(self, columns: Iterable[Iterable[Any]]) -> Rows:
         """Rows that have these values in their columns."""
         rows = self.all(map(self.row, zip(*columns)))
         rows.names, rows.types = self.names, self.types
         return rows
+
+
+def _converted(name: str, converter: Converter, values: Iterable[Any]) -> List[Any]:
+    """The values of a column as they are read. Raises WrongValue where one of them can't be."""
+    read = []
+    for value in values:
+        try:
+            read.append(None if value is None else converter(value))
+        except (ValueError, TypeError, ArithmeticError) as why:
+            raise WrongValue(f"mmdb: the column {name} has {value!r}: {why}") from why
+    return read
 
 
 @functools.lru_cache(maxsize=512)

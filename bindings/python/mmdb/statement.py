@@ -7,7 +7,6 @@ from typing import TYPE_CHECKING, Any, Iterable, Mapping, Tuple
 from .errors import WrongUse
 from .handles import Handle, Prepared
 from .lines import CHANGES, STATEMENTS, check_kind, placed
-from .values import Value
 
 if TYPE_CHECKING:
     from .database import Parameters
@@ -30,8 +29,8 @@ class Statement(Prepared):
     if TYPE_CHECKING:
         # (this is that of the handle, so that what goes well doesn't come by here)
 
-        def execute(self, /, *parameters: Any, **named: Value) -> Any:
-            """Executes it with these parameters, and returns its rows, or their number.
+        def execute(self, /, *parameters: Any, **named: Any) -> Any:
+            """Does it with these parameters, and gives its rows, or how many rows it was about.
 
             Raises what `Database.execute` raises.
             """

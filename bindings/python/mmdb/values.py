@@ -7,10 +7,14 @@ import operator
 import re
 from typing import Any, Dict, Iterable, List, Mapping, NamedTuple, Optional, Sequence, Tuple, Union
 
+from .conversions import adapted, has_adapter
 from .errors import WrongType, WrongUse, WrongValue
 
 #: A value of a row: an integer of 64 bits, a text, or None, which is null.
 Value = Union[int, str, None]
+
+#: The types of values that are stored as they are.
+PLAIN = frozenset((int, str, type(None)))
 
 _LEAST, _GREATEST = -(1 << 63), (1 << 63) - 1
 _IS_QUOTED = re.compile('[",\r\n]').search
@@ -42,10 +46,15 @@ def columns_of(listing: str) -> Dict[str, List[Column]]:
     return tables
 
 
-def _digits(value: int) -> str:
-    """An integer as the language spells it."""
+def _check_size(value: int) -> None:
+    """Raises WrongValue where an integer has more than 64 bits."""
     if not _LEAST <= value <= _GREATEST:
         raise WrongValue("mmdb: an integer has at most 64 bits")
+
+
+def _digits(value: int) -> str:
+    """An integer as the language spells it."""
+    _check_size(value)
     return int.__repr__(value)
 
 
@@ -58,23 +67,33 @@ def spelled(value: Any) -> str:
         return f"'{doubled}'"
     if isinstance(value, int) and not isinstance(value, bool):
         return _digits(value)
-    hint = "; pass *values" if isinstance(value, (tuple, list)) else ""
-    raise WrongType(f"mmdb: a value is an int, a str or None, not {type(value).__name__}{hint}")
+    return spelled(adapted(value))
 
 
-def check_values(values: Iterable[Any]) -> None:
-    """Raises WrongType if one of these is no value, and WrongValue if it can't be sent."""
-    for value in values:
-        encoded(spelled(value))
+def stored_values(values: Iterable[Any]) -> Tuple[Value, ...]:
+    """Values as columns store them. Raises WrongType where one of them has no adapter, and WrongValue where it can't be
+    sent."""
+    return tuple([_stored(value) for value in values])
 
 
-def check_rows(rows: Iterable[Iterable[Any]]) -> None:
+def stored_rows(rows: Iterable[Iterable[Any]]) -> List[Tuple[Value, ...]]:
     """The same of several rows, counted from 1."""
+    taken = []
     for number, row in enumerate(rows, 1):
         try:
-            check_values(row)
+            taken.append(stored_values(row))
         except (WrongType, WrongValue) as why:
             raise type(why)(f"{why} (row {number})") from None
+    return taken
+
+
+def _stored(value: Any) -> Value:
+    plain = value if type(value) in PLAIN else adapted(value)
+    if isinstance(plain, str):
+        encoded(plain)
+    elif plain is not None:
+        _check_size(plain)
+    return plain
 
 
 def encoded(text: str) -> bytes:
@@ -110,6 +129,8 @@ def _field(value: Any, column: Column) -> str:
         if column.takes_null and not value:
             raise WrongValue(f"mmdb: in the column {column.name} a load would read the empty text as null")
         return _quoted(value)
+    if type(value) not in PLAIN and has_adapter(value):
+        return _field(adapted(value), column)
     taken = column.kind.__name__ + (" or None" if column.takes_null else "")
     raise WrongType(f"mmdb: the column {column.name} takes {taken}, not {type(value).__name__}")
 
