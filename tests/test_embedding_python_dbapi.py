@@ -97,6 +97,50 @@ class Connections(unittest.TestCase):
     def test_the_module(self):
         self.assertEqual((mmdb.apilevel, mmdb.threadsafety, mmdb.paramstyle), ("2.0", 2, "qmark"))
 
+    def test_the_names_of_types_and_constructors(self):
+        day, noon = datetime.date(2026, 5, 28), datetime.datetime(2026, 5, 28, 12)
+        self.assertEqual((mmdb.Date(2026, 5, 28), mmdb.Timestamp(2026, 5, 28, 12), mmdb.Time(12)), (day, noon, noon.time()))
+        ticks = noon.timestamp()
+        self.assertEqual((mmdb.DateFromTicks(ticks), mmdb.TimestampFromTicks(ticks), mmdb.TimeFromTicks(ticks)), (day, noon, noon.time()))
+        self.cursor.execute("insert t (1, ?)", (mmdb.DateFromTicks(ticks),))
+        self.assertEqual(self.connection.database.dump("t"), [(1, "2026-05-28")])
+        self.assertRaises(mmdb.ProgrammingError, self.cursor.execute, "insert t (2, ?)", (mmdb.Binary(b"a"),))
+        for each, types in ((mmdb.DATETIME, (datetime.date, datetime.datetime, datetime.time)), (mmdb.BINARY, (bytes,)), (mmdb.ROWID, ())):
+            self.assertEqual([kind for kind in (int, str, bytes, datetime.date, datetime.datetime, datetime.time, None) if each == kind], [
+                kind for kind in (bytes, datetime.date, datetime.datetime, datetime.time) if kind in types
+            ])
+            self.assertTrue(each in {each} and each == each and each != mmdb.NUMBER and mmdb.STRING != each)
+
+    def test_the_exceptions_of_a_connection(self):
+        for name in ("Warning", "Error", "InterfaceError", "InternalError", "NotSupportedError", "DatabaseError", *(each.__name__ for each in NUMBERS)):
+            self.assertIs(getattr(self.connection, name), getattr(mmdb, name))
+
+    def test_where_a_cursor_is(self):
+        self.assertEqual((self.cursor.rownumber, self.cursor.lastrowid), (None, None))
+        self.connection.database.load("t", ((number, "") for number in range(5)))
+        self.cursor.execute("select id from t")
+        self.assertEqual((self.cursor.rownumber, self.cursor.fetchone(), self.cursor.rownumber), (0, (0,), 1))
+        for value, mode, at in ((2, "relative", 3), (-3, "relative", 0), (5, "absolute", 5), (1, "absolute", 1)):
+            self.cursor.scroll(value, mode)
+            self.assertEqual(self.cursor.rownumber, at)
+        for value, mode in ((-2, "relative"), (5, "relative"), (-1, "absolute"), (6, "absolute")):
+            with self.assertRaises(IndexError):
+                self.cursor.scroll(value, mode)
+        self.assertRaises(mmdb.ProgrammingError, self.cursor.scroll, 1, "backwards")
+        self.cursor.scroll(1)
+        self.assertEqual(self.cursor.fetchone(), (2,))
+        self.assertIsNone(self.cursor.nextset())
+        for call in (self.cursor.fetchone, lambda: self.cursor.scroll(1)):
+            self.assertRaises(mmdb.ProgrammingError, call)
+
+    def test_no_procedures(self):
+        self.assertRaises(mmdb.NotSupportedError, self.cursor.callproc, "f", (1,))
+
+    def test_a_cursor_as_a_context_manager(self):
+        with self.connection.cursor() as cursor:
+            cursor.execute("select * from t")
+        self.check_closed(cursor, "the cursor is closed")
+
     def test_changes(self):
         self.assertEqual((self.cursor.rowcount, self.cursor.description), (-1, None))
         for operation, parameters, count in (

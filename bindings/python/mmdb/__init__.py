@@ -13,7 +13,26 @@ beside it, else from where the system keeps libraries.
 
 from .conversions import Adapter, Converter, register_adapter, register_converter
 from .database import MOST, POLICIES, Database, Parameters
-from .dbapi import NUMBER, STRING, Connection, Cursor, apilevel, connect, paramstyle, threadsafety
+from .dbapi import (
+    BINARY,
+    DATETIME,
+    NUMBER,
+    ROWID,
+    STRING,
+    Binary,
+    Connection,
+    Cursor,
+    Date,
+    DateFromTicks,
+    Time,
+    TimeFromTicks,
+    Timestamp,
+    TimestampFromTicks,
+    apilevel,
+    connect,
+    paramstyle,
+    threadsafety,
+)
 from .errors import (
     DatabaseError,
     DataError,
@@ -35,17 +54,23 @@ from .statement import Statement
 from .values import Value
 
 __all__ = [
+    "BINARY",
+    "DATETIME",
     "MOST",
     "NUMBER",
     "POLICIES",
+    "ROWID",
     "STRING",
     "Adapter",
+    "Binary",
     "Connection",
     "Converter",
     "Cursor",
     "DataError",
     "Database",
     "DatabaseError",
+    "Date",
+    "DateFromTicks",
     "Error",
     "Index",
     "IntegrityError",
@@ -60,6 +85,10 @@ __all__ = [
     "Row",
     "Rows",
     "Statement",
+    "Time",
+    "TimeFromTicks",
+    "Timestamp",
+    "TimestampFromTicks",
     "Value",
     "Warning",
     "apilevel",

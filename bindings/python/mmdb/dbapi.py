@@ -2,8 +2,10 @@
 
 from __future__ import annotations
 
+import datetime
 from typing import Any, Iterable, List, Mapping, NoReturn, Optional, Sequence, Tuple
 
+from . import errors
 from .database import MOST, Database, Parameters
 from .errors import NotSupportedError, WrongType, WrongUse
 from .lines import one_line
@@ -20,6 +22,45 @@ paramstyle = "qmark"
 #: The types of columns, as `Cursor.description` has them. There are no others.
 STRING, NUMBER = str, int
 
+
+class TypeObject:
+    """A type object of PEP 249: it is equal to each of some types."""
+
+    def __init__(self, *types: type) -> None:
+        self._types = frozenset(types)
+
+    def __eq__(self, other: object) -> bool:
+        if isinstance(other, TypeObject):
+            return self is other
+        return other in self._types if isinstance(other, type) else NotImplemented
+
+    def __hash__(self) -> int:
+        return hash(self._types)
+
+
+#: Those of no column: dates and times are stored as texts, and bytes and row numbers not at all.
+DATETIME = TypeObject(datetime.date, datetime.time, datetime.datetime)
+BINARY, ROWID = TypeObject(bytes, bytearray, memoryview), TypeObject()
+
+#: The constructors of PEP 249. What they make are parameters, but for `Binary`.
+Date, Time, Timestamp, Binary = datetime.date, datetime.time, datetime.datetime, bytes
+
+
+def DateFromTicks(ticks: float) -> datetime.date:  # pylint: disable=invalid-name
+    """The day of a time, in seconds since the epoch."""
+    return datetime.date.fromtimestamp(ticks)
+
+
+def TimeFromTicks(ticks: float) -> datetime.time:  # pylint: disable=invalid-name
+    """The time of the day of a time, in seconds since the epoch."""
+    return datetime.datetime.fromtimestamp(ticks).time()
+
+
+def TimestampFromTicks(ticks: float) -> datetime.datetime:  # pylint: disable=invalid-name
+    """A time, in seconds since the epoch."""
+    return datetime.datetime.fromtimestamp(ticks)
+
+
 #: What `Cursor.description` has for a column.
 Description = Tuple[str, type, None, None, None, None, None]
 
@@ -34,6 +75,18 @@ class Connection:
 
     Used as a context manager, it is closed at the end. Each call of a closed one but `close` raises ProgrammingError.
     """
+
+    # (the exceptions of PEP 249, for programs that have connections of several modules)
+    Warning = errors.Warning
+    Error = errors.Error
+    InterfaceError = errors.InterfaceError
+    DatabaseError = errors.DatabaseError
+    DataError = errors.DataError
+    OperationalError = errors.OperationalError
+    IntegrityError = errors.IntegrityError
+    InternalError = errors.InternalError
+    ProgrammingError = errors.ProgrammingError
+    NotSupportedError = errors.NotSupportedError
 
     def __init__(self, database: Database) -> None:
         #: The database, for what PEP 249 has no call for, as `load` and `dump`.
@@ -121,6 +174,44 @@ class Cursor:
     def fetchall(self) -> List[Row]:
         """All rows that are left. Raises ProgrammingError where nothing was selected."""
         return self.fetchmany(len(self._selected()))
+
+    @property
+    def rownumber(self) -> Optional[int]:
+        """How many rows of the last select were fetched, which is the number of the next one. None where there are none."""
+        return None if self._rows is None else self._at
+
+    @property
+    def lastrowid(self) -> None:
+        """None, since rows have no numbers beside their keys."""
+        return None
+
+    def scroll(self, value: int, mode: str = "relative") -> None:
+        """Goes on or back by so many rows, or to the row of that number by the mode `absolute`.
+
+        Raises IndexError where that is before the first row or past the last, and then nothing has changed.
+        """
+        rows = self._selected()
+        if mode not in ("relative", "absolute"):
+            raise WrongUse(f"mmdb: the mode of a scroll is relative or absolute, not {mode!r}")
+        to = value + (self._at if mode == "relative" else 0)
+        if not 0 <= to <= len(rows):
+            raise IndexError(f"mmdb: there is no row {to} of {len(rows)}")
+        self._at = to
+
+    def callproc(self, procname: str, parameters: Sequence[Any] = ()) -> NoReturn:
+        """Raises NotSupportedError, since there are no stored procedures."""
+        raise NotSupportedError("mmdb: there are no stored procedures")
+
+    def nextset(self) -> None:
+        """Gives None, since a command has one set of rows at most."""
+        self._check()
+        self._rows = self.description = None
+
+    def __enter__(self) -> Cursor:
+        return self
+
+    def __exit__(self, *_: object) -> None:
+        self.close()
 
     def __iter__(self) -> Cursor:
         return self
