@@ -137,7 +137,12 @@ static PyObject *handle_close(PyObject *self, PyObject *Py_UNUSED(none))
     take(handle->turn);
     kept_forget_all(handle);
     handle->let_go_count = 0;
-    mmdb_close(&handle->db);
+    /* (it is moved, so that the handle is closed from now on, and freed by nothing else) */
+    mmdb closing = handle->db;
+    handle->db.inside = NULL;
+    Py_BEGIN_ALLOW_THREADS
+    mmdb_close(&closing);
+    Py_END_ALLOW_THREADS
     give(handle->turn);
     return none();
 }
@@ -289,6 +294,7 @@ static PyObject *handle_command(PyObject *self, PyObject *given)
     if (!PyArg_ParseTuple(given, "S", &line))
         return NULL;
     mmdb_bytes request = content_of(line);
+    handle->commands++;
     Py_BEGIN_ALLOW_THREADS
     status = mmdb_command(&handle->db, request.at, request.length, &answer);
     Py_END_ALLOW_THREADS
@@ -304,6 +310,7 @@ static PyObject *handle_load(PyObject *self, PyObject *given)
     if (!PyArg_ParseTuple(given, "SS", &line, &block))
         return NULL;
     mmdb_bytes request = content_of(line), rows = content_of(block);
+    handle->commands++;
     Py_BEGIN_ALLOW_THREADS
     status = mmdb_load(&handle->db, request.at, request.length, rows.at, rows.length, &answer);
     Py_END_ALLOW_THREADS
@@ -318,7 +325,10 @@ static PyObject *handle_indexes(PyObject *self, PyObject *given)
     if (!PyArg_ParseTuple(given, "S", &table))
         return NULL;
     mmdb_bytes name = content_of(table);
-    uint32_t status = mmdb_indexes(&handle->db, name.at, name.length, &answer);
+    uint32_t status;
+    Py_BEGIN_ALLOW_THREADS
+    status = mmdb_indexes(&handle->db, name.at, name.length, &answer);
+    Py_END_ALLOW_THREADS
     return told(handle, status, answer);
 }
 
@@ -330,7 +340,10 @@ static PyObject *handle_reason(PyObject *self, PyObject *given)
     if (!PyArg_ParseTuple(given, "SS", &line, &block))
         return NULL;
     mmdb_bytes request = content_of(line), rows = content_of(block);
-    uint32_t status = mmdb_reason(&handle->db, request.at, request.length, rows.at, rows.length, &words);
+    uint32_t status;
+    Py_BEGIN_ALLOW_THREADS
+    status = mmdb_reason(&handle->db, request.at, request.length, rows.at, rows.length, &words);
+    Py_END_ALLOW_THREADS
     PyObject *bytes = status == MMDB_NO_MEMORY ? Py_NewRef(Py_None) : told(handle, status, words);
     if (bytes == NULL || bytes == Py_None)
         return bytes;

@@ -4,9 +4,9 @@
    wants to be put in order, doesn't fit, or is refused is handed to the Python class that is made of the one here, by
    its methods `_perform`, `_stored_values`, `_stored_rows`, `_shaped`, `_refuse` and `_failed`.
 
-   Each call has its turn, so that they come one after another. The interpreter's lock is held too, but for lines and
-   loads, which may last; it alone wouldn't do, since a refusal asks for its words by Python code, and nothing may come
-   between. */
+   Each call has its turn, so that they come one after another. The interpreter's lock is released while the library is in
+   a call that may last, so that other threads go on; those that call the same database wait for their turn. What may
+   last: a line, a load, a close, and the execution of a statement that isn't known to be quick. */
 #ifndef MMDB_EXTENSION_H
 #define MMDB_EXTENSION_H
 
@@ -35,6 +35,8 @@ typedef struct {
     PyObject *shape;       /* of the columns, or null, which is a tuple: Shape of rows.py */
     size_t columns;        /* how many these are */
     uint64_t declarations; /* how many declarations there were when they were asked for */
+    unsigned quick;        /* how many more executions are taken to be quick, and hold the interpreter's lock */
+    uint64_t commands;     /* how many lines and loads there were when that was found */
 } Statement;
 
 /* A statement that is kept by its line, and those that were used before it and after it. */
@@ -52,6 +54,7 @@ typedef struct {
     PyObject *kept;        /* by each line its Kept */
     Kept *oldest, *newest; /* of these, by their last use */
     uint64_t declarations; /* what is known of columns is known as of one of these numbers */
+    uint64_t commands;     /* how many lines and loads were done, which may make statements last that were quick */
     PyObject *converting;  /* the shape of the rows just found, where columns of it are read as other types; or null */
     uint32_t *let_go;      /* the numbers of statements that were let go while another call had its turn */
     size_t let_go_count;
