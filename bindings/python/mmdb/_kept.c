@@ -122,6 +122,20 @@ static int is_plain(const char *line, Py_ssize_t length)
            !memchr(line, '\n', (size_t)length);
 }
 
+/* The kind of a line: lines that differ in their integers and texts alone are of the same one, which is never 0. */
+static uint32_t kind_of_line(const char *line, Py_ssize_t length)
+{
+    uint32_t kind = 2166136261u;
+    int is_in_text = 0;
+    for (Py_ssize_t at = 0; at < length; at++) {
+        char mark = line[at];
+        is_in_text ^= mark == '\'';
+        if (!is_in_text && (mark < '0' || mark > '9'))
+            kind = (kind ^ (unsigned char)mark) * 16777619u;
+    }
+    return kind | 1;
+}
+
 Statement *kept_plain(Handle *handle, PyObject *line)
 {
     Py_ssize_t length;
@@ -136,6 +150,7 @@ Statement *kept_plain(Handle *handle, PyObject *line)
     statement->placed = Py_NewRef(line);
     statement->line = Py_NewRef(line);
     statement->is_select = *bytes == 's';
+    statement->kind = kind_of_line(bytes, length);
     return statement;
 }
 

@@ -22,6 +22,16 @@ static inline PyObject *none(void)
     return Py_NewRef(Py_None);
 }
 
+/* What is known of how long executions take, of a statement or of a kind of lines. */
+typedef struct {
+    uint32_t kind;     /* of lines, or 0 */
+    unsigned quick;    /* how many more executions are taken to be quick, and hold the interpreter's lock */
+    uint64_t commands; /* how many lines and loads there were when that was found */
+} Pace;
+
+/* How many kinds of lines a pace is known of at most. */
+#define PACES 64
+
 /* A statement. It is prepared where it wasn't yet, or was let go since. */
 typedef struct {
     PyObject *placed;  /* the line, and where its parameters stand: Placed of lines.py; or a str without places */
@@ -35,8 +45,8 @@ typedef struct {
     PyObject *shape;       /* of the columns, or null, which is a tuple: Shape of rows.py */
     size_t columns;        /* how many these are */
     uint64_t declarations; /* how many declarations there were when they were asked for */
-    unsigned quick;        /* how many more executions are taken to be quick, and hold the interpreter's lock */
-    uint64_t commands;     /* how many lines and loads there were when that was found */
+    uint32_t kind;         /* that of its line, whose pace it has; or 0, and it has its own */
+    Pace pace;
 } Statement;
 
 /* A statement that is kept by its line, and those that were used before it and after it. */
@@ -55,6 +65,7 @@ typedef struct {
     Kept *oldest, *newest; /* of these, by their last use */
     uint64_t declarations; /* what is known of columns is known as of one of these numbers */
     uint64_t commands;     /* how many lines and loads were done, which may make statements last that were quick */
+    Pace paces[PACES];     /* of kinds of lines, by the kind */
     PyObject *converting;  /* the shape of the rows just found, where columns of it are read as other types; or null */
     uint32_t *let_go;      /* the numbers of statements that were let go while another call had its turn */
     size_t let_go_count;

@@ -336,8 +336,19 @@ int statement_know_shape(Handle *handle, Statement *statement)
 
 /* ---- doing */
 
+/* What is known of how long a statement takes. Of another kind of lines that was known there it is forgotten. */
+static Pace *pace_of(Handle *handle, Statement *statement)
+{
+    if (statement->kind == 0)
+        return &statement->pace;
+    Pace *pace = &handle->paces[(statement->kind >> 1) % PACES];
+    if (pace->kind != statement->kind)
+        *pace = (Pace){ .kind = statement->kind };
+    return pace;
+}
+
 /* Executes a statement while other threads go on, and takes note of whether it was quick. */
-static uint32_t execute_slowly(Handle *handle, Statement *statement, mmdb_rows *rows)
+static uint32_t execute_slowly(Handle *handle, Statement *statement, Pace *pace, mmdb_rows *rows)
 {
     uint32_t number = statement->given.number, status;
     struct timespec began, ended;
@@ -347,8 +358,8 @@ static uint32_t execute_slowly(Handle *handle, Statement *statement, mmdb_rows *
     clock_gettime(CLOCK_MONOTONIC, &ended);
     Py_END_ALLOW_THREADS
     int64_t took = (int64_t)(ended.tv_sec - began.tv_sec) * 1000000000 + (ended.tv_nsec - began.tv_nsec);
-    statement->quick = took <= QUICK ? QUICK_ONES : 0;
-    statement->commands = handle->commands;
+    pace->quick = took <= QUICK ? QUICK_ONES : 0;
+    pace->commands = handle->commands;
     return status;
 }
 
@@ -356,11 +367,12 @@ static uint32_t execute_slowly(Handle *handle, Statement *statement, mmdb_rows *
 static int execute(Handle *handle, Statement *statement, PyObject *const *values, Py_ssize_t count, mmdb_rows *rows)
 {
     uint32_t status;
-    if (statement->quick > 0 && statement->commands == handle->commands) {
-        statement->quick--;
+    Pace *pace = pace_of(handle, statement);
+    if (pace->quick > 0 && pace->commands == handle->commands) {
+        pace->quick--;
         status = mmdb_execute(&handle->db, statement->given.number, rows);
     } else {
-        status = execute_slowly(handle, statement, rows);
+        status = execute_slowly(handle, statement, pace, rows);
     }
     return status == MMDB_DONE ? 0 : refused(handle, statement, status, values, count);
 }
