@@ -65,20 +65,22 @@ def converter_of(kind: Union[type, Converter]) -> Converter:
 def adapted(value: Any) -> Value:
     """A value as a column stores it: an int, a str or None. Raises WrongType where its type has no adapter."""
     if value is None or isinstance(value, (int, str)) and type(value) is not bool:
-        return value  # type: ignore[no-any-return]
-    adapter = _adapter_of(type(value))
+        return value
+    kind: Any = type(value)
+    adapter = _adapter_of(kind)
     if adapter is None:
-        raise WrongType(_why_not(type(value)))
+        raise WrongType(_why_not(kind))
     stored = adapter(value)
     if stored is None or isinstance(stored, (int, str)):
         return int(stored) if type(stored) is bool else stored
-    told = f"{type(value).__name__} gave a value of {type(stored).__name__}, which is no int, str or None"
+    told = f"{kind.__name__} gave a value of {type(stored).__name__}, which is no int, str or None"
     raise WrongType(f"mmdb: the adapter of {told}")
 
 
 def has_adapter(value: Any) -> bool:
     """Whether a value is of a type with an adapter."""
-    return _adapter_of(type(value)) is not None
+    kind: Any = type(value)
+    return _adapter_of(kind) is not None
 
 
 @functools.lru_cache(maxsize=256)

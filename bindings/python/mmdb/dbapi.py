@@ -30,9 +30,7 @@ class TypeObject:
         self._types = frozenset(types)
 
     def __eq__(self, other: object) -> bool:
-        if isinstance(other, TypeObject):
-            return self is other
-        return other in self._types if isinstance(other, type) else NotImplemented
+        return self is other or isinstance(other, type) and other in self._types
 
     def __hash__(self) -> int:
         return hash(self._types)

@@ -7,9 +7,11 @@ import functools
 import operator
 from typing import TYPE_CHECKING, Any, Callable, ClassVar, Dict, Iterable, List, NamedTuple, Optional, Sequence, Tuple, Type
 
+from .arrow import stream_of
 from .chosen import extension
 from .conversions import Converter
-from .errors import WrongValue
+from .errors import WrongType, WrongValue
+from .frames import frame_of
 
 if TYPE_CHECKING:
     _Values = Tuple[Any, ...]
@@ -73,19 +75,21 @@ class Row(_Named):
 
     def __getattr__(self, name: str) -> Any:
         # (each column that can be had so is a property, so there is none)
-        raise AttributeError(self._why_not(name))
+        raise AttributeError(why_not(self._names, name))
 
     def __reduce__(self) -> Any:
         return _remade, (self._names, tuple(self))
 
     def _missing(self, name: str) -> Any:
-        raise KeyError(self._why_not(name))
+        raise KeyError(why_not(self._names, name))
 
-    def _why_not(self, name: str) -> str:
-        having = [full for full in self._names if full.endswith(f".{name}")]
-        if len(having) > 1:
-            return f"mmdb: several columns of the row are called {name}: {', '.join(having)}"
-        return f"mmdb: the row has no column {name!r}; its columns are {', '.join(self._names)}"
+
+def why_not(names: Sequence[str], name: str) -> str:
+    """Why there is no column of this name among the columns of a row."""
+    having = [full for full in names if full.endswith(f".{name}")]
+    if len(having) > 1:
+        return f"mmdb: several columns of the row are called {name}: {', '.join(having)}"
+    return f"mmdb: the row has no column {name!r}; its columns are {', '.join(names)}"
 
 
 def _remade(names: Tuple[str, ...], values: Iterable[Any]) -> Row:
@@ -143,6 +147,76 @@ class Rows(_ListOfRows):
         """Each row as a dict, by the columns' names alone, or by their full names if several are alike."""
         keys = short_names(self.names)
         return [dict(zip(keys, row)) for row in self]
+
+    def column(self, name: str) -> List[Any]:
+        """The values of a column, by its full name or the name alone."""
+        return list(map(operator.itemgetter(self._place(name)), self))
+
+    def sort(self, *columns: str, key: Optional[Callable[[Row], Any]] = None, reverse: bool = False) -> None:
+        """Sorts the rows in place by one or more columns, or as a list is sorted.
+
+        Nulls come before all values. Rows that are alike in these columns stay in their order.
+        """
+        if columns and key is not None:
+            raise WrongType("mmdb: rows are sorted by columns or by a key, not by both")
+        places = [self._place(column) for column in columns]
+
+        def values(row: Row) -> Any:
+            return [(row[place] is not None, row[place]) for place in places]
+
+        list.sort(self, key=values if columns else key, reverse=reverse)
+
+    def group(self, *columns: str) -> Dict[Any, Rows]:
+        """The rows by their values in one or more columns.
+
+        The keys are these values, in the order in which they first come, and tuples of them for several columns.
+        """
+        if not columns:
+            raise WrongType("mmdb: rows are grouped by one or more columns")
+        key = operator.itemgetter(*(self._place(column) for column in columns))
+        groups: Dict[Any, List[Row]] = {}
+        for row in self:
+            groups.setdefault(key(row), []).append(row)
+        return {value: self._with(rows) for value, rows in groups.items()}
+
+    def sum(self, column: str) -> Any:
+        """The sum of the values of a column, nulls left out. It is 0 where there are none."""
+        try:
+            return sum(value for value in self.column(column) if value is not None)
+        except TypeError as why:
+            raise WrongType(f"mmdb: the column {column} has values that have no sum: {why}") from why
+
+    def to_pandas(self) -> Any:
+        """The rows as a DataFrame of pandas, with the columns' names alone, or their full names where several are alike.
+
+        A column of integers is of the type `int64`, or `Int64` if it has nulls. Raises ImportError without pandas.
+        """
+        return frame_of(short_names(self.names), self.types, self._columns())
+
+    def __arrow_c_stream__(self, requested_schema: Any = None) -> Any:
+        """The rows as a stream of Arrow, in a PyCapsule: `pyarrow.table(rows)` and `polars.DataFrame(rows)` read it.
+
+        A column is of the type `int64` or `utf8`. Values that were read as other types are exported as they are stored.
+        """
+        return stream_of(short_names(self.names), self.types, self._columns())
+
+    def _columns(self) -> List[List[Any]]:
+        """The values of each column."""
+        return [list(map(operator.itemgetter(at), self)) for at in range(len(self.names))]
+
+    def _with(self, rows: Iterable[Row]) -> Rows:
+        """Other rows with the same columns."""
+        made = type(self)(rows)
+        made.names, made.types = self.names, self.types
+        return made
+
+    def _place(self, name: str) -> int:
+        """The place of a column. Raises KeyError where there is none, or several of that name."""
+        kind = row_type(self.names)
+        place = kind._places.get(name)
+        if place is None:
+            raise KeyError(why_not(self.names, name))
+        return place
 
 
 class Shape(NamedTuple):

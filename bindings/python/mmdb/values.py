@@ -88,7 +88,7 @@ def stored_rows(rows: Iterable[Iterable[Any]]) -> List[Tuple[Value, ...]]:
 
 
 def _stored(value: Any) -> Value:
-    plain = value if type(value) in PLAIN else adapted(value)
+    plain: Value = value if type(value) in PLAIN else adapted(value)
     if isinstance(plain, str):
         encoded(plain)
     elif plain is not None:
