@@ -9,6 +9,7 @@ import re
 import signal
 import subprocess
 import unittest
+import warnings
 
 from support import embedding, hand, harness, model, shells, sizes, tested
 from support.binding import mmdb
@@ -346,6 +347,19 @@ class Loads(shells.InThisProcess):
         texts = [[at, f'a "text",\r\n{at}'] for at in range(50)]
         self.assertEqual(shell.db.execute("select * from t where id < 99"), texts)
 
+    def test_odd_quotes_are_warned_of(self):
+        shell = self.shell()
+        content = "id,s\n" + "".join(f"{at},abcdefgh\n" for at in range(40))
+        behind, held = "text behind its closing quote mark, which is read as a part of it", "whose quote mark is never closed, and which holds all that follows"
+        for last, told, text in (('40,"x"y\n', f"a field with {behind}", "xy"), ('40,"x,\n41,y\n', f"a field {held}", "x,\n41,y\n")):
+            with self.subTest(last=last):
+                self.do(shell, "table t (id int, s text)")
+                shell._err.seek(0)
+                shell.run(reading.Stream(io.BytesIO(f".load t {self.file('t.csv', content + last)}\n".encode()), ""))
+                self.assertEqual(shell._err.getvalue(), f"mmdb-shell: warning: record 41 of the CSV has {told}\n")
+                self.assertEqual(shell.db.select("select s from t where id = 40"), [(text,)])
+                self.do(shell, "drop table t")
+
     def test_what_is_refused_later_is_taken_back(self):
         for kind, keys, old in (
             ("int", [f"{at}" for at in range(0, 200, 2)], ["-7", "13", "99", "151"]),
@@ -466,7 +480,8 @@ class Cuts(unittest.TestCase):
         return len(parts) > 1
 
     def loaded(self, blocks):
-        with mmdb.Database() as db:
+        with mmdb.Database() as db, warnings.catch_warnings():
+            warnings.simplefilter("ignore", mmdb.CsvWarning)
             db.execute("table t (id int, s text)")
             return sum(db.load_csv("t", block) for block in blocks), db.execute("select * from t")
 

@@ -4,7 +4,8 @@ from __future__ import annotations
 
 import io
 import re
-from typing import Iterator, List, Optional, Protocol, Tuple, Union
+import warnings
+from typing import BinaryIO, Iterator, List, Optional, Tuple, Union
 
 import mmdb
 
@@ -96,6 +97,8 @@ class Load:
         self._before: Optional[bytes] = None
         #: How many rows have gone in.
         self.count = 0
+        #: What is odd in the file, each in a sentence.
+        self.warnings: List[str] = []
 
     def run(self, file: Readable, limit: int) -> int:
         """Puts in the rows of a file, and gives how many they are. If it raises, none of them is in."""
@@ -124,11 +127,16 @@ class Load:
         if self._before is None and not block.is_last:
             self._before = self._keys_before()
         try:
-            self.count += self._db.load_csv(self._table.name, block.content)
+            with warnings.catch_warnings(record=True) as caught:
+                warnings.simplefilter("always", mmdb.CsvWarning)
+                count = self._db.load_csv(self._table.name, block.content)
         except mmdb.Refused as why:
             if not self.count:
                 raise
             raise _in_file(why, self.count) from why
+        finally:
+            self.warnings.extend(_warned(each.message, self.count) for each in caught)
+        self.count += count
 
     def _keys_before(self) -> bytes:
         """The keys before a load of several blocks, by which its rows can be taken back."""
@@ -158,6 +166,14 @@ class Load:
             return keys_in(answer(self._db, all_keys(self._table)), self._table.key.kind)
         except (MemoryError, mmdb.Refused):
             return None
+
+
+def _warned(warning: Union[str, Warning], before: int) -> str:
+    """A warning of a block, told of the file in which so many records stand before it."""
+    told = str(warning)
+    if isinstance(warning, mmdb.CsvWarning) and warning.record:
+        told = told.replace(f"record {warning.record} ", f"record {warning.record + before} ", 1)
+    return told.replace("mmdb: ", "warning: ", 1)
 
 
 def _in_file(why: mmdb.Refused, before: int) -> mmdb.Refused:

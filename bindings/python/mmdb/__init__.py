@@ -34,6 +34,7 @@ from .dbapi import (
     threadsafety,
 )
 from .errors import (
+    CsvWarning,
     DatabaseError,
     DataError,
     Error,
@@ -65,6 +66,7 @@ __all__ = [
     "Binary",
     "Connection",
     "Converter",
+    "CsvWarning",
     "Cursor",
     "DataError",
     "Database",

@@ -625,11 +625,17 @@ static PyType_Spec prepared_spec = {
 
 /* ---- the module */
 
+static PyMethodDef module_methods[] = {
+    { "odd_field", odd_field, METH_O, "Where the first field of a CSV begins whose quote marks are odd, and whether it is open." },
+    { NULL, NULL, 0, NULL },
+};
+
 static struct PyModuleDef module = {
     PyModuleDef_HEAD_INIT,
     .m_name = "_mmdb",
     .m_doc = "The library, as the package mmdb wants it.",
     .m_size = -1,
+    .m_methods = module_methods,
 };
 
 /* Makes a type, and puts it into the module where it is to be had there. */

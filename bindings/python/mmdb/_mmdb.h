@@ -140,6 +140,9 @@ void kept_forget_all(Handle *handle);
 /* Makes the type of them, and puts it into the module. */
 int named_begin(PyObject *module);
 
+/* What _quotes.c has: where the first field of a CSV begins whose quote marks are odd, and whether it is open; or None. */
+PyObject *odd_field(PyObject *module, PyObject *content);
+
 /* Gives the memory of an object of one of the types here back. */
 void free_object(PyObject *self);
 

@@ -4,6 +4,8 @@ from typing import Any, ContextManager, List, Optional, Tuple
 
 from .lines import Placed
 
+def odd_field(content: bytes) -> Optional[Tuple[int, bool]]: ...
+
 class Named(Tuple[Any, ...]):
     """A tuple with names for its values, of which `mmdb.Row` is made."""
 

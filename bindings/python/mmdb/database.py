@@ -2,13 +2,15 @@
 
 from __future__ import annotations
 
+import warnings
 from typing import TYPE_CHECKING, Any, Callable, Dict, Iterable, List, Mapping, NoReturn, Optional, Sequence, Tuple, Union
 
 from .conversions import Converter, converter_of
-from .errors import NoMemory, WrongType, WrongUse, refusal_of
+from .errors import CsvWarning, NoMemory, WrongType, WrongUse, WrongValue, refusal_of
 from .handles import Handle
 from .indexes import Index, indexes_of
 from .lines import CHANGES, Placed, check_kind, check_line, one_line, placed
+from .quotes import first_odd
 from .rows import Rows, Shape, shape_of
 from .statement import Statement
 from .values import Column, Value, as_bytes, block_of, columns_of, encoded, rows_of, rows_of_dicts, stored_rows, stored_values
@@ -136,13 +138,22 @@ class Database(Handle):
         given = list(dicts)
         return self._load_rows(table, lambda columns: rows_of_dicts(table, columns, given))
 
-    def load_csv(self, table: str, block: Union[str, bytes]) -> int:
-        """Inserts the rows of a CSV into a table, all of them or none, and returns their number.
+    def load_csv(self, table: str, block: Union[str, bytes], strict: bool = False) -> int:
+        """Puts the rows of a CSV into a table, all of them or none, and gives how many they are.
 
         The first record has the names of all columns, in their order. Raises `Refused` as the language says.
+
+        A field whose quote mark is never closed holds all that follows, and `"x"y` is read as `xy`. The first such field is
+        warned of by a `CsvWarning`. With `strict` it raises ValueError, and no row goes in.
         """
+        content = as_bytes(block)
+        odd = first_odd(content)
+        if odd is not None and strict:
+            raise WrongValue(odd.told())
+        if odd is not None:
+            warnings.warn(CsvWarning(odd.told(), odd.record), stacklevel=2)
         with self._turn:
-            return self._loaded(table, as_bytes(block))
+            return self._loaded(table, content)
 
     def _load_rows(self, table: str, rows: Callable[[List[Column]], List[Tuple[Any, ...]]]) -> int:
         """Puts rows into a table, which a function gives in the order of its columns.

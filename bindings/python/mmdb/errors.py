@@ -8,7 +8,16 @@ from .pointing import pointed
 
 
 class Warning(Exception):  # pylint: disable=redefined-builtin
-    """Never raised; PEP 249 has it."""
+    """What a call warns of that it does. PEP 249 has it."""
+
+
+class CsvWarning(Warning, UserWarning):
+    """A CSV is loaded that has a field with odd quote marks. It is a warning, and raised only by those who ask for that."""
+
+    def __init__(self, told: str, record: int = 0) -> None:
+        super().__init__(told)
+        #: The number of the record, counted from 1; 0 for that of the names.
+        self.record = record
 
 
 class Error(Exception):
