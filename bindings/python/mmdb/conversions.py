@@ -3,10 +3,8 @@
 from __future__ import annotations
 
 import datetime
-import decimal
 import enum
 import functools
-import uuid
 from typing import TYPE_CHECKING, Any, Callable, Dict, Optional, Tuple, Type, Union
 
 from .errors import WrongType
@@ -86,7 +84,15 @@ def has_adapter(value: Any) -> bool:
 @functools.lru_cache(maxsize=256)
 def _adapter_of(kind: Type[Any]) -> Optional[Adapter]:
     """The adapter of the type that is the nearest of those that it is made of."""
-    return next((_ADAPTERS[base] for base in kind.__mro__ if base in _ADAPTERS), None)
+    for base in kind.__mro__:
+        adapter = _ADAPTERS.get(base) or (str if (base.__module__, base.__name__) in _BY_STR else None)
+        if adapter is not None:
+            return adapter
+    return None
+
+
+# Types that are stored by str(). (Their modules take longer to import than this package, so that they are named alone.)
+_BY_STR = frozenset((("decimal", "Decimal"), ("uuid", "UUID")))
 
 
 def _why_not(kind: type) -> str:
@@ -110,8 +116,6 @@ _ADAPTERS: Dict[type, Adapter] = {
     datetime.datetime: datetime.datetime.isoformat,
     datetime.date: datetime.date.isoformat,
     datetime.time: datetime.time.isoformat,
-    decimal.Decimal: str,
-    uuid.UUID: str,
     enum.Enum: _value_of_enum,
 }
 _CONVERTERS: Dict[type, Converter] = {

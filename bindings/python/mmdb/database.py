@@ -256,7 +256,9 @@ class Database(Handle):
     def _shaped(self, names: Tuple[str, ...], kinds: Tuple[int, ...]) -> Shape:
         """What rows with these columns are made of."""
         shape = shape_of(names, kinds)
-        converters = tuple(map(self._converters.get, names)) if self._converters else ()
+        if not self._converters:
+            return shape
+        converters = tuple(map(self._converters.get, names))
         return shape._replace(converters=converters) if any(converters) else shape
 
     def _refuse(self, at: Union[Placed, str], values: Sequence[Any], answer: bytes, reason: Optional[str]) -> NoReturn:

@@ -3,7 +3,6 @@
 from __future__ import annotations
 
 import re
-import unicodedata
 from typing import Optional
 
 # How a reason begins that names a column of the line.
@@ -35,10 +34,9 @@ def pointed(line: Optional[str], reason: Optional[str]) -> str:
 
 def _width(text: str) -> int:
     """How many places of a terminal a text takes."""
-    return sum(map(_places_of, text))
+    if text.isascii():
+        return len(text)
+    import unicodedata
 
-
-def _places_of(character: str) -> int:
-    if unicodedata.combining(character):
-        return 0
-    return 2 if unicodedata.east_asian_width(character) in "WF" else 1
+    wide = sum(unicodedata.east_asian_width(character) in "WF" for character in text)
+    return len(text) + wide - sum(unicodedata.combining(character) > 0 for character in text)

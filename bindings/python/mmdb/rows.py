@@ -7,11 +7,9 @@ import functools
 import operator
 from typing import TYPE_CHECKING, Any, Callable, ClassVar, Dict, Iterable, List, NamedTuple, Optional, Sequence, Tuple, Type
 
-from .arrow import stream_of
 from .chosen import extension
 from .conversions import Converter
 from .errors import WrongType, WrongValue
-from .frames import frame_of
 
 if TYPE_CHECKING:
     _Values = Tuple[Any, ...]
@@ -191,6 +189,8 @@ class Rows(_ListOfRows):
 
         A column of integers is of the type `int64`, or `Int64` if it has nulls. Raises ImportError without pandas.
         """
+        from .frames import frame_of
+
         return frame_of(short_names(self.names), self.types, self._columns())
 
     def __arrow_c_stream__(self, requested_schema: Any = None) -> Any:
@@ -198,6 +198,8 @@ class Rows(_ListOfRows):
 
         A column is of the type `int64` or `utf8`. Values that were read as other types are exported as they are stored.
         """
+        from .arrow import stream_of
+
         return stream_of(short_names(self.names), self.types, self._columns())
 
     def _columns(self) -> List[List[Any]]:
