@@ -122,18 +122,24 @@ static int is_plain(const char *line, Py_ssize_t length)
            !memchr(line, '\n', (size_t)length);
 }
 
-/* The kind of a line: lines that differ in their integers and texts alone are of the same one, which is never 0. */
+/* Whether a digit is the first one of an integer, by the mark before it. */
+static int begins_an_integer(char before)
+{
+    return strchr(" \t=<>(,-", before) != NULL;
+}
+
+/* The kind of a line, which is never 0: lines are of the same one that are alike up to their first value, and about as long.
+   So a line that is made anew for each key is known to be as quick as the one before. */
 static uint32_t kind_of_line(const char *line, Py_ssize_t length)
 {
     uint32_t kind = 2166136261u;
-    int is_in_text = 0;
-    for (Py_ssize_t at = 0; at < length; at++) {
-        char mark = line[at];
-        is_in_text ^= mark == '\'';
-        if (!is_in_text && (mark < '0' || mark > '9'))
-            kind = (kind ^ (unsigned char)mark) * 16777619u;
+    for (Py_ssize_t at = 1; at < length; at++) {
+        unsigned char mark = (unsigned char)line[at];
+        if (mark <= '9' && (mark == '\'' || (mark >= '0' && begins_an_integer(line[at - 1]))))
+            break;
+        kind = (kind ^ mark) * 16777619u;
     }
-    return kind | 1;
+    return (kind ^ ((uint32_t)length >> 4)) | 1;
 }
 
 Statement *kept_plain(Handle *handle, PyObject *line)

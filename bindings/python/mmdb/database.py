@@ -2,6 +2,7 @@
 
 from __future__ import annotations
 
+import functools
 import warnings
 from typing import TYPE_CHECKING, Any, Callable, Dict, Iterable, List, Mapping, NoReturn, Optional, Sequence, Tuple, Union
 
@@ -181,6 +182,8 @@ class Database(Handle):
             self._converters.pop(column, None)
         else:
             self._converters[column] = converter_of(to)
+        # (it stands in the place of the method, so that it costs nothing where no column is converted)
+        setattr(self, "_shaped", functools.partial(_shape_with, dict(self._converters)))
         with self._turn:
             self._forget()
 
@@ -255,11 +258,7 @@ class Database(Handle):
 
     def _shaped(self, names: Tuple[str, ...], kinds: Tuple[int, ...]) -> Shape:
         """What rows with these columns are made of."""
-        shape = shape_of(names, kinds)
-        if not self._converters:
-            return shape
-        converters = tuple(map(self._converters.get, names))
-        return shape._replace(converters=converters) if any(converters) else shape
+        return shape_of(names, kinds)
 
     def _refuse(self, at: Union[Placed, str], values: Sequence[Any], answer: bytes, reason: Optional[str]) -> NoReturn:
         """Raises the refusal that the library has just answered to a statement with these values, or to a line, for this
@@ -322,6 +321,13 @@ class Database(Handle):
         if self._declared is None:
             self._declared = columns_of(self._accepted(b"tables").decode())
         return self._declared.get(table, [])
+
+
+def _shape_with(converters: Dict[str, Converter], names: Tuple[str, ...], kinds: Tuple[int, ...]) -> Shape:
+    """What rows with these columns are made of, some of which are read by converters."""
+    found = tuple(map(converters.get, names))
+    shape = shape_of(names, kinds)
+    return shape._replace(converters=found) if any(found) else shape
 
 
 def _outcome(line: str, answer: bytes) -> Any:
