@@ -2,6 +2,8 @@
 
 use std::fmt;
 
+use crate::pointing::fmt_pointed;
+
 use crate::from_value::FromValueError;
 
 /// The result of a call.
@@ -172,9 +174,16 @@ impl fmt::Display for Error {
     fn fmt(&self, to: &mut fmt::Formatter<'_>) -> fmt::Result {
         match self {
             Error::Refused {
-                number, text, reason, ..
+                number,
+                text,
+                reason,
+                written,
+                ..
             } => match reason {
-                Some(reason) => write!(to, "error {number} {text}: {reason}"),
+                Some(reason) => {
+                    write!(to, "error {number} {text}: {reason}")?;
+                    fmt_pointed(to, written, reason)
+                }
                 None => write!(to, "error {number} {text}"),
             },
             Error::OutOfRange => write!(

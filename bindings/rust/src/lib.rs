@@ -4,7 +4,7 @@
 //! use mmdb::{params, Database};
 //!
 //! # fn main() -> mmdb::Result<()> {
-//! let mut db = Database::open_in_memory()?;
+//! let db = Database::open_in_memory()?;
 //! db.execute("table book (id int, title text)", [])?;
 //! {
 //!     let mut insert = db.prepare("insert book (?, ?)")?;
@@ -28,7 +28,7 @@
 //! [`Database::query`] keep those of their lines.
 //!
 //! The archive `libmmdb.a` is linked from the folder that the environment variable `MMDB_LIBRARY` names when the crate
-//! is built, else from where pkg-config knows `mmdb`.
+//! is built, else from `release` of a clone, else from where pkg-config knows `mmdb`.
 
 #![warn(missing_docs, missing_debug_implementations)]
 
@@ -52,6 +52,7 @@ mod line;
 mod optional;
 mod outcome;
 mod params;
+mod pointing;
 mod row;
 mod rows;
 mod session;
@@ -77,7 +78,7 @@ pub use value::{Value, ValueRef};
 /// Parameters of several types, for the places `?` of a line in their order: a slice of references.
 ///
 /// ```
-/// let mut db = mmdb::Database::open_in_memory()?;
+/// let db = mmdb::Database::open_in_memory()?;
 /// db.execute("table t (id int, s text)", mmdb::params![])?;
 /// assert_eq!(db.execute("insert t (?, ?)", mmdb::params![1, "a"])?, 1);
 /// # Ok::<(), mmdb::Error>(())
@@ -94,7 +95,7 @@ macro_rules! params {
 /// ```
 /// use mmdb::named_params;
 ///
-/// let mut db = mmdb::Database::open_in_memory()?;
+/// let db = mmdb::Database::open_in_memory()?;
 /// db.execute("table t (id int, s text)", [])?;
 /// assert_eq!(db.execute("insert t (:id, :s)", named_params! { ":s": "a", ":id": 1 })?, 1);
 /// # Ok::<(), mmdb::Error>(())

@@ -5,11 +5,11 @@ mod common;
 use std::error::Error as _;
 
 use common::{number, open, row, selected, with_rows, with_table};
-use mmdb::{Database, Error, IndexShape, OptionalExtension, Outcome, Row};
+use mmdb::{named_params, Database, Error, IndexShape, OptionalExtension, Outcome, Row};
 
 #[test]
 fn outcomes_of_commands() {
-    let mut db = open();
+    let db = open();
     let listing = "table t (id int, s text)\nindex t s hash\n".to_string();
     for (line, outcome) in [
         ("tables", Outcome::Text(String::new())),
@@ -31,7 +31,7 @@ fn outcomes_of_commands() {
 
 #[test]
 fn how_indexes_stand() {
-    let mut db = open();
+    let db = open();
     db.execute("table t (id int, n int)", []).unwrap();
     db.execute("index t n hash", []).unwrap();
     db.load("t", (0..100).map(|id| (id, 7))).unwrap();
@@ -62,7 +62,7 @@ fn how_indexes_stand() {
 
 #[test]
 fn an_outcome_has_rows_or_a_count() {
-    let mut db = with_rows();
+    let db = with_rows();
     let selected = db.command("select * from t", []).unwrap();
     assert_eq!(selected.count(), None);
     assert_eq!(selected.into_rows().unwrap().to_vec(), [row(1, "a"), row(2, "b")]);
@@ -73,7 +73,7 @@ fn an_outcome_has_rows_or_a_count() {
 
 #[test]
 fn execute_counts_rows() {
-    let mut db = open();
+    let db = open();
     for (line, count) in [
         ("table t (id int, s text)", 0),
         ("insert t (1, 'a')", 1),
@@ -93,7 +93,7 @@ fn execute_counts_rows() {
 
 #[test]
 fn a_line_goes_to_its_call() {
-    let mut db = with_rows();
+    let db = with_rows();
     for line in ["select * from t", " \tselect", "dump t", "tables", "tables "] {
         assert_eq!(db.execute(line, []), Err(Error::NotAChange), "{line}");
     }
@@ -113,12 +113,12 @@ fn a_line_goes_to_its_call() {
             "{line}"
         );
     }
-    assert_eq!(selected(&mut db, "select * from t", []), [row(1, "a"), row(2, "b")]);
+    assert_eq!(selected(&db, "select * from t", []), [row(1, "a"), row(2, "b")]);
 }
 
 #[test]
 fn rows_are_gone_through() {
-    let mut db = with_rows();
+    let db = with_rows();
     let rows = db.query("select s, id from t", []).unwrap();
     assert_eq!(rows.column_names(), ["t.s", "t.id"]);
     assert_eq!((rows.len(), rows.is_empty()), (2, false));
@@ -138,7 +138,7 @@ fn rows_are_gone_through() {
 
 #[test]
 fn rows_are_mapped() {
-    let mut db = with_rows();
+    let db = with_rows();
     let pair = |row: &Row<'_>| Ok((row.get("id")?, row.get("s")?));
     let mut mapped = db.query_map("select * from t where id > ?", [0], pair).unwrap();
     assert_eq!(mapped.len(), 2);
@@ -158,15 +158,15 @@ fn rows_are_mapped() {
 
 #[test]
 fn one_row_is_read() {
-    let mut db = with_rows();
+    let db = with_rows();
     for (id, text) in [(1, "a"), (2, "b"), (1, "a")] {
         let read = db.query_row("select s from t where id = ?", [id], |row| row.get::<_, String>(0));
         assert_eq!(read, Ok(text.to_string()));
     }
     assert_eq!(db.query_row("select id from t", [], |row| row.get(0)), Ok(1));
-    let absent = |db: &mut Database| db.query_row("select id from t where id = 3", [], |row| row.get::<_, i64>(0));
-    assert_eq!(absent(&mut db), Err(Error::NoRows));
-    assert_eq!(absent(&mut db).optional(), Ok(None));
+    let absent = |db: &Database| db.query_row("select id from t where id = 3", [], |row| row.get::<_, i64>(0));
+    assert_eq!(absent(&db), Err(Error::NoRows));
+    assert_eq!(absent(&db).optional(), Ok(None));
     assert_eq!(
         db.query_row("select id from t", [], |row| row.get(0)).optional(),
         Ok(Some(1))
@@ -181,7 +181,7 @@ fn one_row_is_read() {
 
 #[test]
 fn dumps_have_bare_names() {
-    let mut db = with_rows();
+    let db = with_rows();
     let dumped = db.dump("t").unwrap();
     assert_eq!(dumped.column_names(), ["id", "s"]);
     assert_eq!(dumped.to_vec(), [row(1, "a"), row(2, "b")]);
@@ -193,7 +193,7 @@ fn dumps_have_bare_names() {
 
 #[test]
 fn refusals() {
-    let mut db = with_table();
+    let db = with_table();
     assert_eq!(number(db.execute("insert t (1", [])), Some(20));
     assert_eq!(number(db.query("select * from u", [])), Some(30));
     assert_eq!(number(db.command("dump u", [])), Some(30));
@@ -209,7 +209,7 @@ fn refusals() {
 
 #[test]
 fn a_refusal_tells_what_was_sent() {
-    let mut db = with_rows();
+    let db = with_rows();
     let refused = db.execute("insert t (?, ?)", (1, "it's")).unwrap_err();
     assert_eq!((refused.number(), refused.text()), (Some(41), Some("key exists")));
     assert_eq!(refused.line(), Some("insert t (1, 'it''s')"));
@@ -217,7 +217,7 @@ fn a_refusal_tells_what_was_sent() {
     assert_eq!(refused.reason(), Some("column 11: t has a row with the key 1"));
     assert_eq!(
         refused.to_string(),
-        "error 41 key exists: column 11: t has a row with the key 1"
+        "error 41 key exists: column 11: t has a row with the key 1\n  insert t (?, ?)\n            ^"
     );
     assert!(refused.source().is_none());
     let twice = db.load("t", [(3, "a"), (3, "b")]).unwrap_err();
@@ -277,7 +277,7 @@ fn a_refusal_tells_why() {
 
 #[test]
 fn a_database_is_used_on_after_a_refusal() {
-    let mut db = with_rows();
+    let db = with_rows();
     assert_eq!(number(db.execute("insert t (1, 'c')", [])), Some(41));
     assert_eq!(
         db.execute("insert t (?, ?)", [3]),
@@ -298,4 +298,53 @@ fn a_database_is_used_on_after_a_refusal() {
         Ok("c".to_string())
     );
     assert_eq!(db.dump("t").unwrap().len(), 3);
+}
+
+#[test]
+fn a_refusal_shows_its_line() {
+    let db = with_rows();
+    for (refused, line, caret) in [
+        (db.execute("selct * from t", []), "selct * from t", "^"),
+        (
+            db.execute("insert t (?, ?)", (1, "a")),
+            "insert t (?, ?)",
+            "          ^",
+        ),
+        (
+            db.execute("update t set s = 'é日' where id = :id", named_params! { ":id": "x" }),
+            "update t set s = 'é日' where id = :id",
+            "                                  ^",
+        ),
+        (
+            db.execute("delete\tt where id == 1", []),
+            "delete t where id == 1",
+            "                   ^",
+        ),
+    ] {
+        let shown = refused.unwrap_err().to_string();
+        let lines: Vec<&str> = shown.lines().collect();
+        assert_eq!(
+            lines[1..],
+            [&format!("  {line}")[..], &format!("  {caret}")[..]],
+            "{shown}"
+        );
+    }
+    let long = format!("select {}? from t", "name, ".repeat(40));
+    let shown = db.query(&long, [1]).unwrap_err().to_string();
+    let front = &"name, ".repeat(40)[6 * 40 - 48..];
+    assert!(
+        shown.ends_with(&format!("\n  …{front}? from t\n  {:49}^", "")),
+        "{shown}"
+    );
+    let shown = db
+        .query(&format!("select ? {}", "x".repeat(90)), [1])
+        .unwrap_err()
+        .to_string();
+    assert!(
+        shown.ends_with(&format!("\n  select ? {}…\n         ^", "x".repeat(28))),
+        "{shown}"
+    );
+    for line in ["select * from nowhere", "insert t (1, 'a')"] {
+        assert_eq!(db.command(line, []).unwrap_err().to_string().lines().count(), 1);
+    }
 }
