@@ -121,6 +121,21 @@ impl<'r, T: FromValue<'r>> FromValue<'r> for Option<T> {
     }
 }
 
+/// 0 is `false`, and 1 is `true`.
+impl FromValue<'_> for bool {
+    fn from_value(value: ValueRef<'_>) -> Result<Self, FromValueError> {
+        match value {
+            ValueRef::Integer(0) => Ok(false),
+            ValueRef::Integer(1) => Ok(true),
+            ValueRef::Integer(integer) => Err(FromValueError::OutOfRange {
+                integer,
+                wanted: "bool",
+            }),
+            other => Err(FromValueError::of(other, "bool")),
+        }
+    }
+}
+
 macro_rules! integers {
     ($($integer:ty),*) => {
         $(impl FromValue<'_> for $integer {

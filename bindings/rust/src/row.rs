@@ -9,8 +9,10 @@ use crate::value::ValueRef;
 
 /// A row of [`Rows`](crate::Rows) or of [`RowsRef`](crate::RowsRef), which lend it.
 ///
+/// The values of its first columns are also had as a tuple, by `try_into`.
+///
 /// ```
-/// let mut db = mmdb::Database::open_in_memory()?;
+/// let db = mmdb::Database::open_in_memory()?;
 /// db.execute("table t (id int, s text)", [])?;
 /// db.execute("insert t (1, 'a')", [])?;
 ///
@@ -19,6 +21,8 @@ use crate::value::ValueRef;
 /// assert_eq!(row.get::<_, i64>("id")?, 1);
 /// assert_eq!(row.get::<_, Option<&str>>(1)?, Some("a"));
 /// assert!(row.get::<_, u8>("t.s").is_err());
+/// let (id, text): (i64, &str) = row.try_into()?;
+/// assert_eq!((id, text), (1, "a"));
 /// # Ok::<(), mmdb::Error>(())
 /// ```
 #[derive(Clone, Copy)]
@@ -61,7 +65,37 @@ impl<'r> Row<'r> {
     }
 }
 
-/// Rows are equal if their values are.
+/// A tuple of these types, and each shorter one, of the first columns of a row.
+macro_rules! tuples {
+    () => {};
+    ($first:ident $($more:ident)*) => {
+        /// The values of the first columns.
+        impl<'r, $first: FromValue<'r>, $($more: FromValue<'r>),*> TryFrom<&Row<'r>> for ($first, $($more,)*) {
+            type Error = Error;
+
+            fn try_from(row: &Row<'r>) -> Result<Self> {
+                let mut columns = 0..;
+                let mut next = || columns.next().unwrap_or(usize::MAX);
+                Ok((row.get::<_, $first>(next())?, $(row.get::<_, $more>(next())?,)*))
+            }
+        }
+
+        /// The values of the first columns.
+        impl<'r, $first: FromValue<'r>, $($more: FromValue<'r>),*> TryFrom<Row<'r>> for ($first, $($more,)*) {
+            type Error = Error;
+
+            fn try_from(row: Row<'r>) -> Result<Self> {
+                (&row).try_into()
+            }
+        }
+
+        tuples!($($more)*);
+    };
+}
+
+tuples!(A B C D E F G H I J K L M N O P);
+
+/// Rows are equal where their values are.
 impl PartialEq for Row<'_> {
     fn eq(&self, other: &Row<'_>) -> bool {
         self.values().eq(other.values())

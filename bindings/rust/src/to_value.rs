@@ -126,6 +126,13 @@ macro_rules! wide_integers {
     };
 }
 
+/// 1 and 0.
+impl ToValue for bool {
+    fn to_value(&self) -> Result<ToValueOutput<'_>, Error> {
+        Ok(ValueRef::Integer((*self).into()).into())
+    }
+}
+
 by_reference!(&T, &mut T, Box<T>, Rc<T>, Arc<T>);
 integers!(i8, i16, i32, i64, u8, u16, u32);
 wide_integers!(isize, i128, u64, usize, u128);

@@ -128,5 +128,5 @@ macro_rules! try_from_integers {
     };
 }
 
-from_integers!(i8, i16, i32, i64, u8, u16, u32);
+from_integers!(bool, i8, i16, i32, i64, u8, u16, u32);
 try_from_integers!(isize, i128, u64, usize, u128);
