@@ -3,6 +3,7 @@
 import os
 import pathlib
 import re
+import shutil
 import subprocess
 import tempfile
 import unittest
@@ -72,6 +73,7 @@ class Cargo(unittest.TestCase):
         self.assertEqual(len(pieces), 8)
         program = f"#![allow(unused)]\nfn main() -> Result<(), mmdb::Error> {{\n{''.join(pieces)}Ok(())\n}}\n"
         refused = "error 42 no referenced row: column 19: dept has no row with the key 99, which column dept names"
+        refused += "\n  insert emp (?, ?, ?)\n                    ^"
         self.check_program("pieces", program, f"1 Ann Some(10)\n2 O'Hara None\n{refused}\n")
 
     def test_random_streams(self):
@@ -91,6 +93,34 @@ class Cargo(unittest.TestCase):
         self.assertLessEqual({"Cargo.toml", "README.md", "build.rs", "src/lib.rs", *LICENSES}, set(listed.out.split()))
         for name in LICENSES:
             self.assertEqual((CRATE / name).read_bytes(), (harness.ROOT / name).read_bytes())
+
+    def test_the_library_of_a_clone(self):
+        """Where no variable names a folder, it is that of `release`, two folders up."""
+        clone = self.folder / "clone"
+        shutil.copytree(CRATE, clone / "bindings" / "rust", ignore=shutil.ignore_patterns("target"))
+        where = {"MMDB_LIBRARY": "", "PKG_CONFIG_PATH": str(self.folder), "CARGO_TARGET_DIR": str(self.folder / "of_clone")}
+        ended = self.cargo(clone / "bindings" / "rust", "build", **where)
+        self.assertNotEqual(ended.status, 0)
+        self.assertRegex(ended.err, "the variable MMDB_LIBRARY names no folder, the crate stands in no clone, and pkg-config knows no mmdb")
+        (clone / "release").mkdir()
+        shutil.copy(tested.library() / "libmmdb.a", clone / "release")
+        ended = self.cargo(clone / "bindings" / "rust", "build", **where)
+        self.assertEqual(ended.status, 0, ended.err)
+
+    def test_a_relative_folder(self):
+        """It begins where cargo is called, or else at the crate."""
+        called = self.folder / "called"
+        for folder in (called / "lib", CRATE):
+            folder.mkdir(parents=True, exist_ok=True)
+        shutil.copy(tested.library() / "libmmdb.a", called / "lib")
+        program = "fn main() { mmdb::Database::open_in_memory().unwrap(); println!(\"open\"); }\n"
+        crate = embedding.crate(self.folder, "relative", program)
+        where = {"MMDB_LIBRARY": "lib", "PWD": str(called), "CARGO_TARGET_DIR": str(self.folder / "of_relative")}
+        ended = self.cargo(called, "run", "--quiet", "--manifest-path", str(crate / "Cargo.toml"), **where)
+        self.assertEqual((ended.err, ended.out, ended.status), ("", "open\n", 0))
+        library = os.path.relpath(tested.library().resolve(), CRATE)
+        ended = self.cargo(called, "run", "--quiet", "--manifest-path", str(crate / "Cargo.toml"), **{**where, "MMDB_LIBRARY": library})
+        self.assertEqual((ended.err, ended.out, ended.status), ("", "open\n", 0))
 
     def test_no_library(self):
         ended = self.cargo(CRATE, "build", MMDB_LIBRARY=str(self.folder), CARGO_TARGET_DIR=str(self.folder / "none"))

@@ -53,7 +53,7 @@ impl Database {
     /// the refusal has the line with nulls in its places.
     ///
     /// ```
-    /// let mut db = mmdb::Database::open_in_memory()?;
+    /// let db = mmdb::Database::open_in_memory()?;
     /// db.execute("table t (id int, s text)", [])?;
     /// let mut insert = db.prepare("insert t (?, ?)")?;
     /// for (id, text) in [(1, "a"), (2, "two\nlines")] {
@@ -82,7 +82,7 @@ impl Database {
     /// ```
     /// use mmdb::{named_params, params};
     ///
-    /// let mut db = mmdb::Database::open_in_memory()?;
+    /// let db = mmdb::Database::open_in_memory()?;
     /// db.execute("table t (id int, s text)", [])?;
     /// assert_eq!(db.execute("insert t (?, ?)", params![1, "it's"])?, 1);
     /// assert_eq!(db.execute("insert t (?, ?)", (2, "or a tuple"))?, 1);
@@ -91,31 +91,30 @@ impl Database {
     /// ```
     ///
     /// [`Error::NotAChange`] says that the line is a `select`, a `dump` or `tables`: [`query`](Database::query),
-    /// [`dump`](Database::dump) and [`command`](Database::command) return what these answer.
-    pub fn execute<P: Params>(&mut self, line: &str, params: P) -> Result<usize> {
-        if let Some(at) = self.lines.find(line) {
-            return self.lines.use_of(at).change(&self.session.handle, params);
+    /// [`dump`](Database::dump) and [`command`](Database::command) give what these answer.
+    pub fn execute<P: Params>(&self, line: &str, params: P) -> Result<usize> {
+        if let Some(mut kept) = self.lines.find(self.handle(), line) {
+            return kept.change(self.handle(), params);
         }
         match first_word(line) {
             "select" | "dump" | "tables" => Err(Error::NotAChange),
             "insert" | "update" | "delete" => self.change_anew(line, params),
-            _ => {
-                let answer = self.session.ask(line, params)?;
+            _ => self.session.ask(line, params, |answer| {
                 self.known.heed(answer.as_bytes());
-                Ok(count_of(answer).unwrap_or(0))
-            }
+                count_of(answer).unwrap_or(0)
+            }),
         }
     }
 
     /// The rows of a select. [`Error::NotASelect`] says that the line is none, and then it isn't done.
-    pub fn query<P: Params>(&mut self, line: &str, params: P) -> Result<Rows> {
+    pub fn query<P: Params>(&self, line: &str, params: P) -> Result<Rows> {
         self.select(line, params, |rows| Ok(rows.to_rows()))
     }
 
     /// What a function makes of each row of a select, in order.
     ///
     /// ```
-    /// let mut db = mmdb::Database::open_in_memory()?;
+    /// let db = mmdb::Database::open_in_memory()?;
     /// db.execute("table t (id int, s text)", [])?;
     /// db.load("t", [(1, "a"), (2, "b")])?;
     ///
@@ -124,7 +123,7 @@ impl Database {
     /// assert_eq!(found, [(1, "a".to_string()), (2, "b".to_string())]);
     /// # Ok::<(), mmdb::Error>(())
     /// ```
-    pub fn query_map<T, P, F>(&mut self, line: &str, params: P, map: F) -> Result<MappedRows<F>>
+    pub fn query_map<T, P, F>(&self, line: &str, params: P, map: F) -> Result<MappedRows<F>>
     where
         P: Params,
         F: FnMut(&Row<'_>) -> Result<T>,
@@ -132,7 +131,44 @@ impl Database {
         Ok(MappedRows::new(self.query(line, params)?, map))
     }
 
-    /// What a function makes of the first row of a select. Later ones are skipped.
+    /// The same as [`query_map`](Database::query_map), by a function with errors of the program's own.
+    ///
+    /// ```
+    /// # #[derive(Debug)]
+    /// enum Wrong {
+    ///     Refused(mmdb::Error),
+    ///     Short(String),
+    /// }
+    ///
+    /// impl From<mmdb::Error> for Wrong {
+    ///     fn from(error: mmdb::Error) -> Wrong {
+    ///         Wrong::Refused(error)
+    ///     }
+    /// }
+    ///
+    /// # fn main() -> Result<(), Wrong> {
+    /// let db = mmdb::Database::open_in_memory()?;
+    /// db.execute("table t (id int, s text)", [])?;
+    /// db.load("t", [(1, "a"), (2, "bcd")])?;
+    /// let long = |row: &mmdb::Row<'_>| match row.get::<_, String>("s")? {
+    ///     text if text.len() < 2 => Err(Wrong::Short(text)),
+    ///     text => Ok(text),
+    /// };
+    /// let found: Vec<Result<String, Wrong>> = db.query_and_then("select * from t", [], long)?.collect();
+    /// assert!(matches!(&found[..], [Err(Wrong::Short(_)), Ok(_)]));
+    /// # Ok(())
+    /// # }
+    /// ```
+    pub fn query_and_then<T, E, P, F>(&self, line: &str, params: P, map: F) -> Result<MappedRows<F>>
+    where
+        P: Params,
+        E: From<Error>,
+        F: FnMut(&Row<'_>) -> Result<T, E>,
+    {
+        Ok(MappedRows::new(self.query(line, params)?, map))
+    }
+
+    /// What a function makes of the first row of a select. Those behind it are passed over.
     ///
     /// [`Error::NoRows`] says that there is none, and [`optional`](crate::OptionalExtension::optional) makes `None` of
     /// that.
@@ -140,7 +176,7 @@ impl Database {
     /// ```
     /// use mmdb::OptionalExtension;
     ///
-    /// let mut db = mmdb::Database::open_in_memory()?;
+    /// let db = mmdb::Database::open_in_memory()?;
     /// db.execute("table t (id int, s text)", [])?;
     /// db.execute("insert t (1, 'a')", [])?;
     ///
@@ -150,7 +186,7 @@ impl Database {
     /// assert_eq!(none, None);
     /// # Ok::<(), mmdb::Error>(())
     /// ```
-    pub fn query_row<T, P, F>(&mut self, line: &str, params: P, read: F) -> Result<T>
+    pub fn query_row<T, P, F>(&self, line: &str, params: P, read: F) -> Result<T>
     where
         P: Params,
         F: FnOnce(&Row<'_>) -> Result<T>,
@@ -158,29 +194,27 @@ impl Database {
         self.select(line, params, |rows| rows.first(read))
     }
 
-    /// Executes any command, and returns its outcome.
-    pub fn command<P: Params>(&mut self, line: &str, params: P) -> Result<Outcome> {
+    /// Does any command, and gives what it answers.
+    pub fn command<P: Params>(&self, line: &str, params: P) -> Result<Outcome> {
         if is_select(line) {
             return self.query(line, params).map(Outcome::Rows);
         }
         if is_change(line) {
             return self.change(line, params).map(Outcome::Count);
         }
-        let answer = self.session.ask(line, params)?;
-        self.known.heed(answer.as_bytes());
-        Ok(Outcome::of(line, answer))
+        self.session.ask(line, params, |answer| {
+            self.known.heed(answer.as_bytes());
+            Outcome::of(line, answer)
+        })
     }
 
     /// Inserts rows into a table, all of them or none, and returns their number.
     ///
     /// Each row has a value for each column, in their order. A text may have line feeds here.
-    pub fn load<V: Values>(&mut self, table: &str, rows: impl IntoIterator<Item = V>) -> Result<usize> {
-        match self.known.columns(table, &mut self.session)? {
-            Some(columns) => {
-                let block = block_of(columns, rows)?;
-                self.load_csv(table, block)
-            }
-            // The library says what is wrong.
+    pub fn load<V: Values>(&self, table: &str, rows: impl IntoIterator<Item = V>) -> Result<usize> {
+        match self.known.tables(&self.session)?.get(table) {
+            Some(columns) => self.load_csv(table, block_of(columns, rows)?),
+            // The library tells what is wrong.
             None => self.load_csv(table, ""),
         }
     }
@@ -188,16 +222,16 @@ impl Database {
     /// Inserts the rows of a CSV into a table, all of them or none, and returns their number.
     ///
     /// The first record has the names of all columns, in their order.
-    pub fn load_csv(&mut self, table: &str, block: impl AsRef<[u8]>) -> Result<usize> {
+    pub fn load_csv(&self, table: &str, block: impl AsRef<[u8]>) -> Result<usize> {
         let block = block.as_ref();
-        let answer = self.session.send(&format!("load {table} {}", block.len()), block)?;
-        Ok(count_of(answer).unwrap_or(0))
+        let line = format!("load {table} {}", block.len());
+        self.session.send(&line, block, |answer| count_of(answer).unwrap_or(0))
     }
 
     /// All rows of a table by rising keys, with the bare names of its columns. They are cells, and no block whose bytes
     /// are limited.
-    pub fn dump(&mut self, table: &str) -> Result<Rows> {
-        let names = match self.known.columns(table, &mut self.session)? {
+    pub fn dump(&self, table: &str) -> Result<Rows> {
+        let names = match self.known.tables(&self.session)?.get(table) {
             Some(columns) => columns.iter().map(|column| column.name.clone()).collect(),
             None => return Err(self.why_not(format!("dump {table}"))),
         };
@@ -208,7 +242,7 @@ impl Database {
     /// The state of the indexes of a table: that of its key, and then the declared ones in order.
     ///
     /// ```
-    /// let mut db = mmdb::Database::open_in_memory()?;
+    /// let db = mmdb::Database::open_in_memory()?;
     /// db.execute("table t (id int, s text)", [])?;
     /// db.execute("index t s hash", [])?;
     /// db.execute("insert t (1, 'a')", [])?;
@@ -219,8 +253,8 @@ impl Database {
     /// assert!(matches!(indexes[1].shape, mmdb::IndexShape::Hash { buckets: 4, longest: 1, .. }));
     /// # Ok::<(), mmdb::Error>(())
     /// ```
-    pub fn indexes(&mut self, table: &str) -> Result<Vec<Index>> {
-        self.session.indexes(table).map(indexes_of)
+    pub fn indexes(&self, table: &str) -> Result<Vec<Index>> {
+        self.session.indexes(table, indexes_of)
     }
 
     /// The bytes that the library answers to a line, refusals too. They are none for comments and blank lines.
@@ -238,9 +272,10 @@ impl Database {
     /// Why [`answer`](Database::answer) or [`answer_to_load`](Database::answer_to_load) returned a refusal of this
     /// line with its block, in a line of words for people.
     ///
-    /// Call it right after that call. There is none if that was no refusal, or if memory ran out for the words.
-    pub fn reason(&mut self, line: &[u8], block: &[u8]) -> Option<String> {
-        self.session.handle().reason(line, block)
+    /// It is asked right behind that call. There is none where that was no refusal, and none where no memory is found
+    /// for the words.
+    pub fn reason(&self, line: &[u8], block: &[u8]) -> Option<String> {
+        self.handle().reason(line, block)
     }
 }
 
@@ -254,8 +289,8 @@ impl Database {
 
     /// Why a line isn't done that names no table: as the library says. It takes a name between blanks too, which the
     /// crate doesn't.
-    fn why_not(&mut self, line: String) -> Error {
-        let refused = self.session.send(&line, &[]).err();
+    fn why_not(&self, line: String) -> Error {
+        let refused = self.session.send(&line, &[], |_| ()).err();
         refused.unwrap_or_else(|| Error::Refused {
             number: 30,
             text: "no such table".to_string(),
@@ -274,49 +309,47 @@ impl Database {
         self.known.declared()
     }
 
-    /// Executes an insert, an update or a delete.
-    fn change<P: Params>(&mut self, line: &str, params: P) -> Result<usize> {
-        match self.lines.find(line) {
-            Some(at) => self.lines.use_of(at).change(&self.session.handle, params),
+    /// Does an insert, an update or a delete.
+    fn change<P: Params>(&self, line: &str, params: P) -> Result<usize> {
+        match self.lines.find(self.handle(), line) {
+            Some(mut kept) => kept.change(self.handle(), params),
             None => self.change_anew(line, params),
         }
     }
 
     /// The same, where its statement isn't kept. One without places is seldom done twice, so it stays so, and so does one
     /// for which no memory is found.
-    fn change_anew<P: Params>(&mut self, line: &str, params: P) -> Result<usize> {
-        let handle = &self.session.handle;
+    fn change_anew<P: Params>(&self, line: &str, params: P) -> Result<usize> {
+        let handle = self.handle();
         if has_places(line) {
             match self.lines.keep(handle, line) {
-                Ok(at) => return self.lines.use_of(at).change(handle, params),
+                Ok(mut kept) => return kept.change(handle, params),
                 Err(Declined::Refused) => return Err(why_not_kept(handle, line, params, Declined::Refused)),
                 Err(_) => {}
             }
         }
-        self.session
-            .ask(line, params)
-            .map(|answer| count_of(answer).unwrap_or(0))
+        self.session.ask(line, params, |answer| count_of(answer).unwrap_or(0))
     }
 
     /// What is made of the rows of a select, which its statement lends. Where they are many, their room isn't kept.
-    fn select<P, T>(&mut self, line: &str, params: P, make: impl FnOnce(RowsRef<'_>) -> Result<T>) -> Result<T>
+    fn select<P, T>(&self, line: &str, params: P, make: impl FnOnce(RowsRef<'_>) -> Result<T>) -> Result<T>
     where
         P: Params,
     {
-        let at = match self.lines.find(line) {
-            Some(at) => at,
+        let handle = self.handle();
+        let mut kept = match self.lines.find(handle, line) {
+            Some(kept) => kept,
             None if !is_select(line) => return Err(Error::NotASelect),
-            None => match self.lines.keep(&self.session.handle, line) {
-                Ok(at) => at,
-                Err(declined) => return Err(why_not_kept(&self.session.handle, line, params, declined)),
+            None => match self.lines.keep(handle, line) {
+                Ok(kept) => kept,
+                Err(declined) => return Err(why_not_kept(handle, line, params, declined)),
             },
         };
-        let kept = self.lines.use_of(at);
-        let rows = kept.rows(&self.session.handle, params, self.known.declared())?;
+        let rows = kept.rows(handle, params, self.known.declared())?;
         let are_many = rows.are_many();
         let made = make(rows);
         if are_many {
-            kept.let_go(&self.session.handle);
+            kept.let_go(handle);
         }
         made
     }

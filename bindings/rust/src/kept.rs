@@ -1,7 +1,9 @@
 //! Statements that the library keeps, and those of them that are found by their lines.
 
+use std::cell::RefCell;
 use std::collections::HashMap;
 use std::hash::{BuildHasherDefault, Hasher};
+use std::ops::{Deref, DerefMut};
 use std::sync::Arc;
 
 use crate::bound::Bound;
@@ -207,9 +209,15 @@ fn refusal_of(
 const MOST_LINES: usize = 256;
 
 /// The statements that are found by their lines. Where there are many, the one goes that wasn't used for longest.
+///
+/// A statement is taken out while it is used, since values, and functions that read rows, are the program's own, and may use
+/// the database too. So no statement is executed again while its rows are lent.
 #[derive(Default)]
-pub(crate) struct Lines {
-    kept: Vec<Slot>,
+pub(crate) struct Lines(RefCell<Slots>);
+
+#[derive(Default)]
+struct Slots {
+    slots: Vec<Slot>,
     /// Where the statement of a line is.
     places: HashMap<Arc<str>, usize, BuildHasherDefault<LineHasher>>,
     /// How many uses there were.
@@ -217,47 +225,118 @@ pub(crate) struct Lines {
 }
 
 struct Slot {
-    kept: Kept,
+    line: Arc<str>,
+    /// The statement, or none while it is used.
+    kept: Option<Box<Kept>>,
     /// Which use was its last.
     used: u64,
 }
 
+/// A statement that is used, and put back at the end. One whose place is another's by then is freed.
+pub(crate) struct InUse<'d> {
+    lines: &'d Lines,
+    handle: &'d Handle,
+    at: usize,
+    /// (there is one until the end)
+    kept: Option<Box<Kept>>,
+}
+
 impl Lines {
-    /// Where the statement of a line is, if it is kept.
-    pub(crate) fn find(&self, line: &str) -> Option<usize> {
-        self.places.get(line).copied()
+    /// The statement of a line, if it is kept, and isn't used already.
+    pub(crate) fn find<'d>(&'d self, handle: &'d Handle, line: &str) -> Option<InUse<'d>> {
+        let mut slots = self.0.borrow_mut();
+        let at = slots.places.get(line).copied()?;
+        slots.uses += 1;
+        let used = slots.uses;
+        let slot = &mut slots.slots[at];
+        slot.used = used;
+        let kept = slot.kept.take();
+        kept.is_some().then(|| InUse {
+            lines: self,
+            handle,
+            at,
+            kept,
+        })
     }
 
-    /// The statement that is there, which is used now.
-    pub(crate) fn use_of(&mut self, at: usize) -> &mut Kept {
-        let slot = &mut self.kept[at];
-        self.uses += 1;
-        slot.used = self.uses;
-        &mut slot.kept
-    }
-
-    /// Keeps the statement of a line, which isn't kept yet, and returns its place.
-    pub(crate) fn keep(&mut self, handle: &Handle, line: &str) -> Result<usize, Declined> {
+    /// Has a statement of a line prepared, which is kept where there is none of the line yet.
+    pub(crate) fn keep<'d>(&'d self, handle: &'d Handle, line: &str) -> Result<InUse<'d>, Declined> {
         let kept = Kept::prepare(handle, line)?;
-        let line = Arc::clone(&kept.written.line);
-        let slot = Slot { kept, used: self.uses };
-        let at = if self.kept.len() < MOST_LINES {
-            self.kept.push(slot);
-            self.kept.len() - 1
+        let at = self.0.borrow_mut().place_for(handle, &kept.written.line);
+        Ok(InUse {
+            lines: self,
+            handle,
+            at,
+            kept: Some(Box::new(kept)),
+        })
+    }
+}
+
+impl Slots {
+    /// A place for the statement of a line. There is none, and so a number past all places, where another statement of the line
+    /// has one.
+    fn place_for(&mut self, handle: &Handle, line: &Arc<str>) -> usize {
+        if self.places.contains_key(line) {
+            return usize::MAX;
+        }
+        self.uses += 1;
+        let slot = Slot {
+            line: Arc::clone(line),
+            kept: None,
+            used: self.uses,
+        };
+        let at = if self.slots.len() < MOST_LINES {
+            self.slots.push(slot);
+            self.slots.len() - 1
         } else {
             let at = self.longest_unused();
-            let mut gone = std::mem::replace(&mut self.kept[at], slot).kept;
-            gone.finalize(handle);
-            self.places.remove(&gone.written.line);
+            let gone = std::mem::replace(&mut self.slots[at], slot);
+            if let Some(mut kept) = gone.kept {
+                kept.finalize(handle);
+            }
+            self.places.remove(&gone.line);
             at
         };
-        self.places.insert(line, at);
-        Ok(at)
+        self.places.insert(Arc::clone(line), at);
+        at
     }
 
     fn longest_unused(&self) -> usize {
-        let uses = self.kept.iter().map(|slot| slot.used).enumerate();
+        let uses = self.slots.iter().map(|slot| slot.used).enumerate();
         uses.min_by_key(|(_, used)| *used).map_or(0, |(at, _)| at)
+    }
+}
+
+impl Deref for InUse<'_> {
+    type Target = Kept;
+
+    fn deref(&self) -> &Kept {
+        self.kept.as_ref().expect("it is put back at the end alone")
+    }
+}
+
+impl DerefMut for InUse<'_> {
+    fn deref_mut(&mut self) -> &mut Kept {
+        self.kept.as_mut().expect("it is put back at the end alone")
+    }
+}
+
+impl Drop for InUse<'_> {
+    fn drop(&mut self) {
+        let mut slots = self.lines.0.borrow_mut();
+        let mine = |slot: &&mut Slot| {
+            self.kept
+                .as_ref()
+                .map_or(false, |kept| Arc::ptr_eq(&slot.line, &kept.written.line))
+        };
+        match slots.slots.get_mut(self.at).filter(mine) {
+            Some(slot) => slot.kept = self.kept.take(),
+            None => {
+                if let Some(kept) = &mut self.kept {
+                    kept.finalize(self.handle);
+                }
+            }
+        }
     }
 }
 

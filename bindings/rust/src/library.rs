@@ -1,6 +1,6 @@
 //! The calls of the library, and a handle of it.
 
-use std::cell::UnsafeCell;
+use std::cell::{Cell as Changing, UnsafeCell};
 use std::ffi::c_void;
 use std::{mem, ptr, slice, str};
 
@@ -64,6 +64,7 @@ impl Found {
 
 /// The `mmdb_bytes` of mmdb.h: bytes that the library keeps for a handle until the next call on it.
 #[repr(C)]
+#[derive(Clone, Copy)]
 struct Told {
     at: *const u8,
     length: usize,
@@ -153,7 +154,7 @@ pub(crate) enum Declined {
 pub(crate) struct Handle {
     inside: UnsafeCell<Inside>,
     /// What the last call has told that answers bytes.
-    told: Told,
+    told: Changing<Told>,
 }
 
 // SAFETY: what the pointers lead to belongs to this handle alone, and is reached by no other. The library keeps nothing
@@ -170,7 +171,7 @@ impl Handle {
         match unsafe { mmdb_open(&mut inside, policy, rows, block) } {
             IS_DONE => Ok(Handle {
                 inside: UnsafeCell::new(inside),
-                told: Told::NOTHING,
+                told: Changing::new(Told::NOTHING),
             }),
             LIMIT_OUT_OF_RANGE => Err(Error::OutOfRange),
             NO_MEMORY => Err(Error::no_memory(String::new(), String::new())),
@@ -179,25 +180,32 @@ impl Handle {
     }
 
     /// Has a line answered.
-    pub(crate) fn command(&mut self, line: &[u8]) -> Result<(), Error> {
-        self.told = Told::NOTHING;
+    pub(crate) fn command(&self, line: &[u8]) -> Result<(), Error> {
+        let db = self.inside.get();
         // SAFETY: the pointer and the length are those of a slice, which isn't null; the handle is open.
-        answered(unsafe { mmdb_command(self.inside.get(), line.as_ptr(), line.len(), &mut self.told) })
+        self.answered(|told| unsafe { mmdb_command(db, line.as_ptr(), line.len(), told) })
     }
 
     /// Has a line with its block answered.
-    pub(crate) fn load(&mut self, line: &[u8], block: &[u8]) -> Result<(), Error> {
-        self.told = Told::NOTHING;
-        let (db, told) = (self.inside.get(), &mut self.told);
+    pub(crate) fn load(&self, line: &[u8], block: &[u8]) -> Result<(), Error> {
+        let db = self.inside.get();
         // SAFETY: as of `command`.
-        answered(unsafe { mmdb_load(db, line.as_ptr(), line.len(), block.as_ptr(), block.len(), told) })
+        self.answered(|told| unsafe { mmdb_load(db, line.as_ptr(), line.len(), block.as_ptr(), block.len(), told) })
     }
 
     /// Has it told how the indexes of a table stand.
-    pub(crate) fn indexes(&mut self, table: &[u8]) -> Result<(), Error> {
-        self.told = Told::NOTHING;
+    pub(crate) fn indexes(&self, table: &[u8]) -> Result<(), Error> {
+        let db = self.inside.get();
         // SAFETY: as of `command`.
-        answered(unsafe { mmdb_indexes(self.inside.get(), table.as_ptr(), table.len(), &mut self.told) })
+        self.answered(|told| unsafe { mmdb_indexes(db, table.as_ptr(), table.len(), told) })
+    }
+
+    /// Makes a call that answers bytes, and keeps where these are.
+    fn answered(&self, call: impl FnOnce(&mut Told) -> u32) -> Result<(), Error> {
+        let mut told = Told::NOTHING;
+        let status = call(&mut told);
+        self.told.set(told);
+        answered(status)
     }
 
     /// Why the line was refused that was just answered, with its block. There is none of another answer, and none where
@@ -210,14 +218,23 @@ impl Handle {
     }
 
     /// What the last call has told.
-    pub(crate) fn answer(&self) -> &[u8] {
+    pub(crate) fn answer(&mut self) -> &[u8] {
         // SAFETY: the library keeps these bytes for the handle until the next call on it. Who reads them has the handle as
         // `&mut`, and so nobody calls it.
-        unsafe { self.told.bytes() }
+        unsafe { self.told.get().bytes() }
+    }
+
+    /// What a function of this crate makes of that. It must make no call on the handle but `reason`, and keep nothing of the
+    /// bytes, which its type sees to.
+    pub(crate) fn with_answer<T>(&self, read: impl FnOnce(&[u8]) -> T) -> T {
+        // SAFETY: the bytes are good until the next call but those that tell a reason, and no other is made while they are
+        // read: the handle isn't `Sync`, and the functions are those of `session.rs` and `database.rs`.
+        read(unsafe { self.told.get().bytes() })
     }
 }
 
-/// The calls on statements. Each takes the handle as `&`, since rows are good whatever is done by other statements.
+/// The calls on statements. Each takes the handle as `&`, as all others do, since rows are good whatever is done by other
+/// statements, and by lines.
 impl Handle {
     /// Has a line kept as a statement.
     pub(crate) fn prepare(&self, line: &[u8]) -> Result<Prepared, Declined> {

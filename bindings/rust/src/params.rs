@@ -24,7 +24,7 @@ pub type Take<'t> = dyn FnMut(&dyn ToValue) -> Result<(), Error> + 't;
 ///     }
 /// }
 ///
-/// let mut db = mmdb::Database::open_in_memory()?;
+/// let db = mmdb::Database::open_in_memory()?;
 /// db.execute("table person (id int, name text)", [])?;
 /// let people = [Person { id: 1, name: "Ann".to_string() }];
 /// assert_eq!(db.load("person", &people)?, 1);
@@ -70,7 +70,7 @@ pub struct ParamsFromIter<I>(I);
 /// The values of an iterator as the parameters of a line.
 ///
 /// ```
-/// let mut db = mmdb::Database::open_in_memory()?;
+/// let db = mmdb::Database::open_in_memory()?;
 /// db.execute("table t (a int, b int)", [])?;
 /// assert_eq!(db.execute("insert t (?, ?)", mmdb::params_from_iter(1..3))?, 1);
 /// # Ok::<(), mmdb::Error>(())

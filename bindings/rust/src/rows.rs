@@ -6,7 +6,7 @@ use std::sync::Arc;
 
 use crate::cells::{Cells, OwnCells};
 use crate::error::{Error, Result};
-use crate::row::Row;
+use crate::row::{ColumnIndex, Row};
 use crate::value::Value;
 
 /// The rows of a select or a dump, with the names of their columns.
@@ -14,7 +14,7 @@ use crate::value::Value;
 /// They are owned: the database can be used while they are read.
 ///
 /// ```
-/// let mut db = mmdb::Database::open_in_memory()?;
+/// let db = mmdb::Database::open_in_memory()?;
 /// db.execute("table t (id int, s text)", [])?;
 /// db.load("t", [(1, "a"), (2, "b")])?;
 ///
@@ -31,12 +31,39 @@ pub struct Rows {
     names: Arc<Vec<String>>,
     /// Row by row, and in each by the order of the columns.
     cells: OwnCells,
+    /// How many rows [`next`](Rows::next) has given.
+    given: usize,
 }
 
 impl Rows {
     /// The columns' names, in order: each as `table.column` in a select, and as `column` in a dump.
     pub fn column_names(&self) -> &[String] {
         &self.names
+    }
+
+    /// The number of a column, counted from 0, by its name as for [`Row::get`].
+    pub fn column_index<I: ColumnIndex>(&self, column: I) -> Result<usize> {
+        column.place_in(&self.names)
+    }
+
+    /// The next row, or none behind the last. It never fails, and gives a `Result` as that of rusqlite does.
+    ///
+    /// ```
+    /// # let db = mmdb::Database::open_in_memory()?;
+    /// # db.execute("table t (id int)", [])?;
+    /// # db.load("t", [[1], [2]])?;
+    /// let (mut rows, mut sum) = (db.query("select * from t", [])?, 0);
+    /// while let Some(row) = rows.next()? {
+    ///     sum += row.get::<_, i64>("id")?;
+    /// }
+    /// assert_eq!(sum, 3);
+    /// # Ok::<(), mmdb::Error>(())
+    /// ```
+    #[allow(clippy::should_implement_trait)]
+    pub fn next(&mut self) -> Result<Option<Row<'_>>> {
+        let at = self.given;
+        self.given = self.len().min(at + 1);
+        Ok(self.get(at))
     }
 
     /// How many rows there are.
@@ -82,11 +109,27 @@ impl Rows {
 pub struct RowsRef<'r> {
     names: &'r Arc<Vec<String>>,
     cells: Cells<'r>,
+    /// How many rows [`next`](RowsRef::next) has given.
+    given: usize,
 }
 
 impl<'r> RowsRef<'r> {
     pub(crate) fn new(names: &'r Arc<Vec<String>>, cells: Cells<'r>) -> RowsRef<'r> {
-        RowsRef { names, cells }
+        let given = 0;
+        RowsRef { names, cells, given }
+    }
+
+    /// The number of a column, counted from 0, by its name as for [`Row::get`].
+    pub fn column_index<I: ColumnIndex>(&self, column: I) -> Result<usize> {
+        column.place_in(self.names)
+    }
+
+    /// The next row, or none behind the last. It never fails, and gives a `Result` as that of rusqlite does.
+    #[allow(clippy::should_implement_trait)]
+    pub fn next(&mut self) -> Result<Option<Row<'r>>> {
+        let at = self.given;
+        self.given = self.len().min(at + 1);
+        Ok(self.get(at))
     }
 
     /// The columns' names, in order, each as `table.column`.
@@ -132,6 +175,7 @@ impl<'r> RowsRef<'r> {
         Rows {
             names: Arc::clone(self.names),
             cells: self.cells.to_own(),
+            given: 0,
         }
     }
 
@@ -261,10 +305,10 @@ impl<F> fmt::Debug for MappedRows<F> {
     }
 }
 
-impl<T, F: FnMut(&Row<'_>) -> Result<T>> Iterator for MappedRows<F> {
-    type Item = Result<T>;
+impl<T, E, F: FnMut(&Row<'_>) -> Result<T, E>> Iterator for MappedRows<F> {
+    type Item = Result<T, E>;
 
-    fn next(&mut self) -> Option<Result<T>> {
+    fn next(&mut self) -> Option<Result<T, E>> {
         let row = self.rows.get(self.next)?;
         self.next += 1;
         Some((self.map)(&row))
@@ -276,7 +320,7 @@ impl<T, F: FnMut(&Row<'_>) -> Result<T>> Iterator for MappedRows<F> {
     }
 }
 
-impl<T, F: FnMut(&Row<'_>) -> Result<T>> ExactSizeIterator for MappedRows<F> {}
+impl<T, E, F: FnMut(&Row<'_>) -> Result<T, E>> ExactSizeIterator for MappedRows<F> {}
 
 /// What [`Statement::query_map`](crate::Statement::query_map) returns: what the function makes of each row.
 #[derive(Clone)]
@@ -298,10 +342,10 @@ impl<F> fmt::Debug for MappedRowsRef<'_, F> {
     }
 }
 
-impl<T, F: FnMut(&Row<'_>) -> Result<T>> Iterator for MappedRowsRef<'_, F> {
-    type Item = Result<T>;
+impl<T, E, F: FnMut(&Row<'_>) -> Result<T, E>> Iterator for MappedRowsRef<'_, F> {
+    type Item = Result<T, E>;
 
-    fn next(&mut self) -> Option<Result<T>> {
+    fn next(&mut self) -> Option<Result<T, E>> {
         self.rows.next().map(|row| (self.map)(&row))
     }
 
@@ -310,4 +354,4 @@ impl<T, F: FnMut(&Row<'_>) -> Result<T>> Iterator for MappedRowsRef<'_, F> {
     }
 }
 
-impl<T, F: FnMut(&Row<'_>) -> Result<T>> ExactSizeIterator for MappedRowsRef<'_, F> {}
+impl<T, E, F: FnMut(&Row<'_>) -> Result<T, E>> ExactSizeIterator for MappedRowsRef<'_, F> {}

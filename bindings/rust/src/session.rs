@@ -1,5 +1,7 @@
 //! Lines with parameters, and what the library answers to them.
 
+use std::cell::RefCell;
+
 use crate::bound::Bound;
 use crate::error::{Error, Result};
 use crate::library::Handle;
@@ -9,6 +11,12 @@ use crate::params::Params;
 /// A handle, and the room in which lines are made for it.
 pub(crate) struct Session {
     pub(crate) handle: Handle,
+    room: RefCell<Room>,
+}
+
+/// Room that is used again. It is taken out while it is used, since values of a program's own may use the database too.
+#[derive(Default)]
+struct Room {
     line: String,
     places: Vec<Place>,
     bound: Bound,
@@ -18,56 +26,62 @@ impl Session {
     pub(crate) fn over(handle: Handle) -> Session {
         Session {
             handle,
-            line: String::new(),
-            places: Vec::new(),
-            bound: Bound::default(),
+            room: RefCell::default(),
         }
     }
 
-    /// The answer to a line with parameters, if it is no refusal. It is lent until the next call.
-    pub(crate) fn ask<P: Params>(&mut self, line: &str, params: P) -> Result<&str> {
-        find_places(line, &mut self.places);
-        bind(line, &self.places, params, &mut self.bound)?;
-        if self.bound.has_line_feed() {
+    /// What a function makes of the answer to a line with parameters, where it is no refusal.
+    pub(crate) fn ask<P: Params, T>(&self, line: &str, params: P, read: impl FnOnce(&str) -> T) -> Result<T> {
+        let mut room = self.room.take();
+        let answered = self.ask_in(&mut room, line, params, read);
+        self.room.replace(room);
+        answered
+    }
+
+    fn ask_in<P, T>(&self, room: &mut Room, line: &str, params: P, read: impl FnOnce(&str) -> T) -> Result<T>
+    where
+        P: Params,
+    {
+        find_places(line, &mut room.places);
+        bind(line, &room.places, params, &mut room.bound)?;
+        if room.bound.has_line_feed() {
             return Err(Error::LineFeed);
         }
-        fill(line, &self.places, self.bound.iter(), &mut self.line);
-        self.handle.command(self.line.as_bytes())?;
-        accepted(&mut self.handle, &self.line, &[])
+        fill(line, &room.places, room.bound.iter(), &mut room.line);
+        self.handle.command(room.line.as_bytes())?;
+        self.accepted(&room.line, &room.line, &[], read)
     }
 
-    /// The answer to a line with its block, if it is no refusal. It has no places for parameters.
-    pub(crate) fn send(&mut self, line: &str, block: &[u8]) -> Result<&str> {
+    /// What a function makes of the answer to a line with its block, where it is no refusal. It has no places for parameters.
+    pub(crate) fn send<T>(&self, line: &str, block: &[u8], read: impl FnOnce(&str) -> T) -> Result<T> {
         self.handle.load(line.as_bytes(), block)?;
-        accepted(&mut self.handle, line, block)
+        self.accepted(line, line, block, read)
     }
 
-    /// The state of the indexes of a table, if it exists.
-    pub(crate) fn indexes(&mut self, table: &str) -> Result<&str> {
+    /// What a function makes of what is told of the indexes of a table, where it is there.
+    pub(crate) fn indexes<T>(&self, table: &str, read: impl FnOnce(&str) -> T) -> Result<T> {
         self.handle.indexes(table.as_bytes())?;
         // A dump is refused for the same reason.
         let dump = format!("dump {table}");
-        accepted_of(&mut self.handle, table, &dump, &[])
+        self.accepted(table, &dump, &[], read)
     }
 
     pub(crate) fn handle(&mut self) -> &mut Handle {
         &mut self.handle
     }
-}
 
-/// The answer just given to a line with its block, if it is no refusal.
-fn accepted<'a>(handle: &'a mut Handle, line: &str, block: &[u8]) -> Result<&'a str> {
-    accepted_of(handle, line, line, block)
-}
-
-/// The same, where the reason is that of a line of its own.
-fn accepted_of<'a>(handle: &'a mut Handle, line: &str, asked: &str, block: &[u8]) -> Result<&'a str> {
-    if handle.answer().starts_with(ERROR.as_bytes()) {
-        let answer = String::from_utf8_lossy(handle.answer()).into_owned();
-        let reason = handle.reason(asked.as_bytes(), block);
-        return Err(refused(&answer, line.to_string(), line.to_string(), reason));
+    /// What a function makes of the answer just given to a line, where it is no refusal. The reason of one is that of another
+    /// line, with its block.
+    fn accepted<T>(&self, line: &str, asked: &str, block: &[u8], read: impl FnOnce(&str) -> T) -> Result<T> {
+        self.handle.with_answer(|answer| {
+            if answer.starts_with(ERROR.as_bytes()) {
+                let answer = String::from_utf8_lossy(answer).into_owned();
+                let reason = self.handle.reason(asked.as_bytes(), block);
+                return Err(refused(&answer, line.to_string(), line.to_string(), reason));
+            }
+            Ok(read(std::str::from_utf8(answer).expect("an answer is UTF-8")))
+        })
     }
-    Ok(std::str::from_utf8(handle.answer()).expect("an answer is UTF-8"))
 }
 
 /// What the answer begins with that is a refusal.

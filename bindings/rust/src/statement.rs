@@ -3,21 +3,21 @@
 use std::fmt;
 
 use crate::database::Database;
-use crate::error::Result;
+use crate::error::{Error, Result};
 use crate::kept::Kept;
 use crate::params::Params;
-use crate::row::Row;
+use crate::row::{ColumnIndex, Row};
 use crate::rows::{MappedRowsRef, RowsRef};
 
 /// An insert, an update, a delete or a select that was prepared, and is executed with other values each time.
 ///
-/// It borrows its database, and is freed when it is dropped. Any number may exist at once; the calls of the database
-/// itself wait until all are gone.
+/// It borrows its database, and is freed where it is dropped. As many may be there at once as are wanted, and the calls of
+/// the database are made beside them.
 ///
 /// ```
 /// use mmdb::Database;
 ///
-/// let mut db = Database::open_in_memory()?;
+/// let db = Database::open_in_memory()?;
 /// db.execute("table t (id int, s text)", [])?;
 /// {
 ///     let mut insert = db.prepare("insert t (?, ?)")?;
@@ -34,7 +34,7 @@ use crate::rows::{MappedRowsRef, RowsRef};
 /// Rows can't be read once their statement is executed again:
 ///
 /// ```compile_fail,E0499
-/// # let mut db = mmdb::Database::open_in_memory()?;
+/// # let db = mmdb::Database::open_in_memory()?;
 /// # db.execute("table t (id int)", [])?;
 /// let mut all = db.prepare("select * from t where id > ?")?;
 /// let rows = all.query([1])?;
@@ -46,7 +46,7 @@ use crate::rows::{MappedRowsRef, RowsRef};
 /// Nor can a statement be used once it was dropped, or dropped twice:
 ///
 /// ```compile_fail,E0382
-/// # let mut db = mmdb::Database::open_in_memory()?;
+/// # let db = mmdb::Database::open_in_memory()?;
 /// # db.execute("table t (id int)", [])?;
 /// let all = db.prepare("select * from t")?;
 /// drop(all);
@@ -54,14 +54,39 @@ use crate::rows::{MappedRowsRef, RowsRef};
 /// # Ok::<(), mmdb::Error>(())
 /// ```
 ///
-/// And no table can be declared while there are statements:
+/// What a statement means is asked of the tables as they are when it is executed. Rows that it lent stay what they are:
 ///
-/// ```compile_fail,E0502
-/// # let mut db = mmdb::Database::open_in_memory()?;
+/// ```
+/// # let db = mmdb::Database::open_in_memory()?;
+/// # db.execute("table t (id int)", [])?;
+/// # db.execute("insert t (7)", [])?;
+/// let mut all = db.prepare("select * from t")?;
+/// let rows = all.query([])?;
+/// db.execute("drop table t", [])?;
+/// assert_eq!(rows.get(0).expect("a row").get(0), Ok(7));
+/// assert_eq!(all.query([]).unwrap_err().number(), Some(30));
+/// # Ok::<(), mmdb::Error>(())
+/// ```
+///
+/// A database isn't closed while there are statements:
+///
+/// ```compile_fail,E0505
+/// # let db = mmdb::Database::open_in_memory()?;
 /// # db.execute("table t (id int)", [])?;
 /// let mut all = db.prepare("select * from t")?;
-/// db.execute("drop table t", [])?;
+/// drop(db);
 /// all.query([])?;
+/// # Ok::<(), mmdb::Error>(())
+/// ```
+///
+/// And it is of one thread at a time:
+///
+/// ```compile_fail,E0277
+/// # let db = mmdb::Database::open_in_memory()?;
+/// let lent = &db;
+/// std::thread::scope(|threads| {
+///     threads.spawn(move || lent.execute("table t (id int)", []));
+/// });
 /// # Ok::<(), mmdb::Error>(())
 /// ```
 pub struct Statement<'db> {
@@ -84,7 +109,7 @@ impl<'db> Statement<'db> {
     /// [`Error::NotASelect`](crate::Error::NotASelect) says that it is none.
     ///
     /// ```
-    /// # let mut db = mmdb::Database::open_in_memory()?;
+    /// # let db = mmdb::Database::open_in_memory()?;
     /// # db.execute("table t (id int, s text)", [])?;
     /// # db.load("t", [(1, "a"), (2, "b")])?;
     /// let mut all = db.prepare("select * from t where id > ?")?;
@@ -109,7 +134,17 @@ impl<'db> Statement<'db> {
         Ok(MappedRowsRef::new(self.query(params)?, map))
     }
 
-    /// What a function makes of the first row of the select. Later ones are skipped.
+    /// The same, by a function with errors of the program's own.
+    pub fn query_and_then<T, E, P, F>(&mut self, params: P, map: F) -> Result<MappedRowsRef<'_, F>>
+    where
+        P: Params,
+        E: From<Error>,
+        F: FnMut(&Row<'_>) -> Result<T, E>,
+    {
+        Ok(MappedRowsRef::new(self.query(params)?, map))
+    }
+
+    /// What a function makes of the first row of the select. Those behind it are passed over.
     /// [`Error::NoRows`](crate::Error::NoRows) says that there is none.
     pub fn query_row<T, P, F>(&mut self, params: P, read: F) -> Result<T>
     where
@@ -119,7 +154,25 @@ impl<'db> Statement<'db> {
         self.query(params)?.first(read)
     }
 
-    /// The names of the columns of the select, each as `table.column`. A change has none.
+    /// The number of a column of its rows, counted from 0, by its name as for [`Row::get`]. A program that reads many rows
+    /// asks for it once.
+    ///
+    /// ```
+    /// # let db = mmdb::Database::open_in_memory()?;
+    /// # db.execute("table t (id int, s text)", [])?;
+    /// # db.load("t", [(1, "a"), (2, "b")])?;
+    /// let mut all = db.prepare("select * from t where id > ?")?;
+    /// let text = all.column_index("s")?;
+    /// for row in all.query([0])? {
+    ///     assert_eq!(row.get::<_, &str>(text)?.len(), 1);
+    /// }
+    /// # Ok::<(), mmdb::Error>(())
+    /// ```
+    pub fn column_index<I: ColumnIndex>(&mut self, column: I) -> Result<usize> {
+        column.place_in(self.column_names()?)
+    }
+
+    /// The names of the columns that the rows of the select have, each as `table.column`. There are none of a change.
     pub fn column_names(&mut self) -> Result<&[String]> {
         self.kept.names(self.db.handle(), self.db.declared())
     }

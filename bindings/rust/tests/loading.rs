@@ -8,7 +8,7 @@ use mmdb::{params, Database, Error, Outcome, Take, Value, Values};
 
 #[test]
 fn a_load_takes_values_of_the_columns_types() {
-    let mut db = with_table();
+    let db = with_table();
     let wrong = |row: usize, column: &str| {
         let column = column.to_string();
         Err(Error::WrongType { row, column })
@@ -20,14 +20,14 @@ fn a_load_takes_values_of_the_columns_types() {
     assert!(db.dump("t").unwrap().is_empty());
     assert_eq!(db.load("t", [(i64::MIN, ""), (i64::MAX, "")]), Ok(2));
     assert_eq!(
-        selected(&mut db, "select id from t", []),
+        selected(&db, "select id from t", []),
         [[i64::MIN.into()], [i64::MAX.into()]]
     );
 }
 
 #[test]
 fn a_load_takes_as_many_values_as_columns() {
-    let mut db = with_table();
+    let db = with_table();
     let length = |row: usize, values: usize| {
         let columns = 2;
         Err(Error::RowLength { row, values, columns })
@@ -55,7 +55,7 @@ impl Values for Person {
 #[test]
 #[allow(clippy::needless_borrows_for_generic_args)]
 fn rows_are_given_in_any_way() {
-    let mut db = with_table();
+    let db = with_table();
     let name = "a".to_string();
     assert_eq!(db.load("t", &[(1, "a"), (2, "a")]), Ok(2));
     assert_eq!(db.load("t", vec![(3, &name)]), Ok(1));
@@ -69,14 +69,14 @@ fn rows_are_given_in_any_way() {
     };
     assert_eq!(db.execute("insert t (?, ?)", &person), Ok(1));
     let rows: Vec<Vec<Value>> = (1..11).map(|id| row(id, "a")).collect();
-    assert_eq!(selected(&mut db, "select * from t", []), rows);
+    assert_eq!(selected(&db, "select * from t", []), rows);
     assert_eq!(db.load_csv("t", "id,s\n11,a\n12,\"b,c\""), Ok(2));
-    assert_eq!(selected(&mut db, "select * from t where id > 11", []), [row(12, "b,c")]);
+    assert_eq!(selected(&db, "select * from t where id > 11", []), [row(12, "b,c")]);
 }
 
 #[test]
 fn texts_that_look_like_others() {
-    let mut db = with_table();
+    let db = with_table();
     db.execute("drop table t", []).unwrap();
     db.execute("table t (s text)", []).unwrap();
     let mut texts = [
@@ -96,12 +96,12 @@ fn texts_that_look_like_others() {
     texts.sort_unstable();
     let rows: Vec<Vec<Value>> = texts.iter().map(|text| vec![Value::from(*text)]).collect();
     assert_eq!(db.load("t", &rows), Ok(rows.len()));
-    assert_eq!(selected(&mut db, "select * from t", []), rows);
+    assert_eq!(selected(&db, "select * from t", []), rows);
     assert_eq!(db.dump("t").unwrap().to_vec(), rows);
 }
 
 /// Fills a table with references, and gives its rows.
-fn fill(db: &mut Database, draw: &mut Draw, keys: &[&str]) -> Vec<Vec<Value>> {
+fn fill(db: &Database, draw: &mut Draw, keys: &[&str]) -> Vec<Vec<Value>> {
     db.execute("table u (k text)", []).unwrap();
     db.execute("table v (k int)", []).unwrap();
     db.execute("table e (id int, s text, u ref u null, v ref v null, w ref u)", [])
@@ -125,12 +125,12 @@ fn fill(db: &mut Database, draw: &mut Draw, keys: &[&str]) -> Vec<Vec<Value>> {
 
 #[test]
 fn nulls_integers_and_texts() {
-    let (mut db, mut draw) = (with_table(), Draw(1980));
-    let rows = fill(&mut db, &mut draw, &["a", "0", "null", "x,y", "\"", "'"]);
-    assert_eq!(selected(&mut db, "select * from e", []), rows);
+    let (db, mut draw) = (with_table(), Draw(1980));
+    let rows = fill(&db, &mut draw, &["a", "0", "null", "x,y", "\"", "'"]);
+    assert_eq!(selected(&db, "select * from e", []), rows);
     for (place, name) in ["id", "s", "u", "v", "w"].into_iter().enumerate() {
         let column: Vec<Vec<Value>> = rows.iter().map(|row| vec![row[place].clone()]).collect();
-        assert_eq!(selected(&mut db, &format!("select {name} from e"), []), column);
+        assert_eq!(selected(&db, &format!("select {name} from e"), []), column);
     }
     assert_eq!(db.dump("e").unwrap().to_vec(), rows);
     let null = db.query_row("select u from e where u = null", [], |row| {
@@ -139,15 +139,15 @@ fn nulls_integers_and_texts() {
     assert_eq!(null, Ok(None));
     db.execute("delete e", []).unwrap();
     assert_eq!(db.load("e", &rows), Ok(60));
-    assert_eq!(selected(&mut db, "select * from e", []), rows);
+    assert_eq!(selected(&db, "select * from e", []), rows);
 }
 
 #[test]
 fn null_and_the_empty_text_are_told_apart() {
-    let (mut db, mut draw) = (with_table(), Draw(1986));
-    let rows = fill(&mut db, &mut draw, &["", "a"]);
+    let (db, mut draw) = (with_table(), Draw(1986));
+    let rows = fill(&db, &mut draw, &["", "a"]);
     assert_eq!(db.dump("e").unwrap().to_vec(), rows);
-    assert_eq!(selected(&mut db, "select * from e", []), rows);
+    assert_eq!(selected(&db, "select * from e", []), rows);
     let one = db.query_row("select * from e where u = ''", [], |row| row.get::<_, String>("u"));
     assert_eq!(one, Ok(String::new()));
     let null = db.query_row("select * from e where u = null", [], |row| {
@@ -156,7 +156,7 @@ fn null_and_the_empty_text_are_told_apart() {
     assert_eq!(null, Ok(None));
     for value in [Value::Null, "".into()] {
         let sign = if value.is_null() { "null" } else { "''" };
-        let found = selected(&mut db, &format!("select id, w from e where u = {sign}"), []);
+        let found = selected(&db, &format!("select id, w from e where u = {sign}"), []);
         let wanted = rows
             .iter()
             .filter(|row| row[2] == value)
@@ -187,7 +187,7 @@ fn columns_are_known_anew_after_each_declaration() {
         for (kind, value) in [("int", Value::from(1)), ("text", "1".into()), ("int", 1.into())] {
             way(&mut db, &format!("table x (id int, v {kind})"));
             assert_eq!(db.load("x", [(1, &value)]), Ok(1));
-            assert_eq!(selected(&mut db, "select v from x", []), [[value]]);
+            assert_eq!(selected(&db, "select v from x", []), [[value]]);
             way(&mut db, "drop table x");
         }
     }

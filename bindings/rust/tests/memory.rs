@@ -36,7 +36,7 @@ fn taken_by(mut what: impl FnMut()) -> usize {
 }
 
 fn filled() -> Database {
-    let mut db = Database::open_in_memory().unwrap();
+    let db = Database::open_in_memory().unwrap();
     db.execute("table t (id int, s text)", []).unwrap();
     db.load("t", (0..100).map(|id| (id, "a text"))).unwrap();
     db
@@ -44,7 +44,7 @@ fn filled() -> Database {
 
 #[test]
 fn a_kept_line_takes_none() {
-    let mut db = filled();
+    let db = filled();
     let line = "select id, s from t where id = ?";
     let is_it = |row: &Row<'_>| Ok(row.get::<_, &str>("s")? == "a text");
     assert_eq!(taken_by(|| assert_eq!(db.query_row(line, [7], is_it), Ok(true))), 0);
@@ -76,7 +76,7 @@ fn a_statement_takes_none() {
 
 #[test]
 fn rows_of_ones_own_take_two() {
-    let mut db = filled();
+    let db = filled();
     let taken = taken_by(|| assert_eq!(db.query("select * from t where id >= ?", [0]).unwrap().len(), 100));
     assert_eq!(taken, 200);
 }

@@ -7,7 +7,7 @@ use mmdb::{named_params, params, params_from_iter, Database, Error, Limits, Poli
 
 #[test]
 fn limits() {
-    let mut db = Database::open(Policy::Tree, Limits { rows: 2, block: 6 }).unwrap();
+    let db = Database::open(Policy::Tree, Limits { rows: 2, block: 6 }).unwrap();
     db.execute("table t (id int)", []).unwrap();
     assert_eq!(db.load("t", [[1]]), Ok(1));
     assert_eq!(db.execute("insert t (2)", []), Ok(1));
@@ -23,9 +23,9 @@ fn limits() {
 
 #[test]
 fn a_database_goes_to_another_thread() {
-    let mut db = with_table();
+    let db = with_table();
     db.execute("insert t (1, 'a')", []).unwrap();
-    let (mut db, rows) = std::thread::spawn(move || {
+    let (db, rows) = std::thread::spawn(move || {
         db.execute("insert t (2, 'b')", []).unwrap();
         let rows = db.query("select * from t", []).unwrap();
         (db, rows)
@@ -56,7 +56,7 @@ fn lines_are_one_request() {
 
 #[test]
 fn all_can_be_shown() {
-    let mut db = with_rows();
+    let db = with_rows();
     let rows = db.query("select * from t where id = 1", []).unwrap();
     let shown = r#"{"t.id": Integer(1), "t.s": Text("a")}"#;
     assert_eq!(format!("{:?}", rows.get(0).unwrap()), shown);
@@ -72,7 +72,7 @@ fn all_can_be_shown() {
 #[test]
 #[allow(clippy::needless_borrows_for_generic_args)]
 fn no_parameters() {
-    let mut db = with_rows();
+    let db = with_rows();
     let line = "delete t where id = 3";
     assert_eq!(db.execute(line, []), Ok(0));
     assert_eq!(db.execute(line, &[]), Ok(0));

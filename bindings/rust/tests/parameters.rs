@@ -12,15 +12,15 @@ use mmdb::{named_params, params, params_from_iter, Database, Error, Outcome, ToV
 
 #[test]
 fn random_texts_stay_in_their_places() {
-    let (mut db, mut draw, mut rows) = (with_table(), Draw(20_260_901), Vec::new());
+    let (db, mut draw, mut rows) = (with_table(), Draw(20_260_901), Vec::new());
     for id in 0..2_000 {
         let text = draw.text();
         assert_eq!(db.execute("insert t (?,?)", (id, &text)), Ok(1), "{text:?}");
         let line = "select * from t where id = ?and s = ? and s <> '?'";
-        let found = selected(&mut db, line, params![id, text]);
+        let found = selected(&db, line, params![id, text]);
         let line = "select * from t where id = :id and s = :s and s <> ':s'";
         assert_eq!(
-            selected(&mut db, line, named_params! { ":s": text, ":id": id }).len(),
+            selected(&db, line, named_params! { ":s": text, ":id": id }).len(),
             usize::from(text != ":s")
         );
         assert_eq!(found.len(), usize::from(text != "?"), "{text:?}");
@@ -34,35 +34,35 @@ fn random_texts_stay_in_their_places() {
 
 #[test]
 fn a_text_with_a_line_feed_is_a_value_too() {
-    let mut db = with_table();
+    let db = with_table();
     let texts = ["\n", "a\n", "'\ndelete t\n", "\r\n"];
     for (id, text) in (0..).zip(texts) {
         assert_eq!(db.execute("insert t (?, ?)", (id, text)), Ok(1), "{text:?}");
     }
     for (id, text) in (0..).zip(texts) {
-        let found = selected(&mut db, "select id from t where s = ?", [text]);
+        let found = selected(&db, "select id from t where s = ?", [text]);
         assert_eq!(found, [[Value::from(id)]], "{text:?}");
         let named = named_params! { ":s": text, ":id": id };
         let line = "update t set s = :s where id = :id and s = :s";
         assert_eq!(db.execute(line, named), Ok(1), "{text:?}");
     }
     assert_eq!(db.execute("delete t where s <> ?", ["\n"]), Ok(3));
-    assert_eq!(selected(&mut db, "select s from t", []), [["\n".into()]]);
+    assert_eq!(selected(&db, "select s from t", []), [["\n".into()]]);
 }
 
 #[test]
 fn a_text_with_a_line_feed_stands_in_no_line() {
-    let mut db = with_table();
+    let db = with_table();
     for line in ["drop table ?", "dump ?", "load ? 3", "index t ? hash"] {
         assert_eq!(db.command(line, ["t\n"]), Err(Error::LineFeed), "{line}");
     }
     assert_eq!(db.load("t", [(2, "'\r\n\n")]), Ok(1));
-    assert_eq!(selected(&mut db, "select s from t", []), [["'\r\n\n".into()]]);
+    assert_eq!(selected(&db, "select s from t", []), [["'\r\n\n".into()]]);
 }
 
 #[test]
 fn a_refusal_of_a_text_with_a_line_feed_has_its_line() {
-    let mut db = with_rows();
+    let db = with_rows();
     let refused = db.execute("insert t (?, ?)", (1, "two\nlines")).unwrap_err();
     assert_eq!(refused.number(), Some(41));
     assert_eq!(refused.line(), Some("insert t (1, 'two\nlines')"));
@@ -71,7 +71,7 @@ fn a_refusal_of_a_text_with_a_line_feed_has_its_line() {
 
 #[test]
 fn a_parameter_runs_into_nothing_beside_it() {
-    let mut db = with_table();
+    let db = with_table();
     let (one, two): (Value, Value) = (1.into(), 2.into());
     let (text, other): (Value, Value) = ("a".into(), "b".into());
     for (line, given) in [
@@ -98,7 +98,7 @@ fn a_parameter_runs_into_nothing_beside_it() {
 
 #[test]
 fn places_are_as_many_as_parameters() {
-    let mut db = with_table();
+    let db = with_table();
     for (line, places, parameters) in [
         ("insert t (?, 'a')", 1, 0),
         ("insert t (1, 'a')", 0, 1),
@@ -118,22 +118,22 @@ fn places_are_as_many_as_parameters() {
         );
     }
     assert_eq!(db.execute("insert t (?, 'it''s ?')", [1]), Ok(1));
-    assert_eq!(selected(&mut db, "select s from t", []), [["it's ?".into()]]);
+    assert_eq!(selected(&db, "select s from t", []), [["it's ?".into()]]);
 }
 
 #[test]
 fn names_are_those_of_the_line() {
-    let mut db = with_rows();
+    let db = with_rows();
     let missing = |name: &str| Err(Error::MissingParameter { name: name.to_string() });
     let unknown = |name: &str| Err(Error::UnknownParameter { name: name.to_string() });
     let given = named_params! { ":id": 3, ":s": ":id" };
     assert_eq!(db.execute("insert t (:id, :s)", given), Ok(1));
     assert_eq!(
-        selected(&mut db, "select * from t where id=:id and s=:s and id<>4", given),
+        selected(&db, "select * from t where id=:id and s=:s and id<>4", given),
         [row(3, ":id")]
     );
     let twice = "select id from t where id >= :id and id <= :id";
-    assert_eq!(selected(&mut db, twice, named_params! { ":id": 2 }), [[2.into()]]);
+    assert_eq!(selected(&db, twice, named_params! { ":id": 2 }), [[2.into()]]);
     assert_eq!(db.execute("insert t (:id, :t)", given), unknown(":s"));
     assert_eq!(db.execute("insert t (:id, ':s')", given), unknown(":s"));
     assert_eq!(db.execute("# :id :s", given), unknown(":id"));
@@ -161,12 +161,12 @@ fn names_are_those_of_the_line() {
 
 /// What is inserted as a number and a text in a reference that takes nulls.
 fn inserted(number: impl ToValue, text: impl ToValue) -> Vec<Value> {
-    let mut db: Database = open();
+    let db: Database = open();
     db.execute("table k (s text)", []).unwrap();
     db.execute("table t (n int, s ref k null)", []).unwrap();
     db.load("k", [["a"], ["b"]]).unwrap();
     assert_eq!(db.execute("insert t (?, ?)", (number, text)), Ok(1));
-    selected(&mut db, "select * from t", []).concat()
+    selected(&db, "select * from t", []).concat()
 }
 
 #[test]
@@ -200,7 +200,7 @@ fn what_is_a_value() {
 
 #[test]
 fn integers_past_those_of_a_column() {
-    let mut db = with_rows();
+    let db = with_rows();
     let past = |digits: &str| Error::IntegerOutOfRange {
         integer: digits.to_string(),
     };
@@ -228,7 +228,7 @@ fn integers_past_those_of_a_column() {
 #[test]
 #[allow(clippy::needless_borrows_for_generic_args)]
 fn how_values_are_given() {
-    let mut db = with_table();
+    let db = with_table();
     let line = "insert t (?, ?)";
     let text = "it's".to_string();
     assert_eq!(db.execute(line, (1, "a")), Ok(1));
@@ -244,12 +244,12 @@ fn how_values_are_given() {
     let names = vec![(":n", Value::from(11)), (":s", "a".into())];
     assert_eq!(db.execute("insert t (:n, :s)", names.as_slice()), Ok(1));
     let ids: Vec<Vec<Value>> = (1..12).map(|id| vec![Value::from(id)]).collect();
-    assert_eq!(selected(&mut db, "select id from t", []), ids);
+    assert_eq!(selected(&db, "select id from t", []), ids);
 }
 
 #[test]
 fn texts_that_are_too_long() {
-    let mut db = with_rows();
+    let db = with_rows();
     for length in [1_025, 8_192, 100_000] {
         let refused = db.execute("insert t (3, ?)", ["x".repeat(length)]).unwrap_err();
         assert_eq!(refused.number(), Some(46));
@@ -257,7 +257,7 @@ fn texts_that_are_too_long() {
     }
     assert_eq!(db.execute("insert t (3, ?)", ["'".repeat(1_024)]), Ok(1));
     assert_eq!(
-        selected(&mut db, "select s from t where id = 3", []),
+        selected(&db, "select s from t where id = 3", []),
         [["'".repeat(1_024).into()]]
     );
 }
@@ -275,9 +275,9 @@ impl ToValue for Even {
 
 #[test]
 fn a_type_of_ones_own() {
-    let mut db = with_table();
+    let db = with_table();
     assert_eq!(db.execute("insert t (?, ?)", (1, Even(2))), Ok(1));
     let odd = db.execute("insert t (?, ?)", (2, Even(3))).unwrap_err();
     assert_eq!(odd.to_string(), "3 is odd");
-    assert_eq!(selected(&mut db, "select * from t", []), [row(1, "even 2")]);
+    assert_eq!(selected(&db, "select * from t", []), [row(1, "even 2")]);
 }

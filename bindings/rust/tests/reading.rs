@@ -5,12 +5,12 @@ mod common;
 use std::error::Error as _;
 use std::fmt::Debug;
 
-use common::{open, with_rows};
+use common::{number, open, with_rows};
 use mmdb::{Database, Error, FromValue, FromValueError, Row, Rows, Value, ValueRef};
 
 /// One row of a greatest and a least integer, 300, a null, and a text that looks like an integer.
 fn row() -> Rows {
-    let mut db = open();
+    let db = open();
     db.execute("table k (id int)", []).unwrap();
     db.execute("table v (most int, least int, n int, none ref k null, word text)", [])
         .unwrap();
@@ -50,7 +50,7 @@ fn values_of_each_type() {
 
 #[test]
 fn a_text_is_lent_by_the_rows() {
-    let mut db = with_rows();
+    let db = with_rows();
     let rows = db.query("select s from t", []).unwrap();
     let texts: Result<Vec<&str>, Error> = rows.iter().map(|row| row.get(0)).collect();
     db.execute("delete t", []).unwrap();
@@ -116,7 +116,7 @@ fn columns_by_name_and_number() {
 
 #[test]
 fn a_bare_name_is_of_one_table() {
-    let mut db = with_rows();
+    let db = with_rows();
     db.execute("table u (id int, t ref t)", []).unwrap();
     db.execute("insert u (7, 2)", []).unwrap();
     let read = |row: &Row<'_>| {
@@ -173,7 +173,7 @@ fn values_are_made_and_asked() {
 
 #[test]
 fn quoted_fields() {
-    let mut db: Database = with_rows();
+    let db: Database = with_rows();
     let texts = [
         "\"",
         "\"\"",
@@ -196,4 +196,139 @@ fn quoted_fields() {
         .iter()
         .map(|row| row.get::<_, usize>("id").unwrap())
         .eq(0..texts.len()));
+}
+
+#[test]
+fn rows_as_tuples() {
+    let db = with_rows();
+    let rows = db.query("select * from t", []).unwrap();
+    let pairs: Vec<(i64, String)> = rows.iter().map(|row| row.try_into().unwrap()).collect();
+    assert_eq!(pairs, [(1, "a".to_string()), (2, "b".to_string())]);
+    let row = rows.get(0).unwrap();
+    let (id, text): (u8, &str) = (&row).try_into().unwrap();
+    assert_eq!((id, text), (1, "a"));
+    assert_eq!(<(i64,)>::try_from(row), Ok((1,)));
+    assert_eq!(<(Option<i64>, Value)>::try_from(&row), Ok((Some(1), "a".into())));
+    let wrong = <(i64, i64)>::try_from(&row).unwrap_err();
+    assert_eq!(wrong.to_string(), "the column t.s: the text is no i64");
+    let wrong = <(i64, &str, i64)>::try_from(&row).unwrap_err();
+    assert_eq!(wrong, Error::NoSuchIndex { index: 2, columns: 2 });
+    let mut select = db.prepare("select s, id from t where id > ?").unwrap();
+    let all = select.query_map([0], |row| row.try_into()).unwrap();
+    let all: Vec<(String, i64)> = all.collect::<Result<_, _>>().unwrap();
+    assert_eq!(all, [("a".to_string(), 1), ("b".to_string(), 2)]);
+    let one: (String, i64) = db
+        .query_row("select s, id from t where id = ?", [2], |row| row.try_into())
+        .unwrap();
+    assert_eq!(one, ("b".to_string(), 2));
+}
+
+#[test]
+fn rows_one_by_one() {
+    let db = with_rows();
+    let mut own = db.query("select id from t", []).unwrap();
+    let before = own.clone();
+    let mut ids = Vec::new();
+    while let Some(row) = own.next().unwrap() {
+        ids.push(row.get::<_, i64>(0).unwrap());
+        assert_eq!(
+            db.execute("update t set s = 'z' where id = ?", [ids[ids.len() - 1]]),
+            Ok(1)
+        );
+    }
+    assert_eq!((ids, own.next().unwrap().is_none(), own.len()), (vec![1, 2], true, 2));
+    assert_eq!((&own, own.iter().count()), (&before, 2));
+    let mut select = db.prepare("select id, s from t where id > ?").unwrap();
+    let mut rows = select.query([1]).unwrap();
+    let first = rows.next().unwrap().unwrap();
+    assert!(rows.next().unwrap().is_none() && rows.next().unwrap().is_none());
+    assert_eq!((first.get(0), rows.len(), rows.iter().count()), (Ok(2), 1, 1));
+    assert!(select.query([9]).unwrap().next().unwrap().is_none());
+}
+
+#[test]
+fn the_place_of_a_column() {
+    let db = with_rows();
+    let mut select = db.prepare("select s, id from t").unwrap();
+    assert_eq!(
+        (
+            select.column_index("id"),
+            select.column_index("t.s"),
+            select.column_index(1)
+        ),
+        (Ok(1), Ok(0), Ok(1))
+    );
+    let missing = || Err(Error::NoSuchColumn { name: "x".to_string() });
+    assert_eq!(select.column_index("x"), missing());
+    let rows = select.query([]).unwrap();
+    assert_eq!(
+        (rows.column_index("s"), rows.to_rows().column_index("id")),
+        (Ok(0), Ok(1))
+    );
+    assert_eq!(
+        (rows.column_index("x"), rows.to_rows().column_index("x")),
+        (missing(), missing())
+    );
+    let at = rows.column_index("id").unwrap();
+    assert_eq!(rows.iter().map(|row| row.get::<_, i64>(at).unwrap()).sum::<i64>(), 3);
+    let mut change = db.prepare("delete t where id > ?").unwrap();
+    assert_eq!(
+        change.column_index("id"),
+        Err(Error::NoSuchColumn { name: "id".to_string() })
+    );
+    db.execute("drop table t", []).unwrap();
+    assert_eq!(number(select.column_index("id")), Some(30));
+}
+
+#[test]
+fn functions_with_errors_of_their_own() {
+    #[derive(Debug, PartialEq)]
+    enum Wrong {
+        Read(Error),
+        Odd(i64),
+    }
+    impl From<Error> for Wrong {
+        fn from(error: Error) -> Wrong {
+            Wrong::Read(error)
+        }
+    }
+    let even = |row: &Row<'_>| match row.get(0)? {
+        id if id % 2 == 0 => Ok(id),
+        id => Err(Wrong::Odd(id)),
+    };
+    let db = with_rows();
+    let found: Vec<Result<i64, Wrong>> = db.query_and_then("select * from t", [], even).unwrap().collect();
+    assert_eq!(found, [Err(Wrong::Odd(1)), Ok(2)]);
+    let mut select = db.prepare("select s from t where id > ?").unwrap();
+    let mut found = select.query_and_then([1], even).unwrap();
+    assert!(matches!(
+        (found.len(), found.next()),
+        (1, Some(Err(Wrong::Read(Error::Unread { .. }))))
+    ));
+    assert_eq!(number(db.query_and_then("select x from t", [], even)), Some(32));
+}
+
+#[test]
+fn truth() {
+    let db = open();
+    db.execute("table t (id int, is_new int)", []).unwrap();
+    assert_eq!(db.execute("insert t (?, ?)", (1, true)), Ok(1));
+    assert_eq!(db.load("t", [(2, false), (3, true)]), Ok(2));
+    let found = db.query("select is_new from t", []).unwrap();
+    let read: Vec<bool> = found.iter().map(|row| row.get(0).unwrap()).collect();
+    assert_eq!((read, Value::from(true)), (vec![true, false, true], Value::Integer(1)));
+    assert_eq!(
+        db.query_row("select id from t where is_new = ?", [false], |row| row.get(0)),
+        Ok(2)
+    );
+    db.execute("update t set is_new = 2 where id = 2", []).unwrap();
+    let wrong = db.query_row("select is_new from t where id = 2", [], |row| row.get::<_, bool>(0));
+    assert_eq!(
+        wrong.unwrap_err().to_string(),
+        "the column t.is_new: the integer 2 is no bool"
+    );
+    assert_eq!(
+        db.query_row("select is_new from t where id = 1", [], |row| row.get(0)),
+        Ok(Some(true))
+    );
 }

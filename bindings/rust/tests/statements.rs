@@ -8,7 +8,7 @@ use mmdb::{named_params, params, params_from_iter, Database, Error, OptionalExte
 
 #[test]
 fn a_statement_is_executed_with_other_values() {
-    let mut db = with_table();
+    let db = with_table();
     {
         let mut insert = db.prepare("insert t (?, ?)").unwrap();
         assert_eq!(insert.execute((1, "a")), Ok(1));
@@ -22,7 +22,7 @@ fn a_statement_is_executed_with_other_values() {
         assert_eq!(db.prepare("delete t where id = 1").unwrap().execute([]), Ok(1));
     }
     let rows = [row(2, "it's ?"), row(3, "z"), row(4, "z")];
-    assert_eq!(selected(&mut db, "select * from t", []), rows);
+    assert_eq!(selected(&db, "select * from t", []), rows);
 }
 
 #[test]
@@ -166,7 +166,7 @@ fn what_is_not_prepared() {
 
 #[test]
 fn names_of_columns() {
-    let mut db = with_rows();
+    let db = with_rows();
     db.execute("table u (wheres text, t ref t null)", []).unwrap();
     let mut all = db
         .prepare("select * from u join t on u.t = t.id where wheres = ? and id < ?")
@@ -197,7 +197,7 @@ fn names_of_columns() {
 
 #[test]
 fn a_refusal_of_a_statement_tells_what_a_line_tells() {
-    let mut db = with_rows();
+    let db = with_rows();
     let refused = db.prepare("insert t (?, ?)").unwrap().execute((1, "it's")).unwrap_err();
     assert_eq!((refused.number(), refused.text()), (Some(41), Some("key exists")));
     assert_eq!(refused.line(), Some("insert t (1, 'it''s')"));
@@ -211,7 +211,7 @@ fn a_refusal_of_a_statement_tells_what_a_line_tells() {
     assert_eq!(wrong.line(), Some("select * from t where id='1' and s = 'a'"));
     let why = Some("column 26: column id of t has integers, and '1' is a text");
     assert_eq!(wrong.reason(), why);
-    let mut line = |line: &str, id: Value| db.query(line, [id]).unwrap_err();
+    let line = |line: &str, id: Value| db.query(line, [id]).unwrap_err();
     let other = line("select * from t where id=? and s = 'a'", "1".into());
     assert_eq!((other.line(), other.reason()), (wrong.line(), why));
     assert_eq!(line("select * from t where id=?", Value::Null).number(), Some(35));
@@ -220,7 +220,7 @@ fn a_refusal_of_a_statement_tells_what_a_line_tells() {
 /// The columns are those of the line as it was written.
 #[test]
 fn a_refusal_of_a_value_tells_where_its_place_stands() {
-    let mut db = with_rows();
+    let db = with_rows();
     db.execute("table u (id int, t ref t null, s text)", []).unwrap();
     db.execute("insert u (1, 1, 'a')", []).unwrap();
     let long = "é".repeat(513);
@@ -307,12 +307,12 @@ fn as_many_parameters_as_places() {
 /// The values of a call are its own, and none of those of a call before it.
 #[test]
 fn a_parameter_that_fails_binds_nothing() {
-    let mut db = with_rows();
+    let db = with_rows();
     let line = "select id from t where id = ? and s = ?";
-    assert_eq!(selected(&mut db, line, (1, "a")), [[Value::from(1)]]);
+    assert_eq!(selected(&db, line, (1, "a")), [[Value::from(1)]]);
     assert!(db.query(line, (u64::MAX, "b")).is_err());
     assert!(db.query(line, [2]).is_err());
-    assert_eq!(selected(&mut db, line, (2, "b")), [[Value::from(2)]]);
+    assert_eq!(selected(&db, line, (2, "b")), [[Value::from(2)]]);
 }
 
 #[test]
@@ -344,7 +344,7 @@ fn many_statements_are_there_at_once() {
 
 #[test]
 fn a_value_of_another_type_is_refused() {
-    let mut db = with_rows();
+    let db = with_rows();
     let (null, one, a): (Value, Value, Value) = (Value::Null, 1.into(), "a".into());
     for (line, wrong) in [
         ("insert t (?, 'c')", vec![&null, &a]),
@@ -363,13 +363,13 @@ fn a_value_of_another_type_is_refused() {
         assert_eq!(number(select.query(wrong)), Some(35), "{wrong:?}");
     }
     drop(select);
-    assert_eq!(selected(&mut db, "select * from t", []), [row(1, "a"), row(2, "b")]);
+    assert_eq!(selected(&db, "select * from t", []), [row(1, "a"), row(2, "b")]);
 }
 
 /// What no line can hold, and what no row can.
 #[test]
 fn a_text_may_hold_anything_and_not_be_too_long() {
-    let mut db = with_table();
+    let db = with_table();
     let texts = ["", "\0", "a\0b", "\n", "\r\n", "?", "'); delete t", "\u{10ffff}"];
     let longest = "é".repeat(512);
     {
@@ -391,7 +391,7 @@ fn a_text_may_hold_anything_and_not_be_too_long() {
 /// More lines than are kept, drawn so that some come again at once and some late.
 #[test]
 fn lines_are_kept_and_go() {
-    let (mut db, mut draw) = (open(), Draw(1981));
+    let (db, mut draw) = (open(), Draw(1981));
     db.execute("table t (id int, n int)", []).unwrap();
     db.load("t", (0..1_000).map(|id| (id, id * id))).unwrap();
     let ids: Vec<i64> = (0..1_000).collect();
@@ -408,7 +408,7 @@ fn lines_are_kept_and_go() {
 /// So many cells that their room isn't kept.
 #[test]
 fn many_rows_are_read_by_a_kept_line() {
-    let mut db = open();
+    let db = open();
     db.execute("table t (id int, n int)", []).unwrap();
     db.load("t", (0..40_000).map(|id| (id, -id))).unwrap();
     let line = "select * from t where id >= ? and n <= ?";
@@ -454,7 +454,7 @@ fn a_line_outlives_its_table() {
 
 #[test]
 fn a_line_is_the_same_whoever_does_it() {
-    let mut db = with_rows();
+    let db = with_rows();
     for way in 0..3 {
         let (id, insert) = (10 + way, "insert t (?, ?)");
         match way {
@@ -501,4 +501,117 @@ fn texts_of_any_length_come_back() {
         Ok(ValueRef::Text(&texts[1_023]))
     );
     assert!(own.iter().map(|row| row.get::<_, &str>(0).unwrap()).eq(&texts));
+}
+
+#[test]
+fn calls_are_made_beside_statements() {
+    let db = with_rows();
+    let mut all = db.prepare("select * from t where id > ?").unwrap();
+    let mut insert = db.prepare("insert t (?, ?)").unwrap();
+    let rows = all.query([0]).unwrap();
+    assert_eq!(db.execute("insert t (3, 'c')", []), Ok(1));
+    assert_eq!(db.execute("update t set s = ? where id = ?", ("z", 1)), Ok(1));
+    assert_eq!(db.execute("index t s hash", []), Ok(0));
+    assert_eq!(db.load("t", [(4, "d")]), Ok(1));
+    assert_eq!((db.dump("t").unwrap().len(), db.indexes("t").unwrap().len()), (4, 2));
+    assert_eq!(insert.execute((5, "e")), Ok(1));
+    assert_eq!(
+        db.query_row("select s from t where id = ?", [5], |row| row.get(0)),
+        Ok("e".to_string())
+    );
+    assert_eq!(db.command("tables", []).unwrap().count(), None);
+    assert_eq!(db.execute("delete t where id > 1", []), Ok(4));
+    assert_eq!(rows.to_vec(), [row(1, "a"), row(2, "b")]);
+    assert_eq!(all.query([0]).unwrap().to_vec(), [row(1, "z")]);
+}
+
+#[test]
+fn a_statement_meets_the_tables_as_they_are() {
+    let db = with_rows();
+    let mut all = db.prepare("select * from t").unwrap();
+    let rows = all.query([]).unwrap();
+    db.execute("drop table t", []).unwrap();
+    db.execute("table t (s text)", []).unwrap();
+    assert_eq!(db.execute("insert t ('x')", []), Ok(1));
+    assert_eq!(
+        (rows.column_names().len(), rows.to_vec()),
+        (2, vec![row(1, "a"), row(2, "b")])
+    );
+    let rows = all.query([]).unwrap();
+    assert_eq!(
+        (rows.column_names(), rows.to_vec()),
+        (&["t.s".to_string()][..], vec![vec!["x".into()]])
+    );
+}
+
+/// A value that asks the database for itself.
+struct Asked<'d>(&'d Database, &'static str);
+
+impl mmdb::ToValue for Asked<'_> {
+    fn to_value(&self) -> Result<mmdb::ToValueOutput<'_>, Error> {
+        let id: i64 = self.0.query_row(self.1, [1], |row| row.get(0))?;
+        Ok(Value::from(id).into())
+    }
+}
+
+#[test]
+fn values_and_functions_may_use_the_database() {
+    let db = with_rows();
+    let line = "select id from t where id = ?";
+    for line_of_value in [line, "select id from t where id <= ?"] {
+        let found: i64 = db
+            .query_row(line, [Asked(&db, line_of_value)], |row| row.get(0))
+            .unwrap();
+        assert_eq!(found, 1);
+    }
+    assert_eq!(db.load("t", [(Value::from(7), Value::from("g"))]), Ok(1));
+    assert_eq!(
+        db.execute("update t set s = 'h' where id = ?", [Asked(&db, line)]),
+        Ok(1)
+    );
+    let mut seen = Vec::new();
+    let depth = 5;
+    nested(&db, line, depth, &mut seen);
+    assert_eq!(seen, [1, 1, 1, 1, 1]);
+    assert_eq!(db.query_row(line, [2], |row| row.get(0)), Ok(2));
+}
+
+/// Reads a row by a line while rows of the same line are lent.
+fn nested(db: &Database, line: &str, depth: usize, seen: &mut Vec<i64>) {
+    if depth == 0 {
+        return;
+    }
+    let read = |row: &Row<'_>| {
+        nested(db, line, depth - 1, seen);
+        let id: i64 = row.get(0)?;
+        Ok(id)
+    };
+    let id = db.query_row(line, [1], read).unwrap();
+    seen.push(id);
+}
+
+#[test]
+fn a_line_that_is_used_while_its_place_goes_to_another() {
+    let db = with_rows();
+    let line = "select s from t where id = ?";
+    for _ in 0..3 {
+        let text = db.query_row(line, [1], |row| {
+            for number in 0..600 {
+                let other = format!("select id from t where id = ? and id <> {}", number + 10);
+                assert_eq!(db.query_row(&other, [2], |row| row.get(0)), Ok(2));
+            }
+            row.get::<_, String>(0)
+        });
+        assert_eq!(text, Ok("a".to_string()));
+    }
+}
+
+#[test]
+fn a_function_that_panics_leaves_the_line() {
+    let db = with_rows();
+    let line = "select s from t where id = ?";
+    let panics =
+        std::panic::AssertUnwindSafe(|| db.query_row(line, [1], |_| -> Result<(), Error> { panic!("of the test") }));
+    assert!(std::panic::catch_unwind(panics).is_err());
+    assert_eq!(db.query_row(line, [2], |row| row.get(0)), Ok("b".to_string()));
 }

@@ -23,7 +23,7 @@ const TABLES: [(&str, &str, &str); 3] = [
 
 /// The library, with three people, four books, and three of these out.
 pub fn library() -> Result<Database, Error> {
-    let mut db = Database::open_in_memory()?;
+    let db = Database::open_in_memory()?;
     for (name, declaration, csv) in TABLES {
         db.execute(declaration, [])?;
         db.load_csv(name, csv)?;

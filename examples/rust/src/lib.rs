@@ -35,7 +35,7 @@ impl Overdue {
 }
 
 /// Lends a book until a day.
-pub fn lend(db: &mut Database, book: i64, person: &str, due: u32) -> Result<Result<(), Refusal>, Error> {
+pub fn lend(db: &Database, book: i64, person: &str, due: u32) -> Result<Result<(), Refusal>, Error> {
     let title = db.query_row("select title from book where id = ?", [book], |row| {
         row.get::<_, String>(0)
     });
@@ -51,18 +51,18 @@ pub fn lend(db: &mut Database, book: i64, person: &str, due: u32) -> Result<Resu
 }
 
 /// Takes a book back. Says whether it was out.
-pub fn give_back(db: &mut Database, book: i64) -> Result<bool, Error> {
+pub fn give_back(db: &Database, book: i64) -> Result<bool, Error> {
     Ok(db.execute("delete loan where book = ?", [book])? == 1)
 }
 
 /// Takes many books back, by one statement. Says how many of them were out.
-pub fn give_back_all(db: &mut Database, books: &[i64]) -> Result<usize, Error> {
+pub fn give_back_all(db: &Database, books: &[i64]) -> Result<usize, Error> {
     let mut give_back = db.prepare("delete loan where book = ?")?;
     books.iter().map(|book| give_back.execute([book])).sum()
 }
 
 /// The books that are out past a day, each with the mail of who has it.
-pub fn overdue(db: &mut Database, day: u32) -> Result<Vec<Overdue>, Error> {
+pub fn overdue(db: &Database, day: u32) -> Result<Vec<Overdue>, Error> {
     let line = "select book.title, person.mail, loan.due from loan join book on loan.book = book.id \
                 join person on loan.person = person.name where due < ?";
     db.query_map(line, [day], Overdue::of)?.collect()

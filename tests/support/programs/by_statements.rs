@@ -81,7 +81,7 @@ fn answer_of_rows(names: &[String], rows: RowsIter<'_>) -> String {
 }
 
 /// The answer to a statement by a call of the database, which keeps it by its line.
-fn kept(db: &mut Database, told: &Told<'_>) -> Result<String, Error> {
+fn kept(db: &Database, told: &Told<'_>) -> Result<String, Error> {
     Ok(match db.command(told.line, &told.values)? {
         Outcome::Rows(rows) => answer_of_rows(rows.column_names(), rows.iter()),
         Outcome::Count(count) => format!("ok {count}\n"),
@@ -101,7 +101,7 @@ fn prepared(db: &Database, told: &Told<'_>) -> Result<String, Error> {
     }
 }
 
-fn does(db: &mut Database, told: &Told<'_>) -> String {
+fn does(db: &Database, told: &Told<'_>) -> String {
     let done = if told.is_kept {
         kept(db, told)
     } else {
@@ -134,7 +134,7 @@ fn main() -> io::Result<()> {
                 .values
                 .push(Value::Integer(text(parts[0]).parse().expect("an integer"))),
             "text" => told.values.push(text(parts[0]).into()),
-            "execute" => out.write_all(does(&mut db, &told).as_bytes())?,
+            "execute" => out.write_all(does(&db, &told).as_bytes())?,
             other => panic!("{other} is no call"),
         }
     }

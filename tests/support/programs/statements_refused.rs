@@ -30,7 +30,7 @@ struct Kept<'db> {
 }
 
 fn filled() -> Result<Database, Error> {
-    let mut db = Database::open_in_memory()?;
+    let db = Database::open_in_memory()?;
     db.execute("table u (k text)", [])?;
     db.execute("table t (id int, s text, c ref u null)", [])?;
     db.execute("index t s hash", [])?;

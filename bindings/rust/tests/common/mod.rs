@@ -11,14 +11,14 @@ pub fn open() -> Database {
 
 /// A database with an empty table `t (id int, s text)`.
 pub fn with_table() -> Database {
-    let mut db = open();
+    let db = open();
     db.execute("table t (id int, s text)", []).expect("a table");
     db
 }
 
 /// A database with a table `t (id int, s text)` of the rows 1, `a` and 2, `b`.
 pub fn with_rows() -> Database {
-    let mut db = with_table();
+    let db = with_table();
     db.load("t", [(1, "a"), (2, "b")]).expect("two rows");
     db
 }
@@ -27,7 +27,7 @@ pub fn row(id: i64, text: &str) -> Vec<Value> {
     vec![id.into(), text.into()]
 }
 
-pub fn selected(db: &mut Database, line: &str, params: impl Params) -> Vec<Vec<Value>> {
+pub fn selected(db: &Database, line: &str, params: impl Params) -> Vec<Vec<Value>> {
     db.query(line, params).expect("a select").to_vec()
 }
 
