@@ -244,14 +244,13 @@ pub(crate) struct InUse<'d> {
 impl Lines {
     /// The statement of a line, if it is kept, and isn't used already.
     pub(crate) fn find<'d>(&'d self, handle: &'d Handle, line: &str) -> Option<InUse<'d>> {
-        let mut slots = self.0.borrow_mut();
-        let at = slots.places.get(line).copied()?;
-        slots.uses += 1;
-        let used = slots.uses;
+        let slots = &mut *self.0.borrow_mut();
+        let at = *slots.places.get(line)?;
         let slot = &mut slots.slots[at];
-        slot.used = used;
-        let kept = slot.kept.take();
-        kept.is_some().then(|| InUse {
+        let kept = Some(slot.kept.take()?);
+        slots.uses += 1;
+        slot.used = slots.uses;
+        Some(InUse {
             lines: self,
             handle,
             at,
@@ -310,32 +309,28 @@ impl Slots {
 impl Deref for InUse<'_> {
     type Target = Kept;
 
+    #[inline]
     fn deref(&self) -> &Kept {
         self.kept.as_ref().expect("it is put back at the end alone")
     }
 }
 
 impl DerefMut for InUse<'_> {
+    #[inline]
     fn deref_mut(&mut self) -> &mut Kept {
         self.kept.as_mut().expect("it is put back at the end alone")
     }
 }
 
 impl Drop for InUse<'_> {
+    #[inline]
     fn drop(&mut self) {
-        let mut slots = self.lines.0.borrow_mut();
-        let mine = |slot: &&mut Slot| {
-            self.kept
-                .as_ref()
-                .map_or(false, |kept| Arc::ptr_eq(&slot.line, &kept.written.line))
+        let Some(mut kept) = self.kept.take() else {
+            return;
         };
-        match slots.slots.get_mut(self.at).filter(mine) {
-            Some(slot) => slot.kept = self.kept.take(),
-            None => {
-                if let Some(kept) = &mut self.kept {
-                    kept.finalize(self.handle);
-                }
-            }
+        match self.lines.0.borrow_mut().slots.get_mut(self.at) {
+            Some(slot) if Arc::ptr_eq(&slot.line, &kept.written.line) => slot.kept = Some(kept),
+            _ => kept.finalize(self.handle),
         }
     }
 }
@@ -345,6 +340,7 @@ impl Drop for InUse<'_> {
 struct LineHasher(u64);
 
 impl LineHasher {
+    #[inline]
     fn mix(&mut self, word: [u8; 8]) {
         let mixed = self.0.rotate_left(5) ^ u64::from_le_bytes(word);
         self.0 = mixed.wrapping_mul(0x517c_c1b7_2722_0a95);
@@ -352,20 +348,25 @@ impl LineHasher {
 }
 
 impl Hasher for LineHasher {
+    #[inline]
     fn write(&mut self, bytes: &[u8]) {
         let mut words = bytes.chunks_exact(8);
         for word in &mut words {
             self.mix(word.try_into().unwrap_or_default());
         }
-        let mut last = [0; 8];
-        last[..words.remainder().len()].copy_from_slice(words.remainder());
-        self.mix(last);
+        // (the last eight bytes, of which some were mixed already, so that none has to be copied)
+        match bytes.len().checked_sub(8) {
+            Some(from) => self.mix(bytes[from..].try_into().unwrap_or_default()),
+            None => words.remainder().iter().for_each(|byte| self.mix([*byte; 8])),
+        }
     }
 
+    #[inline]
     fn write_u8(&mut self, byte: u8) {
         self.0 ^= u64::from(byte);
     }
 
+    #[inline]
     fn finish(&self) -> u64 {
         self.0 ^ (self.0 >> 32)
     }
