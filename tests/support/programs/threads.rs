@@ -11,7 +11,7 @@ fn text(row: i64, number: usize) -> String {
 }
 
 /// Inserts a row, which is refused again, and finds it by a statement and by a line.
-fn put(db: &Database, row: i64, number: usize) -> Result<()> {
+fn put(db: &mut Database, row: i64, number: usize) -> Result<()> {
     assert_eq!(db.execute("insert t (?, ?)", params![row, text(row, number)])?, 1);
     let again = db.execute("insert t (?, ?)", params![row, text(row, number)]);
     assert_eq!(again.unwrap_err().number(), Some(41));
@@ -26,11 +26,11 @@ fn put(db: &Database, row: i64, number: usize) -> Result<()> {
 }
 
 fn work(number: usize, rows: i64) -> Result<Database> {
-    let db = Database::open(POLICIES[number % POLICIES.len()], Limits::default())?;
+    let mut db = Database::open(POLICIES[number % POLICIES.len()], Limits::default())?;
     db.execute("table t (id int, s text)", [])?;
     db.execute("index t s hash", [])?;
     for row in 0..rows {
-        put(&db, row, number)?;
+        put(&mut db, row, number)?;
     }
     let kept = number as i64 % rows;
     assert_eq!(db.execute("delete t where id >= ?", [kept])? as i64, rows - kept);
