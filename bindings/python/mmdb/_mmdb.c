@@ -626,7 +626,8 @@ static PyType_Spec prepared_spec = {
 /* ---- the module */
 
 static PyMethodDef module_methods[] = {
-    { "odd_field", odd_field, METH_O, "Where the first field of a CSV begins whose quote marks are odd, and whether it is open." },
+    { "odd_field", odd_field, METH_O,
+      "Where the first field of a CSV begins whose quote marks are odd, and whether it is open." },
     { NULL, NULL, 0, NULL },
 };
 

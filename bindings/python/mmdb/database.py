@@ -67,7 +67,8 @@ class Database(Handle):
             """Does what a command says, and gives what it answers.
 
             Each `?` of the line that stands in no text is the place of a parameter, an int, a str or None, which is
-            null, or a value of a type with an adapter. Where the places are of the form `:name`, the parameters are given as keywords, or as a mapping.
+            null, or a value of a type with an adapter. Where the places are of the form `:name`, the parameters are given
+            as keywords, or as a mapping.
 
             A select gives its `Rows`; `insert`, `update` and `delete` give how many rows they were about; `tables`
             gives the text of the declarations, each with a line feed, and `dump` the text of the load that it answers.

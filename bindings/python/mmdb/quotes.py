@@ -1,4 +1,4 @@
-"""Quote marks of a CSV that are read otherwise than they were meant: of a field that is never closed, or has text behind them."""
+"""Quote marks of a CSV that are read otherwise than they were meant: of a field that is never closed, or has text behind."""
 
 from __future__ import annotations
 
