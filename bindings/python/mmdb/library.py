@@ -15,7 +15,7 @@ from typing import Any, List, Optional, Sequence, Tuple
 from .errors import WrongUse
 from .lines import Placed
 from .rows import Rows, Shape
-from .values import PLAIN, stored_rows, stored_values
+from .values import stored_rows, stored_values
 
 _NAME = "libmmdb.so"
 
@@ -131,6 +131,10 @@ _COLUMNS = _call(_LIBRARY, "mmdb_columns", _NUMBER, _ADDRESS, _NUMBER, _ADDRESS)
 _FINALIZE = _call(_LIBRARY, "mmdb_finalize", _NUMBER, _ADDRESS, _NUMBER)
 
 
+class _Unstored(Exception):
+    """A value isn't stored as it is. (It is put into that form when no call has its turn, since that may call the database.)"""
+
+
 class Handle:
     """An open database, of which `mmdb.Database` is made.
 
@@ -193,11 +197,14 @@ class Handle:
 
     def _done(self, line: str, placed: Placed, values: Tuple[Any, ...]) -> Any:
         """Does a statement, which is kept by its line, with these values."""
-        values = _plain(values)
-        with self._turn:
-            statement = self._statement(line, placed)
-            found, shape = statement.done(self, values), statement.shape
-        return _read(found, shape)
+        try:
+            with self._turn:
+                statement = self._statement(line, placed)
+                found = statement.done(self, values)
+                shape = statement.shape
+        except _Unstored:
+            return self._done(line, placed, stored_values(values))
+        return found if shape is None or shape.converters is None else shape.converted(found)
 
     def _done_many(self, line: str, placed: Placed, rows: List[Tuple[Any, ...]]) -> int:
         """Does a statement, which is kept by its line, with each of these rows of values."""
@@ -319,6 +326,8 @@ class _Statement:
             elif value is None:
                 status = _BIND_NULL(at, number, place)
             else:
+                if kind is bool or not isinstance(value, (int, str)):
+                    raise _Unstored
                 stored_values((value,))
                 if isinstance(value, str):
                     text = str.encode(value)
@@ -378,18 +387,6 @@ class _Statement:
             line = self.placed.prepared
             return handle._words(_PREPARE_REASON(handle._at, line, len(line), handle._told_at))
         return handle._words(_STATEMENT_REASON(handle._at, self.number, handle._told_at))
-
-
-def _plain(values: Tuple[Any, ...]) -> Tuple[Any, ...]:
-    """Values as columns store them, where one of them is of another type than is bound."""
-    return values if PLAIN.issuperset(map(type, values)) else stored_values(values)
-
-
-def _read(found: Any, shape: Optional[Shape]) -> Any:
-    """What a statement gave, with its columns read as other types where they are to be."""
-    if shape is None or shape.converters is None or not isinstance(found, Rows):
-        return found
-    return shape.converted(found)
 
 
 def _columns_of(cells: _Cells) -> List[List[Any]]:
@@ -469,11 +466,14 @@ class Prepared:
 
     def _done(self, values: Tuple[Any, ...]) -> Any:
         """Does it with these values."""
-        values = _plain(values)
-        handle = self._open_handle()
-        with handle._turn:
-            found, shape = self._statement.done(handle, values), self._statement.shape
-        return _read(found, shape)
+        handle, statement = self._open_handle(), self._statement
+        try:
+            with handle._turn:
+                found = statement.done(handle, values)
+                shape = statement.shape
+        except _Unstored:
+            return self._done(stored_values(values))
+        return found if shape is None or shape.converters is None else shape.converted(found)
 
     def _done_many(self, rows: List[Tuple[Any, ...]]) -> int:
         """Does it with each of these rows of values."""
