@@ -194,7 +194,7 @@ struct Both {
 
 impl Both {
     fn open() -> Result<Both> {
-        let mut ours = Database::open_in_memory()?;
+        let ours = Database::open_in_memory()?;
         ours.execute("table t (id int, n int, s text)", [])?;
         let mut theirs = Sqlite::open();
         theirs.run("create table t (id integer primary key, n integer, s text)");
