@@ -15,7 +15,7 @@ from typing import Any, List, Optional, Sequence, Tuple
 from .errors import WrongUse
 from .lines import Placed
 from .rows import Rows, Shape
-from .values import stored_rows, stored_values
+from .values import encoded, stored_rows, stored_values
 
 _NAME = "libmmdb.so"
 
@@ -323,6 +323,10 @@ class _Statement:
             kind = type(value)
             if kind is int and -(1 << 63) <= value < 1 << 63:
                 status = _BIND_INTEGER(at, number, place, value)
+            elif kind is str:
+                text = encoded(value)
+                size += len(text)
+                status = _BIND_TEXT(at, number, place, text, len(text))
             elif value is None:
                 status = _BIND_NULL(at, number, place)
             else:
