@@ -13,6 +13,7 @@ from support.building_package import ran
 
 # (the package wants pip 20.0, and these tests one that installs into another Python)
 ASKS = "import pip; assert tuple(map(int, pip.__version__.split('.')[:2])) >= (22, 3)"
+TYPED = harness.SUPPORT / "programs" / "typed.py"
 TAGS = {True: "cp310-abi3-linux_x86_64", False: "py3-none-linux_x86_64"}
 HOW = {True: "extension", False: "ctypes"}
 
@@ -145,12 +146,21 @@ class Builds(unittest.TestCase):
             self.assertNotEqual(ran(python, "-c", "import mmdb", cwd=self.room).returncode, 0)
 
 
+class Typed(unittest.TestCase):
+    """The program whose types are checked."""
+
+    def test_it_runs(self):
+        ended = binding.run_python(str(TYPED))
+        self.assertEqual((ended.err, ended.status), ("", 0))
+        self.assertEqual(ended.out.splitlines()[-1], "error 41 key exists: column 11: t has a row with the key 1 True")
+
+
 @unittest.skipUnless(checker(), "no Python here has mypy")
 class Types(unittest.TestCase):
     """The annotations, and those who use them."""
 
     def test_mypy_finds_nothing(self):
         words = [checker(), "-m", "mypy", "--strict", "--cache-dir=/dev/null"]
-        checked = [binding.FOLDER / "mmdb", harness.ROOT / "examples" / "python", harness.ROOT / "shell" / "mmdb_shell"]
+        checked = [binding.FOLDER / "mmdb", TYPED, harness.ROOT / "examples" / "python", harness.ROOT / "shell" / "mmdb_shell"]
         ended = ran(*words, *checked, cwd=binding.FOLDER, MYPYPATH=str(binding.FOLDER))
         self.assertEqual((ended.returncode, ended.stderr), (0, ""), ended.stdout)

@@ -1,0 +1,37 @@
+"""A program that uses the package as its annotations allow: mypy finds nothing in it in strict mode."""
+
+import datetime
+from typing import List, Tuple
+
+import mmdb
+
+
+def hired(db: mmdb.Database, day: datetime.date) -> List[Tuple[int, str]]:
+    rows: mmdb.Rows = db.select("select id, name from emp where hired < :day", day=day)
+    rows.sort("name", reverse=True)
+    rows.sort(key=len)
+    return [(row.id, row["name"]) for row in rows]
+
+
+with mmdb.Database() as database:
+    database.execute("table emp (id int, name text, hired text, pay int)")
+    database.convert("emp.hired", datetime.date)
+    database.convert("emp.pay", lambda cents: cents / 100)
+    count: int = database.change("insert emp (?, ?, ?, ?)", 1, "Ann", datetime.date(2026, 1, 1), 150)
+    count += database.load("emp", [(2, "Bob", datetime.date(2026, 1, 2), 100)])
+    count += database.load_csv("emp", "id,name,hired,pay\n3,Cy,2026-01-03,1\n", strict=True)
+    with database.prepare("select * from emp where id = ?") as statement:
+        names: Tuple[str, ...] = statement.names
+        first: mmdb.Row = statement.execute(1)[0]
+        print(count, names, first.name, first[0], {first: 1}, hired(database, datetime.date(2027, 1, 1)))
+    for name, group in database.dump("emp").group("name").items():
+        print(name, group.sum("pay"), group.column("id"), group.names)
+    mmdb.register_adapter(complex, str)
+    mmdb.register_converter(complex, complex)
+
+connection: mmdb.Connection = mmdb.connect()
+try:
+    with connection.cursor() as cursor:
+        cursor.execute("table t (id int)").executemany("insert t (?)", [(1,), (True,)])
+except connection.IntegrityError as why:
+    print(str(why).splitlines()[0], mmdb.DATETIME == datetime.date)
