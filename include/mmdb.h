@@ -55,7 +55,11 @@ typedef struct mmdb {
     void *inside;
 } mmdb;
 
+#ifdef __cplusplus
+#define MMDB_CLOSED {}
+#else
 #define MMDB_CLOSED { NULL }
+#endif
 
 /* Bytes that the library keeps. They do not end in a zero byte. `at` is never null, also of no bytes. */
 typedef struct mmdb_bytes {
@@ -311,19 +315,30 @@ static inline const char *mmdb_status_text(uint32_t status)
 
 static inline int mmdb_checked_is_closed(const mmdb *db)
 {
-    return db == NULL || db->inside == NULL;
+    return !db || !db->inside;
+}
+
+/* What the library gives, as a status. */
+static inline mmdb_status mmdb_checked_status(uint32_t status)
+{
+#ifdef __cplusplus
+    return static_cast<mmdb_status>(status);
+#else
+    return (mmdb_status)status;
+#endif
 }
 
 static inline const void *mmdb_checked_bytes(const void *bytes)
 {
-    return bytes == NULL ? "" : bytes;
+    return bytes ? bytes : "";
 }
 
 /* Where the answer goes: to the caller, or where it isn't wanted to a place of its own. It has no bytes at first. */
 static inline mmdb_bytes *mmdb_checked_answer_at(mmdb_bytes *answer, mmdb_bytes *unwanted)
 {
-    mmdb_bytes *to = answer == NULL ? unwanted : answer;
-    to->at = (const unsigned char *)"";
+    static const unsigned char no_bytes[1] = { 0 };
+    mmdb_bytes *to = answer ? answer : unwanted;
+    to->at = no_bytes;
     to->length = 0;
     return to;
 }
@@ -332,9 +347,10 @@ static inline mmdb_bytes *mmdb_checked_answer_at(mmdb_bytes *answer, mmdb_bytes 
 static inline mmdb_rows *mmdb_checked_rows_at(mmdb_rows *rows, mmdb_rows *unwanted)
 {
     static const mmdb_cell no_cell = { 0, 0, 0, MMDB_NULL };
-    mmdb_rows *to = rows == NULL ? unwanted : rows;
+    static const unsigned char no_bytes[1] = { 0 };
+    mmdb_rows *to = rows ? rows : unwanted;
     to->cells = &no_cell;
-    to->texts = (const unsigned char *)"";
+    to->texts = no_bytes;
     to->rows = 0;
     to->columns = 0;
     to->changed = 0;
@@ -344,7 +360,7 @@ static inline mmdb_rows *mmdb_checked_rows_at(mmdb_rows *rows, mmdb_rows *unwant
 /* Where a statement goes: as answers do. At first its number names none. */
 static inline mmdb_statement *mmdb_checked_statement_at(mmdb_statement *statement, mmdb_statement *unwanted)
 {
-    mmdb_statement *to = statement == NULL ? unwanted : statement;
+    mmdb_statement *to = statement ? statement : unwanted;
     to->number = UINT32_MAX;
     to->places = 0;
     return to;
@@ -352,7 +368,7 @@ static inline mmdb_statement *mmdb_checked_statement_at(mmdb_statement *statemen
 
 static inline mmdb_status mmdb_checked_open(mmdb *db, uint32_t policy, uint32_t rows, uint32_t block)
 {
-    return db == NULL ? MMDB_NOT_OPEN : (mmdb_status)mmdb_open(db, policy, rows, block);
+    return !db ? MMDB_NOT_OPEN : mmdb_checked_status(mmdb_open(db, policy, rows, block));
 }
 
 static inline mmdb_status mmdb_checked_command(mmdb *db, const void *line, size_t length, mmdb_bytes *answer)
@@ -361,9 +377,9 @@ static inline mmdb_status mmdb_checked_command(mmdb *db, const void *line, size_
     mmdb_bytes *to = mmdb_checked_answer_at(answer, &unwanted);
     if (mmdb_checked_is_closed(db))
         return MMDB_NOT_OPEN;
-    if (line == NULL)
+    if (!line)
         return MMDB_NO_LINE;
-    return (mmdb_status)mmdb_command(db, line, length, to);
+    return mmdb_checked_status(mmdb_command(db, line, length, to));
 }
 
 static inline mmdb_status mmdb_checked_load(mmdb *db, const void *line, size_t length, const void *block,
@@ -373,9 +389,9 @@ static inline mmdb_status mmdb_checked_load(mmdb *db, const void *line, size_t l
     mmdb_bytes *to = mmdb_checked_answer_at(answer, &unwanted);
     if (mmdb_checked_is_closed(db))
         return MMDB_NOT_OPEN;
-    if (line == NULL || (block == NULL && block_length != 0))
+    if (!line || (!block && block_length != 0))
         return MMDB_NO_LINE;
-    return (mmdb_status)mmdb_load(db, line, length, mmdb_checked_bytes(block), block_length, to);
+    return mmdb_checked_status(mmdb_load(db, line, length, mmdb_checked_bytes(block), block_length, to));
 }
 
 static inline mmdb_status mmdb_checked_prepare(mmdb *db, const void *line, size_t length, mmdb_statement *statement)
@@ -384,14 +400,16 @@ static inline mmdb_status mmdb_checked_prepare(mmdb *db, const void *line, size_
     mmdb_statement *to = mmdb_checked_statement_at(statement, &unwanted);
     if (mmdb_checked_is_closed(db))
         return MMDB_NOT_OPEN;
-    if (line == NULL)
+    if (!line)
         return MMDB_NO_LINE;
-    return (mmdb_status)mmdb_prepare(db, line, length, to);
+    return mmdb_checked_status(mmdb_prepare(db, line, length, to));
 }
 
 static inline mmdb_status mmdb_checked_bind_integer(mmdb *db, uint32_t statement, uint32_t place, int64_t value)
 {
-    return mmdb_checked_is_closed(db) ? MMDB_NOT_OPEN : (mmdb_status)mmdb_bind_integer(db, statement, place, value);
+    if (mmdb_checked_is_closed(db))
+        return MMDB_NOT_OPEN;
+    return mmdb_checked_status(mmdb_bind_integer(db, statement, place, value));
 }
 
 static inline mmdb_status mmdb_checked_bind_text(mmdb *db, uint32_t statement, uint32_t place, const void *text,
@@ -399,33 +417,33 @@ static inline mmdb_status mmdb_checked_bind_text(mmdb *db, uint32_t statement, u
 {
     if (mmdb_checked_is_closed(db))
         return MMDB_NOT_OPEN;
-    if (text == NULL && length != 0)
+    if (!text && length != 0)
         return MMDB_NO_LINE;
-    return (mmdb_status)mmdb_bind_text(db, statement, place, mmdb_checked_bytes(text), length);
+    return mmdb_checked_status(mmdb_bind_text(db, statement, place, mmdb_checked_bytes(text), length));
 }
 
 static inline mmdb_status mmdb_checked_bind_null(mmdb *db, uint32_t statement, uint32_t place)
 {
-    return mmdb_checked_is_closed(db) ? MMDB_NOT_OPEN : (mmdb_status)mmdb_bind_null(db, statement, place);
+    return mmdb_checked_is_closed(db) ? MMDB_NOT_OPEN : mmdb_checked_status(mmdb_bind_null(db, statement, place));
 }
 
 static inline mmdb_status mmdb_checked_execute(mmdb *db, uint32_t statement, mmdb_rows *rows)
 {
     mmdb_rows unwanted;
     mmdb_rows *to = mmdb_checked_rows_at(rows, &unwanted);
-    return mmdb_checked_is_closed(db) ? MMDB_NOT_OPEN : (mmdb_status)mmdb_execute(db, statement, to);
+    return mmdb_checked_is_closed(db) ? MMDB_NOT_OPEN : mmdb_checked_status(mmdb_execute(db, statement, to));
 }
 
 static inline mmdb_status mmdb_checked_columns(mmdb *db, uint32_t statement, mmdb_rows *columns)
 {
     mmdb_rows unwanted;
     mmdb_rows *to = mmdb_checked_rows_at(columns, &unwanted);
-    return mmdb_checked_is_closed(db) ? MMDB_NOT_OPEN : (mmdb_status)mmdb_columns(db, statement, to);
+    return mmdb_checked_is_closed(db) ? MMDB_NOT_OPEN : mmdb_checked_status(mmdb_columns(db, statement, to));
 }
 
 static inline mmdb_status mmdb_checked_finalize(mmdb *db, uint32_t statement)
 {
-    return mmdb_checked_is_closed(db) ? MMDB_NOT_OPEN : (mmdb_status)mmdb_finalize(db, statement);
+    return mmdb_checked_is_closed(db) ? MMDB_NOT_OPEN : mmdb_checked_status(mmdb_finalize(db, statement));
 }
 
 static inline mmdb_status mmdb_checked_query(mmdb *db, const void *line, size_t length, mmdb_rows *rows)
@@ -434,18 +452,18 @@ static inline mmdb_status mmdb_checked_query(mmdb *db, const void *line, size_t 
     mmdb_rows *to = mmdb_checked_rows_at(rows, &unwanted);
     if (mmdb_checked_is_closed(db))
         return MMDB_NOT_OPEN;
-    if (line == NULL)
+    if (!line)
         return MMDB_NO_LINE;
-    return (mmdb_status)mmdb_query(db, line, length, to);
+    return mmdb_checked_status(mmdb_query(db, line, length, to));
 }
 
 static inline mmdb_status mmdb_checked_feed(mmdb *db, const void *piece, size_t length)
 {
     if (mmdb_checked_is_closed(db))
         return MMDB_NOT_OPEN;
-    if (piece == NULL && length != 0)
+    if (!piece && length != 0)
         return MMDB_NO_LINE;
-    return (mmdb_status)mmdb_feed(db, mmdb_checked_bytes(piece), length);
+    return mmdb_checked_status(mmdb_feed(db, mmdb_checked_bytes(piece), length));
 }
 
 static inline mmdb_status mmdb_checked_indexes(mmdb *db, const void *table, size_t length, mmdb_bytes *answer)
@@ -454,16 +472,16 @@ static inline mmdb_status mmdb_checked_indexes(mmdb *db, const void *table, size
     mmdb_bytes *to = mmdb_checked_answer_at(answer, &unwanted);
     if (mmdb_checked_is_closed(db))
         return MMDB_NOT_OPEN;
-    if (table == NULL && length != 0)
+    if (!table && length != 0)
         return MMDB_NO_LINE;
-    return (mmdb_status)mmdb_indexes(db, mmdb_checked_bytes(table), length, to);
+    return mmdb_checked_status(mmdb_indexes(db, mmdb_checked_bytes(table), length, to));
 }
 
 static inline mmdb_status mmdb_checked_answer(mmdb *db, mmdb_bytes *answer)
 {
     mmdb_bytes unwanted;
     mmdb_bytes *to = mmdb_checked_answer_at(answer, &unwanted);
-    return mmdb_checked_is_closed(db) ? MMDB_NOT_OPEN : (mmdb_status)mmdb_answer(db, to);
+    return mmdb_checked_is_closed(db) ? MMDB_NOT_OPEN : mmdb_checked_status(mmdb_answer(db, to));
 }
 
 static inline uint32_t mmdb_checked_refusal(mmdb *db)
@@ -478,9 +496,9 @@ static inline mmdb_status mmdb_checked_reason(mmdb *db, const void *line, size_t
     mmdb_bytes *to = mmdb_checked_answer_at(reason, &unwanted);
     if (mmdb_checked_is_closed(db))
         return MMDB_NOT_OPEN;
-    if (line == NULL || (block == NULL && block_length != 0))
+    if (!line || (!block && block_length != 0))
         return MMDB_NO_LINE;
-    return (mmdb_status)mmdb_reason(db, line, length, mmdb_checked_bytes(block), block_length, to);
+    return mmdb_checked_status(mmdb_reason(db, line, length, mmdb_checked_bytes(block), block_length, to));
 }
 
 static inline mmdb_status mmdb_checked_prepare_reason(mmdb *db, const void *line, size_t length, mmdb_bytes *reason)
@@ -489,16 +507,16 @@ static inline mmdb_status mmdb_checked_prepare_reason(mmdb *db, const void *line
     mmdb_bytes *to = mmdb_checked_answer_at(reason, &unwanted);
     if (mmdb_checked_is_closed(db))
         return MMDB_NOT_OPEN;
-    if (line == NULL)
+    if (!line)
         return MMDB_NO_LINE;
-    return (mmdb_status)mmdb_prepare_reason(db, line, length, to);
+    return mmdb_checked_status(mmdb_prepare_reason(db, line, length, to));
 }
 
 static inline mmdb_status mmdb_checked_statement_reason(mmdb *db, uint32_t statement, mmdb_bytes *reason)
 {
     mmdb_bytes unwanted;
     mmdb_bytes *to = mmdb_checked_answer_at(reason, &unwanted);
-    return mmdb_checked_is_closed(db) ? MMDB_NOT_OPEN : (mmdb_status)mmdb_statement_reason(db, statement, to);
+    return mmdb_checked_is_closed(db) ? MMDB_NOT_OPEN : mmdb_checked_status(mmdb_statement_reason(db, statement, to));
 }
 
 static inline void mmdb_checked_close(mmdb *db)
