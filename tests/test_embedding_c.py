@@ -17,6 +17,12 @@ STATEMENTS = {"mmdb_prepare", "mmdb_bind_integer", "mmdb_bind_text", "mmdb_bind_
 LINES = {"mmdb_command", "mmdb_load", "mmdb_query", "mmdb_feed", "mmdb_indexes", "mmdb_answer", "mmdb_refusal"}
 REASONS = {"mmdb_reason", "mmdb_prepare_reason", "mmdb_statement_reason"}
 EXPORTS = {"mmdb_open", "mmdb_close", *STATEMENTS, *LINES, *REASONS}
+C_STANDARDS, CPP_STANDARDS = ("c99", "c11", "c17", "c2x"), ("c++11", "c++14", "c++17", "c++20")
+STRICT = ["-Wall", "-Wextra", "-Wpedantic", "-Wconversion", "-Wsign-conversion", "-Wshadow", "-Wcast-qual", "-Wcast-align", "-Wundef"]
+STRICT_C = [*STRICT, "-Wstrict-prototypes", "-Wmissing-prototypes", "-Wbad-function-cast", "-Wdeclaration-after-statement"]
+STRICT_CPP = [*STRICT, "-Wold-style-cast", "-Wzero-as-null-pointer-constant", "-Wuseless-cast"]
+# (a cell is found by adding to a pointer, which later versions of clang call unsafe in C++)
+EVERYTHING = ["-Weverything", "-Wno-padded", "-Wno-unknown-warning-option", "-Wno-unsafe-buffer-usage"]
 ROOM = compiling.Room()
 
 
@@ -55,6 +61,26 @@ class Header(unittest.TestCase):
         for standard in ("c++11", "c++20"):
             with self.subTest(standard):
                 subprocess.run(["c++", "-x", "c++", f"-std={standard}", *warned], check=True)
+
+    def check_strict(self, compiler, language, standards, options):
+        """A program that includes it compiles without a word under these options, as each standard."""
+        source = ROOM.path / "strict.c"
+        source.write_text('#include "mmdb.h"\n\nint main(void)\n{\n    mmdb db = MMDB_CLOSED;\n    mmdb_close(&db);\n    return 0;\n}\n')
+        for standard in standards:
+            with self.subTest(compiler=compiler, standard=standard):
+                words = [compiler, "-x", language, f"-std={standard}", *options, "-Werror", f"-I{compiling.INCLUDE}", "-fsyntax-only", source]
+                ended = subprocess.run(words, capture_output=True, text=True, check=False)
+                self.assertEqual((ended.stderr, ended.returncode), ("", 0))
+
+    def test_no_option_of_gcc_warns(self):
+        tested.requires("gcc", "g++")
+        self.check_strict("gcc", "c", C_STANDARDS, STRICT_C)
+        self.check_strict("g++", "c++", CPP_STANDARDS, STRICT_CPP)
+
+    @unittest.skipUnless(shutil.which("clang"), "clang is not installed")
+    def test_no_option_of_clang_warns(self):
+        self.check_strict("clang", "c", C_STANDARDS, EVERYTHING)
+        self.check_strict("clang", "c++", CPP_STANDARDS, EVERYTHING)
 
     def test_the_shared_library_shows_its_calls_alone(self):
         tested.requires("nm")
