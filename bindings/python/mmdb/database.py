@@ -7,7 +7,7 @@ import warnings
 from typing import TYPE_CHECKING, Any, Callable, Dict, Iterable, List, Mapping, NoReturn, Optional, Sequence, Tuple, Union
 
 from .conversions import Converter, converter_of
-from .errors import CsvWarning, NoMemory, WrongType, WrongUse, WrongValue, refusal_of
+from .errors import CsvWarning, NoMemory, OperationalError, WrongType, WrongUse, WrongValue, refusal_of
 from .handles import Handle
 from .indexes import Index, indexes_of
 from .lines import CHANGES, Placed, check_kind, check_line, one_line, placed
