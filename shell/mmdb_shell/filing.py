@@ -24,12 +24,16 @@ if TYPE_CHECKING:
 @dotted(".load TABLE FILE", "loads a CSV file, all rows or none")
 def _load(shell: Shell, name: str, path: str) -> None:
     table = table_of(shell.db, name)
+    load = moving.Load(shell.db, table, shell.interrupts)
     try:
         with opened(path, shell.interrupts) as file, told_of(path), shell.bar(size_of(file), "bytes") as bar:
-            count = moving.Load(shell.db, table, shell.interrupts).run(Read(file, bar), shell.settings.block)
+            count = load.run(Read(file, bar), shell.settings.block)
     except mmdb.Refused as why:
         wanted = f"; its first record has to be {table.header.decode().strip()}" if why.number == 61 else ""
         raise Trouble(f"{moving.numbered(why)}{wanted}; no row of {path} went in", why.reason) from why
+    finally:
+        for warning in load.warnings:
+            shell.tell(warning)
     shell.note(f"{count} rows of {path} are in {name}")
 
 

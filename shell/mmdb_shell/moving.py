@@ -5,7 +5,7 @@ from __future__ import annotations
 import io
 import re
 import warnings
-from typing import BinaryIO, Iterator, List, Optional, Tuple, Union
+from typing import Iterator, List, Optional, Protocol, Tuple, Union
 
 import mmdb
 
