@@ -1,7 +1,7 @@
 //! Modified linear hashing: a hash index whose buckets grow and shrink one at a time.
 //!
 //! The index holds references to tuples under the hashes of their keys, and no keys. It is linear hashing after Litwin
-//! (VLDB 1980) in the form for main memory of Lehman and Carey (VLDB 1986): a bucket is a chain of nodes with one entry
+//! (VLDB 1980) in the form for main memory of Lehman and Carey (VLDB 1986). A bucket is a chain of nodes with one entry
 //! each, and the table has a bucket more or less by how many entries there are.
 //!
 //! It does not care which key a hash is of, whether two keys share one, nor what a reference leads to: who looks up
