@@ -1,7 +1,7 @@
 """How rows are shown: as a table, a list, CSV, JSON, Markdown, HTML or lines of the language.
 
-A null differs from each text in every mode: in tables and lists it is an empty cell, and the empty text is `''`; in CSV
-it is an empty field, and the empty text is `""`; with tabs it is `\\N`; elsewhere it is `null`.
+A null differs from each text in every mode. In tables and lists it is an empty cell, and the empty text is `''`. In CSV it is an
+empty field, and the empty text is `""`. With tabs it is `\\N`, and elsewhere `null`.
 """
 
 from __future__ import annotations
