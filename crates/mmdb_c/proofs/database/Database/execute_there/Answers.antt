@@ -11,7 +11,7 @@ use Rattle.mmdb_c.proofs.database.Database.execute_there.Goals as goal
 
 pub returns-in_err-executed-clause-others : goal.returns-in_err-executed-clause-others
 returns-in_err-executed-clause-others c = record {
-  others = λ other parts apart there. set-other c.args.self.now.shown.items c.args.number other c.execute.new.shown parts apart there;
+  others = λ other cells apart there. set-other c.args.self.now.shown.items c.args.number other c.execute.new.shown cells apart there;
   queried = refl;
   columns = refl;
 }
@@ -20,11 +20,11 @@ pub returns-clause-done : goal.returns-clause-done
 returns-clause-done c =
     let items : List Cells = c.args.self.now.shown.items in
     let n : ℕ = c.args.number in
-    let parts : Cells = c.execute.new.shown in
+    let cells : Cells = c.execute.new.shown in
     let given = c.in_ok-executed.executed in
     let done = c.in_ok-executed.ensures.done in
-    let there : slice_get (slice_set items n parts) n ≡ Some cells = set-same items n parts c.requires in
-    let told : c.index.result.now ≡ parts = c.index.ensures ∙ get_or-set_same items n parts c.index.result.now c.requires in (
+    let there : slice_get (slice_set items n cells) n ≡ Some cells = set-same items n cells c.requires in
+    let told : c.index.result.now ≡ cells = c.index.ensures ∙ get_or-set_same items n cells c.index.result.now c.requires in (
       given,
       record {
         effect = done.0;
@@ -38,7 +38,7 @@ returns-clause-done c =
 
 pub returns-clause-others : goal.returns-clause-others
 returns-clause-others c = record {
-  others = λ other parts apart there. set-other c.args.self.now.shown.items c.args.number other c.execute.new.shown parts apart there;
+  others = λ other cells apart there. set-other c.args.self.now.shown.items c.args.number other c.execute.new.shown cells apart there;
   queried = refl;
   columns = refl;
 }
