@@ -11,19 +11,18 @@
    address. The calls on one handle come one after another; each thread may have handles of its own, which share
    nothing. Nothing here is to be called from a signal handler.
 
-   Nothing is kept on disk, and no call reads or writes a file or a socket. No call ends the process: want of memory
-   is answered, by MMDB_NO_MEMORY or by `error 90`. What a handle holds is given back by mmdb_close, and by nothing
-   else.
+   Nothing is kept on disk, and no call reads or writes a file or a socket. No call ends the process: one that runs out
+   of memory gives MMDB_NO_MEMORY or `error 90`. Only mmdb_close frees what a handle holds.
 
    Bytes go in by a pointer and a length. They need no zero byte behind them, are read during the call alone, and stay
    the caller's. They are not what the same handle answered: to give that back to it, copy it first. None of the
    pointers of a call points into what another of them points to.
 
-   A null pointer means the same wherever it stands: a null handle is a closed one; null with the length 0 is no
-   bytes; null in the place of an answer, of a statement or of rows says that these aren't wanted. Null with any other
-   length is MMDB_NO_LINE.
+   A null pointer means the same everywhere. A null handle is a closed one, and null with the length 0 is no bytes.
+   Null in the place of an answer, of a statement or of rows says that these aren't wanted. Null with any other length
+   is MMDB_NO_LINE.
 
-   What is done more than once, or with values that come from elsewhere, is best done by a statement: it is prepared
+   What is done more than once, or with values that come from elsewhere, is best done by a statement. It is prepared
    once, its values are bound and not written into a line, and its rows are cells and not text to be read. The rows of a
    line that is done once are cells too, where mmdb_query does it.
 
@@ -56,7 +55,11 @@ typedef struct mmdb {
     void *inside;
 } mmdb;
 
+#ifdef __cplusplus
+#define MMDB_CLOSED {}
+#else
 #define MMDB_CLOSED { NULL }
+#endif
 
 /* Bytes that the library keeps. They do not end in a zero byte. `at` is never null, also of no bytes. */
 typedef struct mmdb_bytes {
@@ -112,8 +115,10 @@ typedef enum mmdb_status {
     MMDB_NO_SUCH_STATEMENT = 9,  /* the number names no statement, or one that was finalised */
     MMDB_NO_SUCH_PLACE = 10,     /* the statement has no place of that number */
     MMDB_NOT_UTF8 = 11,          /* mmdb_bind_text of bytes that are not UTF-8 */
-    MMDB_REFUSED = 12            /* mmdb_prepare, mmdb_execute, mmdb_columns, mmdb_query: refused. mmdb_answer and
+    MMDB_REFUSED = 12,           /* mmdb_prepare, mmdb_execute, mmdb_columns, mmdb_query: refused. mmdb_answer and
                                     mmdb_refusal tell why, as `error 41 key exists` and a line feed; nothing changed */
+    MMDB_TOO_LARGE = 13          /* mmdb_execute, mmdb_columns, mmdb_query: the texts of the rows are more than 4 GiB
+                                    together; mmdb_prepare: the database has 4294967296 statements. Nothing changed */
 } mmdb_status;
 
 /* How plans are chosen. No policy changes an answer, only what it costs. MMDB_AUTO is the one to take. */
@@ -153,7 +158,8 @@ uint32_t mmdb_load(mmdb *db, const void *line, size_t length, const void *block,
    Gives MMDB_DONE and the statement, whose places have nulls. Or gives MMDB_NOT_OPEN, MMDB_NO_LINE or MMDB_NO_MEMORY;
    or MMDB_REFUSED, in this order: by 10 where the line is too long, by 11 where it is not UTF-8, by 20 where it spells
    no statement, as with a line feed in it, blanks, comments and all other commands, or by what the names and the given
-   values are refused by (30, 32, 33, 34, 35, 45). Then there is no statement. */
+   values are refused by (30, 32, 33, 34, 35, 45). Or gives MMDB_TOO_LARGE where there are 4294967296 statements. Then
+   there is no statement. */
 uint32_t mmdb_prepare(mmdb *db, const void *line, size_t length, mmdb_statement *statement);
 
 /* Puts a value into a place of a statement, by their numbers. It stays until another is bound there, also while the
@@ -169,14 +175,16 @@ uint32_t mmdb_bind_null(mmdb *db, uint32_t statement, uint32_t place);
 /* Does what the command with the bound values does.
    Gives MMDB_DONE: and of a select its rows, which are good until this statement is executed again or finalised, or the
    handle is closed; of the others `changed`, and no rows. Or gives MMDB_REFUSED as the line with these values would be,
-   in the same order, and by 90 where no memory is found; or MMDB_NOT_OPEN or MMDB_NO_SUCH_STATEMENT. */
+   in the same order, and by 90 when out of memory; MMDB_TOO_LARGE where the texts of its rows are more than 4 GiB
+   together; or MMDB_NOT_OPEN or MMDB_NO_SUCH_STATEMENT. */
 uint32_t mmdb_execute(mmdb *db, uint32_t statement, mmdb_rows *rows);
 
 /* The columns that the rows of a select have, whatever values are bound: a row for each, of two cells, its name as T.c
    and its kind, which is the integer MMDB_INTEGER or MMDB_TEXT. Another statement has no columns. They are good until
    the next call on this handle.
    Gives MMDB_DONE and the columns; or MMDB_REFUSED where mmdb_prepare of the line would be refused now, as by 30 once
-   its table is dropped, or by 90 when out of memory; or MMDB_NOT_OPEN or MMDB_NO_SUCH_STATEMENT. */
+   its table is dropped, or by 90 when out of memory; or MMDB_TOO_LARGE, which a select has no columns for; or
+   MMDB_NOT_OPEN or MMDB_NO_SUCH_STATEMENT. */
 uint32_t mmdb_columns(mmdb *db, uint32_t statement, mmdb_rows *columns);
 
 /* Frees a statement: its rows are good no longer, and its number may be given to another. It needs no memory. The
@@ -189,9 +197,9 @@ uint32_t mmdb_finalize(mmdb *db, uint32_t statement);
    dropped.
    Gives MMDB_DONE: and of a select its rows, which are good until the next mmdb_query on this handle or mmdb_close,
    whatever other calls there are; of the others `changed`, and no rows. Or gives MMDB_NOT_OPEN or MMDB_NO_LINE; or
-   MMDB_REFUSED as mmdb_command would be answered, in the same order, and by 90 where no memory is found. A line feed,
-   a ? in no text, blanks, comments and all other commands are 20, once the line is neither too long (10) nor other
-   than UTF-8 (11). */
+   MMDB_REFUSED as mmdb_command would be answered, in the same order, and by 90 when out of memory. A line feed, a ? in
+   no text, blanks, comments and all other commands are 20, once the line is neither too long (10) nor other than UTF-8
+   (11). Or gives MMDB_TOO_LARGE where the texts of the rows are more than 4 GiB together. */
 uint32_t mmdb_query(mmdb *db, const void *line, size_t length, mmdb_rows *rows);
 
 /* Takes the next bytes of a stream of lines and blocks, cut wherever it may be, and answers each request that ends in
@@ -247,7 +255,7 @@ uint32_t mmdb_prepare_reason(mmdb *db, const void *line, size_t length, mmdb_byt
    where none was found for the words. */
 uint32_t mmdb_statement_reason(mmdb *db, uint32_t statement, mmdb_bytes *reason);
 
-/* Closes a handle and gives back all that it holds; its answers are good no longer. It is MMDB_CLOSED then, and may be
+/* Closes a handle and frees all that it holds; its answers are no longer valid. It is MMDB_CLOSED then, and may be
    opened again. Of a closed handle and of null nothing is done. */
 void mmdb_close(mmdb *db);
 
@@ -294,6 +302,8 @@ static inline const char *mmdb_status_text(uint32_t status)
         return "the text is not UTF-8";
     case MMDB_REFUSED:
         return "refused, as the answer tells";
+    case MMDB_TOO_LARGE:
+        return "more than 4 GiB of texts, or 4294967296 statements";
     default:
         return "no such status";
     }
@@ -305,19 +315,30 @@ static inline const char *mmdb_status_text(uint32_t status)
 
 static inline int mmdb_checked_is_closed(const mmdb *db)
 {
-    return db == NULL || db->inside == NULL;
+    return !db || !db->inside;
+}
+
+/* What the library gives, as a status. */
+static inline mmdb_status mmdb_checked_status(uint32_t status)
+{
+#ifdef __cplusplus
+    return static_cast<mmdb_status>(status);
+#else
+    return (mmdb_status)status;
+#endif
 }
 
 static inline const void *mmdb_checked_bytes(const void *bytes)
 {
-    return bytes == NULL ? "" : bytes;
+    return bytes ? bytes : "";
 }
 
 /* Where the answer goes: to the caller, or where it isn't wanted to a place of its own. It has no bytes at first. */
 static inline mmdb_bytes *mmdb_checked_answer_at(mmdb_bytes *answer, mmdb_bytes *unwanted)
 {
-    mmdb_bytes *to = answer == NULL ? unwanted : answer;
-    to->at = (const unsigned char *)"";
+    static const unsigned char no_bytes[1] = { 0 };
+    mmdb_bytes *to = answer ? answer : unwanted;
+    to->at = no_bytes;
     to->length = 0;
     return to;
 }
@@ -326,9 +347,10 @@ static inline mmdb_bytes *mmdb_checked_answer_at(mmdb_bytes *answer, mmdb_bytes 
 static inline mmdb_rows *mmdb_checked_rows_at(mmdb_rows *rows, mmdb_rows *unwanted)
 {
     static const mmdb_cell no_cell = { 0, 0, 0, MMDB_NULL };
-    mmdb_rows *to = rows == NULL ? unwanted : rows;
+    static const unsigned char no_bytes[1] = { 0 };
+    mmdb_rows *to = rows ? rows : unwanted;
     to->cells = &no_cell;
-    to->texts = (const unsigned char *)"";
+    to->texts = no_bytes;
     to->rows = 0;
     to->columns = 0;
     to->changed = 0;
@@ -338,7 +360,7 @@ static inline mmdb_rows *mmdb_checked_rows_at(mmdb_rows *rows, mmdb_rows *unwant
 /* Where a statement goes: as answers do. At first its number names none. */
 static inline mmdb_statement *mmdb_checked_statement_at(mmdb_statement *statement, mmdb_statement *unwanted)
 {
-    mmdb_statement *to = statement == NULL ? unwanted : statement;
+    mmdb_statement *to = statement ? statement : unwanted;
     to->number = UINT32_MAX;
     to->places = 0;
     return to;
@@ -346,7 +368,7 @@ static inline mmdb_statement *mmdb_checked_statement_at(mmdb_statement *statemen
 
 static inline mmdb_status mmdb_checked_open(mmdb *db, uint32_t policy, uint32_t rows, uint32_t block)
 {
-    return db == NULL ? MMDB_NOT_OPEN : (mmdb_status)mmdb_open(db, policy, rows, block);
+    return !db ? MMDB_NOT_OPEN : mmdb_checked_status(mmdb_open(db, policy, rows, block));
 }
 
 static inline mmdb_status mmdb_checked_command(mmdb *db, const void *line, size_t length, mmdb_bytes *answer)
@@ -355,9 +377,9 @@ static inline mmdb_status mmdb_checked_command(mmdb *db, const void *line, size_
     mmdb_bytes *to = mmdb_checked_answer_at(answer, &unwanted);
     if (mmdb_checked_is_closed(db))
         return MMDB_NOT_OPEN;
-    if (line == NULL)
+    if (!line)
         return MMDB_NO_LINE;
-    return (mmdb_status)mmdb_command(db, line, length, to);
+    return mmdb_checked_status(mmdb_command(db, line, length, to));
 }
 
 static inline mmdb_status mmdb_checked_load(mmdb *db, const void *line, size_t length, const void *block,
@@ -367,9 +389,9 @@ static inline mmdb_status mmdb_checked_load(mmdb *db, const void *line, size_t l
     mmdb_bytes *to = mmdb_checked_answer_at(answer, &unwanted);
     if (mmdb_checked_is_closed(db))
         return MMDB_NOT_OPEN;
-    if (line == NULL || (block == NULL && block_length != 0))
+    if (!line || (!block && block_length != 0))
         return MMDB_NO_LINE;
-    return (mmdb_status)mmdb_load(db, line, length, mmdb_checked_bytes(block), block_length, to);
+    return mmdb_checked_status(mmdb_load(db, line, length, mmdb_checked_bytes(block), block_length, to));
 }
 
 static inline mmdb_status mmdb_checked_prepare(mmdb *db, const void *line, size_t length, mmdb_statement *statement)
@@ -378,14 +400,16 @@ static inline mmdb_status mmdb_checked_prepare(mmdb *db, const void *line, size_
     mmdb_statement *to = mmdb_checked_statement_at(statement, &unwanted);
     if (mmdb_checked_is_closed(db))
         return MMDB_NOT_OPEN;
-    if (line == NULL)
+    if (!line)
         return MMDB_NO_LINE;
-    return (mmdb_status)mmdb_prepare(db, line, length, to);
+    return mmdb_checked_status(mmdb_prepare(db, line, length, to));
 }
 
 static inline mmdb_status mmdb_checked_bind_integer(mmdb *db, uint32_t statement, uint32_t place, int64_t value)
 {
-    return mmdb_checked_is_closed(db) ? MMDB_NOT_OPEN : (mmdb_status)mmdb_bind_integer(db, statement, place, value);
+    if (mmdb_checked_is_closed(db))
+        return MMDB_NOT_OPEN;
+    return mmdb_checked_status(mmdb_bind_integer(db, statement, place, value));
 }
 
 static inline mmdb_status mmdb_checked_bind_text(mmdb *db, uint32_t statement, uint32_t place, const void *text,
@@ -393,33 +417,33 @@ static inline mmdb_status mmdb_checked_bind_text(mmdb *db, uint32_t statement, u
 {
     if (mmdb_checked_is_closed(db))
         return MMDB_NOT_OPEN;
-    if (text == NULL && length != 0)
+    if (!text && length != 0)
         return MMDB_NO_LINE;
-    return (mmdb_status)mmdb_bind_text(db, statement, place, mmdb_checked_bytes(text), length);
+    return mmdb_checked_status(mmdb_bind_text(db, statement, place, mmdb_checked_bytes(text), length));
 }
 
 static inline mmdb_status mmdb_checked_bind_null(mmdb *db, uint32_t statement, uint32_t place)
 {
-    return mmdb_checked_is_closed(db) ? MMDB_NOT_OPEN : (mmdb_status)mmdb_bind_null(db, statement, place);
+    return mmdb_checked_is_closed(db) ? MMDB_NOT_OPEN : mmdb_checked_status(mmdb_bind_null(db, statement, place));
 }
 
 static inline mmdb_status mmdb_checked_execute(mmdb *db, uint32_t statement, mmdb_rows *rows)
 {
     mmdb_rows unwanted;
     mmdb_rows *to = mmdb_checked_rows_at(rows, &unwanted);
-    return mmdb_checked_is_closed(db) ? MMDB_NOT_OPEN : (mmdb_status)mmdb_execute(db, statement, to);
+    return mmdb_checked_is_closed(db) ? MMDB_NOT_OPEN : mmdb_checked_status(mmdb_execute(db, statement, to));
 }
 
 static inline mmdb_status mmdb_checked_columns(mmdb *db, uint32_t statement, mmdb_rows *columns)
 {
     mmdb_rows unwanted;
     mmdb_rows *to = mmdb_checked_rows_at(columns, &unwanted);
-    return mmdb_checked_is_closed(db) ? MMDB_NOT_OPEN : (mmdb_status)mmdb_columns(db, statement, to);
+    return mmdb_checked_is_closed(db) ? MMDB_NOT_OPEN : mmdb_checked_status(mmdb_columns(db, statement, to));
 }
 
 static inline mmdb_status mmdb_checked_finalize(mmdb *db, uint32_t statement)
 {
-    return mmdb_checked_is_closed(db) ? MMDB_NOT_OPEN : (mmdb_status)mmdb_finalize(db, statement);
+    return mmdb_checked_is_closed(db) ? MMDB_NOT_OPEN : mmdb_checked_status(mmdb_finalize(db, statement));
 }
 
 static inline mmdb_status mmdb_checked_query(mmdb *db, const void *line, size_t length, mmdb_rows *rows)
@@ -428,18 +452,18 @@ static inline mmdb_status mmdb_checked_query(mmdb *db, const void *line, size_t 
     mmdb_rows *to = mmdb_checked_rows_at(rows, &unwanted);
     if (mmdb_checked_is_closed(db))
         return MMDB_NOT_OPEN;
-    if (line == NULL)
+    if (!line)
         return MMDB_NO_LINE;
-    return (mmdb_status)mmdb_query(db, line, length, to);
+    return mmdb_checked_status(mmdb_query(db, line, length, to));
 }
 
 static inline mmdb_status mmdb_checked_feed(mmdb *db, const void *piece, size_t length)
 {
     if (mmdb_checked_is_closed(db))
         return MMDB_NOT_OPEN;
-    if (piece == NULL && length != 0)
+    if (!piece && length != 0)
         return MMDB_NO_LINE;
-    return (mmdb_status)mmdb_feed(db, mmdb_checked_bytes(piece), length);
+    return mmdb_checked_status(mmdb_feed(db, mmdb_checked_bytes(piece), length));
 }
 
 static inline mmdb_status mmdb_checked_indexes(mmdb *db, const void *table, size_t length, mmdb_bytes *answer)
@@ -448,16 +472,16 @@ static inline mmdb_status mmdb_checked_indexes(mmdb *db, const void *table, size
     mmdb_bytes *to = mmdb_checked_answer_at(answer, &unwanted);
     if (mmdb_checked_is_closed(db))
         return MMDB_NOT_OPEN;
-    if (table == NULL && length != 0)
+    if (!table && length != 0)
         return MMDB_NO_LINE;
-    return (mmdb_status)mmdb_indexes(db, mmdb_checked_bytes(table), length, to);
+    return mmdb_checked_status(mmdb_indexes(db, mmdb_checked_bytes(table), length, to));
 }
 
 static inline mmdb_status mmdb_checked_answer(mmdb *db, mmdb_bytes *answer)
 {
     mmdb_bytes unwanted;
     mmdb_bytes *to = mmdb_checked_answer_at(answer, &unwanted);
-    return mmdb_checked_is_closed(db) ? MMDB_NOT_OPEN : (mmdb_status)mmdb_answer(db, to);
+    return mmdb_checked_is_closed(db) ? MMDB_NOT_OPEN : mmdb_checked_status(mmdb_answer(db, to));
 }
 
 static inline uint32_t mmdb_checked_refusal(mmdb *db)
@@ -472,9 +496,9 @@ static inline mmdb_status mmdb_checked_reason(mmdb *db, const void *line, size_t
     mmdb_bytes *to = mmdb_checked_answer_at(reason, &unwanted);
     if (mmdb_checked_is_closed(db))
         return MMDB_NOT_OPEN;
-    if (line == NULL || (block == NULL && block_length != 0))
+    if (!line || (!block && block_length != 0))
         return MMDB_NO_LINE;
-    return (mmdb_status)mmdb_reason(db, line, length, mmdb_checked_bytes(block), block_length, to);
+    return mmdb_checked_status(mmdb_reason(db, line, length, mmdb_checked_bytes(block), block_length, to));
 }
 
 static inline mmdb_status mmdb_checked_prepare_reason(mmdb *db, const void *line, size_t length, mmdb_bytes *reason)
@@ -483,16 +507,16 @@ static inline mmdb_status mmdb_checked_prepare_reason(mmdb *db, const void *line
     mmdb_bytes *to = mmdb_checked_answer_at(reason, &unwanted);
     if (mmdb_checked_is_closed(db))
         return MMDB_NOT_OPEN;
-    if (line == NULL)
+    if (!line)
         return MMDB_NO_LINE;
-    return (mmdb_status)mmdb_prepare_reason(db, line, length, to);
+    return mmdb_checked_status(mmdb_prepare_reason(db, line, length, to));
 }
 
 static inline mmdb_status mmdb_checked_statement_reason(mmdb *db, uint32_t statement, mmdb_bytes *reason)
 {
     mmdb_bytes unwanted;
     mmdb_bytes *to = mmdb_checked_answer_at(reason, &unwanted);
-    return mmdb_checked_is_closed(db) ? MMDB_NOT_OPEN : (mmdb_status)mmdb_statement_reason(db, statement, to);
+    return mmdb_checked_is_closed(db) ? MMDB_NOT_OPEN : mmdb_checked_status(mmdb_statement_reason(db, statement, to));
 }
 
 static inline void mmdb_checked_close(mmdb *db)
