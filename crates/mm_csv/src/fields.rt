@@ -52,7 +52,10 @@ pub fn write_values<W: ByteSink + Drop>(
 }
 
 /// Names as a record. After an error a part of it may have been written.
-pub fn write_names<W: ByteSink + Drop>(output: &mut Output<W>, names: &[Text]) -> Result<(), NoMemory>
+pub fn write_names<W: ByteSink + Drop>(
+    output: &mut Output<W>,
+    names: &[Text],
+) -> Result<(), NoMemory>
     requires { 0 < length names.now }
     ensures { OnOk result (Appends output.old output.new (record_text names.now)) }
 {

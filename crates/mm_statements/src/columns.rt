@@ -109,7 +109,11 @@ fn push_places(
 }
 
 /// Appends the columns that a query shows of the tables of a catalog. It reads no value.
-pub fn push_columns(cells: &mut Cells, catalog: &Catalog, query: &SlotQuery) -> Result<(), CellFault>
+pub fn push_columns(
+    cells: &mut Cells,
+    catalog: &Catalog,
+    query: &SlotQuery,
+) -> Result<(), CellFault>
     ensures { OnOk result (values_of cells.new ≡ values_of cells.old ++ columns_of_query (database_of catalog.now) query.now) }
 {
     match &query.shown {
