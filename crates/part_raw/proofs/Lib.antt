@@ -22,3 +22,4 @@ pub mod Tables
 pub mod Mapped
 pub mod Relinked
 pub mod Spared
+pub mod Crosses

@@ -27,6 +27,10 @@ impl<T> Model for Slots<T> {
     ghost also_shares = { λ s _ κ. block_lends T.row s.ptr s.held κ };
 }
 
+unsafe impl<T: Send> Send for Slots<T> {}
+
+unsafe impl<T: Sync> Sync for Slots<T> {}
+
 // The right to give a block of `count` slots back to its allocator, where that is not 0. It takes no space.
 pub struct Deed<T, A: Allocator> {
     mark: PhantomData<*const (T, A)>,
@@ -40,6 +44,11 @@ impl<T, A: Allocator> Model for Deed<T, A> {
 
     ghost also_shares = { λ _ _ _. ftrue };
 }
+
+unsafe impl<T, A: Allocator + Send> Send for Deed<T, A> {}
+
+// A `&` to it holds nothing.
+unsafe impl<T, A: Allocator> Sync for Deed<T, A> {}
 
 // A block of `count` empty slots.
 pub(crate) fn allocate<T, A: Allocator>(

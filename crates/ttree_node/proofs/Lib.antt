@@ -21,3 +21,4 @@ pub mod TurnSteps
 pub mod Visit
 pub mod Sharing
 pub mod Successors
+pub mod Crosses

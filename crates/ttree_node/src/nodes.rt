@@ -21,6 +21,10 @@ impl NodePlace {
     }
 }
 
+unsafe impl Send for NodePlace {}
+
+unsafe impl Sync for NodePlace {}
+
 // The owner of the nodes' memory. It takes no space: the places lie in the nodes.
 pub struct Nodes<T> {
     mark: PhantomData<*mut T>,
@@ -32,6 +36,10 @@ impl<T> Model for Nodes<T> {
 
     ghost also_shares = { λ n _ κ. held_lent T.row n.held κ };
 }
+
+unsafe impl<T: Send> Send for Nodes<T> {}
+
+unsafe impl<T: Sync> Sync for Nodes<T> {}
 
 impl<T> Nodes<T> {
     ghost use Rattle.std.specs.Prelude.{◌<◌, Some, None, IsSome};
