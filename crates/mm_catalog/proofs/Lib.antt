@@ -45,6 +45,8 @@ pub mod Taking
 pub mod Inserted
 pub mod Loaded
 pub mod TakenBack
+pub mod Outlined
+pub mod Unnamed
 pub mod LoadSteps
 pub mod NamedTables
 pub mod UpdateNeeds

@@ -1,9 +1,9 @@
 -- Lists, by what they have at each place.
-use Rattle.std.proofs.Common.{◌≡◌, ◌≢◌, ℕ, zero, suc, ◌+◌, ◌<◌, List, [], ◌∷◌, Some, refl, sym, ap, ◌∙◌, subst, arith, length, map, set, take, drop, get_or, add-one, ◌++◌}
+use Rattle.std.proofs.Common.{◌≡◌, ◌≢◌, ℕ, zero, suc, ◌+◌, ◌-◌, ◌<◌, List, [], ◌∷◌, Some, refl, sym, ap, ◌∙◌, subst, arith, length, map, set, take, drop, get_or, add-one, ◌++◌}
 use Rattle.std.specs.List.{slice_get, zip, All, flat_map}
 use Rattle.std.proofs.lemmas.List.Folds.{flat_map-map}
 use Rattle.std.proofs.Math.Seq.{take-append_seam}
-use Rattle.std.proofs.lemmas.List.{length-drop}
+use Rattle.std.proofs.lemmas.List.{length-drop, take_all}
 use Rattle.std.proofs.lemmas.Option.{none-some, same_Some}
 use Rattle.std.proofs.lemmas.List.Elements.{All-head, All-tail}
 
@@ -85,6 +85,10 @@ drop-behind (x ∷ xs) (suc n) = drop-behind xs n
 
 drop-one : {A : Type 0} (xs : List A) (n : ℕ) → drop 1 (drop n xs) ≡ drop (n + 1) xs
 drop-one xs n = drop-behind xs n ∙ ap (λ k. drop k xs) (sym (add-one n))
+
+-- all that is left
+pub rest_whole : {A : Type 0} (xs : List A) (n : ℕ) → take (length xs - n) (drop n xs) ≡ drop n xs
+rest_whole xs n = take_all (length xs - n) (drop n xs) (omega (arith, length-drop n xs))
 
 -- where so many elements went, something is left, and then one element less
 module _ {A : Type 0} (all : List A) {left : List A} (n : ℕ) (are : left ≡ drop n all) where

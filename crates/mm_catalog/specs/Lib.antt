@@ -8,6 +8,7 @@ pub mod Dropped
 pub mod Inserted
 pub mod Linked
 pub mod Loaded
+pub mod Outline
 pub mod Picked
 pub mod Recounted
 pub mod Counted

@@ -1,5 +1,5 @@
 //! The tables, and what they are called.
-ghost use Rattle.std.specs.Prelude.{◌≡◌, ◌≢◌, ◌<◌, ◌≤◌, ◌⊎◌, Bool, true, false, [], All, Some, IfSome, IfNone, IfErr, IfOk, OnOk, OnErr, length, map, position, slice_get};
+ghost use Rattle.std.specs.Prelude.{◌≡◌, ◌≢◌, ◌<◌, ◌≤◌, ◌⊎◌, Bool, true, false, [], ◌∷◌, All, Some, IfSome, IfNone, IfErr, IfOk, OnOk, OnErr, length, map, position, slice_get};
 ghost use Rattle.std.specs.List.{AllPairs};
 ghost use Rattle.std.specs.Option.{option_map};
 
@@ -9,7 +9,7 @@ use crate::declare::{declare, undeclare};
 use crate::delete::{delete, take_out};
 use crate::insert::insert;
 use crate::laws::a_catalog_is_consistent;
-use crate::load::{LoadedRows, MovedRows, PlacedRows, in_record, room_for};
+use crate::load::{LoadedRows, MovedRows, PlacedRows, in_record, make_room};
 use crate::references::link::Link;
 use crate::removal::{renumber_behind, unlink};
 use crate::row_values::{LentValues, RowValues};
@@ -67,6 +67,7 @@ impl Catalog {
     ghost use Rattle.mm_catalog.specs.Changes.{IsDone, HasEffect, IsRefusedFor, IsDeclinedFor, KeepsDatabase};
     ghost use Rattle.mm_catalog.specs.LoadOrder.{row_at};
     ghost use Rattle.mm_catalog.specs.Loaded.{HasCome, HaveGone, AreFreeRows};
+    ghost use Rattle.mm_catalog.specs.Outline.{HasRowsMore, HaveCome, outline_of, without_rows};
     ghost use Rattle.mm_catalog.specs.Picked.{ArePicked, HoldsRows};
     ghost use Rattle.plain_tables.specs.Databases.{is_named};
     ghost use Rattle.mm_resolver.specs.Naming.{table_number};
@@ -230,8 +231,18 @@ impl Catalog {
         ensures inserted { OnOk result (HasEffect self.old self.new (done self.old.limits (database_of self.old) (resolved.Insert table values.now)) 1) }
         ensures refused { IfErr result (IsRefusedFor self.old self.new (done self.old.limits (database_of self.old) (resolved.Insert table values.now))) }
     {
-        self.put(table, LentValues { values })?;
+        self.insert_row(table, values)?;
         Ok(())
+    }
+
+    /// Puts a row into a table as `insert` does, and gives its reference.
+    pub fn insert_row(&mut self, table: TableNumber, values: &[Value]) -> Result<TupleRef, Refusal>
+        requires { IsMeant self.old.limits (database_of self.old) (resolved.Insert table values.now) }
+        ensures inserted { OnOk result (HasEffect self.old self.new (done self.old.limits (database_of self.old) (resolved.Insert table values.now)) 1) }
+        ensures came { IfOk result (λ r. HasRowsMore (outline_of self.old) (outline_of self.new) table.0 (r ∷ [])) }
+        ensures refused { IfErr result (IsRefusedFor self.old self.new (done self.old.limits (database_of self.old) (resolved.Insert table values.now))) }
+    {
+        self.put(table, LentValues { values })
     }
 
     // Puts a row into a table, and gives its reference.
@@ -252,13 +263,14 @@ impl Catalog {
         )
     }
 
-    // Takes rows out of a table that no link names.
-    fn take_back(&mut self, table: TableNumber, rows: &[TupleRef])
+    /// Takes rows out of a table that no link names. It takes no memory, and never fails.
+    pub fn take_back(&mut self, table: TableNumber, rows: &[TupleRef])
         requires there { table.0 < length (database_of self.old) }
         requires held { HoldsRows self.old table.0 rows.now }
         requires once { AllPairs (λ q r. q ≢ r) rows.now }
         requires free { AreFreeRows self.old table.0 rows.now }
-        ensures { HaveGone self.old self.new table.0 rows.now }
+        ensures gone { HaveGone self.old self.new table.0 rows.now }
+        ensures outline { outline_of self.new ≡ without_rows table.0 rows.now (outline_of self.old) }
     {
         take_out(self.relations.as_mut_slice(), table, rows)
     }
@@ -274,19 +286,46 @@ impl Catalog {
         ensures loaded { OnOk result (HasEffect self.old self.new (done self.old.limits (database_of self.old) (resolved.Load table rows)) (length rows)) }
         ensures refused { IfErr result (IsDeclinedFor self.old self.new (done self.old.limits (database_of self.old) (resolved.Load table rows))) }
     {
-        let rows = rows.into_vec();
-        if self.load_by_key(table, rows.as_slice()) {
-            return Ok(());
-        }
-        self.load(table, MovedRows::new(rows))
+        let mut came = Vec::new(self.allocator());
+        self.load_listed(table, rows, &mut came)
     }
 
-    // Puts rows into a table in the order of their keys, where that serves and all of them come in. Else it leaves the tables
-    // as they were.
-    fn load_by_key(&mut self, table: TableNumber, rows: &[Sequence<Value>]) -> bool
+    /// Puts rows into a table as `load_rows` does, and puts their references behind those of a list. After a refusal the list and
+    /// the rows are as before, each under its reference.
+    pub fn load_listed(
+        &mut self,
+        table: TableNumber,
+        rows: Sequence<Sequence<Value>>,
+        came: &mut Vec<TupleRef>,
+    ) -> Result<(), Refusal>
+        requires { IsMeant self.old.limits (database_of self.old) (resolved.Load table rows) }
+        ensures loaded { OnOk result (HasEffect self.old self.new (done self.old.limits (database_of self.old) (resolved.Load table rows)) (length rows)) }
+        ensures came { OnOk result (HaveCome self.old self.new table.0 came.old.items came.new.items) }
+        ensures refused { IfErr result (IsDeclinedFor self.old self.new (done self.old.limits (database_of self.old) (resolved.Load table rows))) }
+        ensures outline { OnErr result (outline_of self.new ≡ outline_of self.old) }
+        ensures list { OnErr result (came.new.items ≡ came.old.items) }
+    {
+        let rows = rows.into_vec();
+        if self.load_by_key(table, rows.as_slice(), came) {
+            return Ok(());
+        }
+        self.load(table, MovedRows::new(rows), came)
+    }
+
+    // Puts rows into a table in the order of their keys, where that serves and all of them come in, and lists their references.
+    // Else it leaves the tables and the list as they were.
+    fn load_by_key(
+        &mut self,
+        table: TableNumber,
+        rows: &[Sequence<Value>],
+        came: &mut Vec<TupleRef>,
+    ) -> bool
         requires { IsMeant self.old.limits (database_of self.old) (resolved.Load table rows.now) }
         ensures loaded { result ≡ true → HasEffect self.old self.new (done self.old.limits (database_of self.old) (resolved.Load table rows.now)) (length rows.now) }
+        ensures came { result ≡ true → HaveCome self.old self.new table.0 came.old.items came.new.items }
         ensures kept { result ≡ false → KeepsDatabase self.old self.new }
+        ensures outline { result ≡ false → outline_of self.new ≡ outline_of self.old }
+        ensures list { result ≡ false → came.new.items ≡ came.old.items }
     {
         a_catalog_is_consistent(self);
         let held = self.at(table).len();
@@ -296,27 +335,39 @@ impl Catalog {
                     rows,
                     places: places.as_slice(),
                 };
-                self.load(table, rows).is_ok()
+                self.load(table, rows, came).is_ok()
             }
             None => false,
         }
     }
 
-    // Puts rows into a table, one after the other. Where one of them cannot come in, those before it go out again.
-    fn load<R: LoadedRows>(&mut self, table: TableNumber, mut rows: R) -> Result<(), Refusal>
+    // Puts rows into a table, one after the other, and lists their references. Where one of them cannot come in, those before it
+    // go out again.
+    fn load<R: LoadedRows>(
+        &mut self,
+        table: TableNumber,
+        mut rows: R,
+        came: &mut Vec<TupleRef>,
+    ) -> Result<(), Refusal>
         requires { IsMeant self.old.limits (database_of self.old) (resolved.Load table (R.left rows)) }
         ensures loaded { OnOk result (HasEffect self.old self.new (done self.old.limits (database_of self.old) (resolved.Load table (R.left rows))) (length (R.left rows))) }
+        ensures came { OnOk result (HaveCome self.old self.new table.0 came.old.items came.new.items) }
         ensures refused { IfErr result (IsDeclinedFor self.old self.new (done self.old.limits (database_of self.old) (resolved.Load table (R.left rows)))) }
+        ensures outline { OnErr result (outline_of self.new ≡ outline_of self.old) }
+        ensures list { OnErr result (came.new.items ≡ came.old.items) }
     {
         a_catalog_is_consistent(self);
         let count = rows.len();
-        let mut taken = room_for(self.allocator(), count)?;
+        let start = came.len();
+        make_room(came, count)?;
         for _ in 0..count {
             match self.put(table, rows.next()) {
-                Ok(r) => taken.push_reserved(r),
+                Ok(r) => came.push_reserved(r),
                 Err(refusal) => {
-                    self.take_back(table, taken.as_slice());
-                    return Err(in_record(refusal, taken.len() as u64 + 1));
+                    self.take_back(table, &came[start..]);
+                    let number = (came.len() - start) as u64 + 1;
+                    came.truncate(start);
+                    return Err(in_record(refusal, number));
                 }
             }
         }

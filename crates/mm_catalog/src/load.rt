@@ -1,5 +1,5 @@
 //! Rows that come in together, and go out again where one of them cannot.
-ghost use Rattle.std.specs.Prelude.{◌≡◌, ◌<◌, ◌≤◌, List, [], Some, IfOk, drop, length, map, slice_get, vec_capacity};
+ghost use Rattle.std.specs.Prelude.{◌≡◌, ◌<◌, ◌≤◌, ◌+◌, List, Some, OnOk, drop, length, map, slice_get, vec_capacity};
 ghost use Rattle.plain_tables.specs.Doing as doing;
 ghost use Rattle.plain_tables.specs.Tables.{Row};
 ghost use Rattle.mm_catalog.specs.LoadOrder.{row_at};
@@ -9,7 +9,6 @@ use crate::row_values::{LentValues, MovedValues, RowValues};
 use no_memory::NoMemory;
 use part_raw::TupleRef;
 use plain_tables::{Refusal, Sequence, Value};
-use std::alloc::Global;
 use std::mem;
 
 /// The rows of a load, which come into a table one after the other.
@@ -108,11 +107,11 @@ pub fn in_record(refusal: Refusal, number: u64) -> Refusal
     }
 }
 
-/// A list with room for so many references.
-pub fn room_for(alloc: Global, count: usize) -> Result<Vec<TupleRef>, NoMemory>
-    ensures none { IfOk result (λ rows. rows.items ≡ []) }
-    ensures room { IfOk result (λ rows. count ≤ vec_capacity rows) }
+/// Makes sure of room in a list for so many references more.
+pub fn make_room(refs: &mut Vec<TupleRef>, count: usize) -> Result<(), NoMemory>
+    ensures same { refs.new.items ≡ refs.old.items }
+    ensures room { OnOk result (length refs.new.items + count ≤ vec_capacity refs.new) }
 {
-    let rows = Vec::with_capacity(alloc, count)?;
-    Ok(rows)
+    refs.reserve(count)?;
+    Ok(())
 }

@@ -1,34 +1,41 @@
-use Rattle.std.proofs.Common.{◌≡◌, ◌⊎◌, ℕ, ◌+◌, ◌<◌, Some, length, refl, sym, ap, ◌∙◌, subst, arith}
+use Rattle.std.proofs.Common.{◌≡◌, ◌⊎◌, ℕ, ◌+◌, ◌-◌, ◌<◌, [], ◌∷◌, ◌++◌, List, Some, append-nil, append_assoc, length, drop, take, refl, sym, ap, ◌∙◌, subst, arith}
 use Rattle.std.specs.List.{slice_get}
-use Rattle.std.proofs.lemmas.List.{length_push}
+use Rattle.std.proofs.Math.Seq.{drop-length}
+use Rattle.std.proofs.lemmas.List.{drop-append-le, length_push}
 use Rattle.std.proofs.lemmas.Option.{slice_get_within}
 use Rattle.common_lemmas.proofs.Places.{slice_get-inside}
 use Rattle.plain_tables.specs.Doing.{in_record, load}
 use Rattle.plain_tables.specs.Effects.{Refused}
 use Rattle.plain_tables.specs.declared.refusal.Refusal.{Refusal}
 use Rattle.plain_tables.specs.declared.refusal.Refusal.TheVariants.{NoMemory}
+use Rattle.part_raw.specs.declared.tuple_ref.TupleRef.{TupleRef}
 use Rattle.mm_catalog.specs.Loaded.{HasMore, HaveGone}
+use Rattle.mm_catalog.specs.Outline.{outline_of, without_rows}
 use Rattle.mm_catalog.specs.Seen.{database_of}
 use Rattle.mm_catalog.specs.State.{CatalogState}
 use Rattle.mm_catalog.proofs.Among.{there_at}
-use Rattle.mm_catalog.proofs.Lists.{drop-next, drop-some, get-drop}
+use Rattle.mm_catalog.proofs.Lists.{rest_whole, drop-next, drop-some, get-drop}
 use Rattle.mm_catalog.proofs.Loaded.{more_none, more_then}
 use Rattle.mm_catalog.proofs.LoadSteps.{under_way_none, under_way_meant, under_way_then, under_way_refused}
+use Rattle.mm_catalog.proofs.Outlined.{more_outlined}
 use Rattle.mm_catalog.proofs.TakenBack.{taken_back}
 use Rattle.mm_catalog.proofs.catalog.Catalog.load.Given.{Over}
 use Rattle.mm_catalog.proofs.catalog.Catalog.load.Goals as goal
-use Rattle.mm_catalog.proofs.catalog.Catalog.load.Goals.{After-next}
+use Rattle.mm_catalog.proofs.catalog.Catalog.load.Goals.{After-next, After-take_back}
 
 pub loop-init : goal.loop-init
 loop-init g c =
     let old : CatalogState = c.args.self.now in
     let n = c.args.table.0 in
     let there = slice_get-inside old.relations n (there_at old c.a_catalog_is_consistent.ensures n c.requires.0 c.requires.1) in
+    let same = c.in_ok-make_room.ensures.same in
+    let none = ap (drop (length c.args.came.now.items)) same ∙ drop-length c.args.came.now.items in
     record {
-      count = ap length c.in_ok-taken.ensures.none;
+      count = omega (arith, ap length same);
+      list = same ∙ sym (append-nil c.args.came.now.items) ∙ ap (λ refs. c.args.came.now.items ++ refs) (sym none);
       left = refl;
-      room = omega (arith, c.in_ok-taken.ensures.room, c.len-count.ensures);
-      more = subst (HasMore old old n) (sym c.in_ok-taken.ensures.none) (more_none old n there.0 there.1);
+      room = omega (arith, c.in_ok-make_room.ensures.room, ap length same, c.len-count.ensures);
+      more = subst (HasMore old old n) (sym none) (more_none old n there.0 there.1);
       way = under_way_none old c.args.table (g.R.LoadedRows.left c.args.rows) c.requires;
     }
 
@@ -49,13 +56,20 @@ pub loop-preserved : goal.loop-preserved
 loop-preserved g c =
     let rows = g.R.LoadedRows.left c.args.rows in
     let there = next g (goal.at.loop-preserved g c).After-next in
-    let taken = c.loop.taken.items in
+    let before = c.args.came.now.items in
+    let r = c.in-Ok.r in
+    let taken = drop (length before) c.loop.came.items in
+    let refs : drop (length before) c.push_reserved.new.self.items ≡ taken ++ r ∷ [] =
+    ap (drop (length before)) c.push_reserved.ensures.items ∙ drop-append-le (length before) c.loop.came.items (r ∷ []) (omega (arith, c.loop.invariant.count)) in
     record {
-      count = ap length c.push_reserved.ensures.items ∙ omega (arith, c.loop.invariant.count, length_push taken c.in-Ok.r);
+      count = ap length c.push_reserved.ensures.items ∙ omega (arith, c.loop.invariant.count, length_push c.loop.came.items r);
+      list =
+          c.push_reserved.ensures.items ∙ ap (λ items. items ++ r ∷ []) c.loop.invariant.list ∙ append_assoc before taken (r ∷ [])
+          ∙ ap (λ rs. before ++ rs) (sym refs);
       left = c.next.ensures.rest ∙ drop-next rows c.loop.counter c.loop.invariant.left;
       room = omega (arith, c.loop.invariant.room, c.push_reserved.ensures.capacity);
-      more = subst (HasMore c.args.self.now c.put.new.self c.args.table.0) (sym c.push_reserved.ensures.items)
-          (more_then c.args.self.now c.loop.self c.put.new.self c.args.table.0 _ taken c.in-Ok.r c.loop.invariant.more c.in-Ok.ensures.came);
+      more = subst (HasMore c.args.self.now c.put.new.self c.args.table.0) (sym refs)
+          (more_then c.args.self.now c.loop.self c.put.new.self c.args.table.0 _ taken r c.loop.invariant.more c.in-Ok.ensures.came);
       way = under_way_then c.args.self.now c.loop.self c.args.table rows c.loop.counter c.loop.invariant.way _ there c.put.new.self c.in-Ok.ensures.inserted;
     }
 
@@ -65,16 +79,44 @@ take_back-requires-clause-there g c =
     subst (λ (s : CatalogState). c.args.table.0 < length (database_of s)) (sym c.in-Err.ensures.refused.0)
     (slice_get_within (database_of c.loop.self) c.args.table.0 can.0 can.1)
 
+-- what came before the row that was refused, and went again
+came : (g : Over) (c : After-take_back g) → HasMore c.args.self.now c.put.new.self c.args.table.0 (drop (length c.args.came.now.items) c.loop.came.items)
+came g c =
+    subst (λ (s : CatalogState). HasMore c.args.self.now s c.args.table.0 (drop (length c.args.came.now.items) c.loop.came.items)) (sym c.in-Err.ensures.refused.0)
+    c.loop.invariant.more
+
+these : (g : Over) (c : After-take_back g) → take (length c.deref.result.now - c.len-start.result) (drop c.len-start.result c.deref.result.now) ≡ drop (length c.args.came.now.items) c.loop.came.items
+these g c =
+    let start : c.len-start.result ≡ length c.args.came.now.items = omega (arith, c.len-start.ensures, c.args.came.now.ok.0) in
+    ap (λ (xs : List TupleRef). take (length xs - c.len-start.result) (drop c.len-start.result xs)) c.deref.ensures.value
+    ∙ ap (λ (k : ℕ). take (length c.loop.came.items - k) (drop k c.loop.came.items)) start
+    ∙ rest_whole c.loop.came.items (length c.args.came.now.items)
+
+gone : (g : Over) (c : After-take_back g) → HaveGone c.put.new.self c.take_back.new.self c.args.table.0 (drop (length c.args.came.now.items) c.loop.came.items)
+gone g c = subst (HaveGone c.put.new.self c.take_back.new.self c.args.table.0) (these g c) c.take_back.ensures.gone
+
 pub returns-in-Err-clause-refused : goal.returns-in-Err-clause-refused
 returns-in-Err-clause-refused g c =
     let old : CatalogState = c.args.self.now in
     let rows = g.R.LoadedRows.left c.args.rows in
-    let taken = c.loop.taken.items in
-    let more : HasMore old c.put.new.self c.args.table.0 taken = subst (λ (s : CatalogState). HasMore old s c.args.table.0 taken) (sym c.in-Err.ensures.refused.0) c.loop.invariant.more in
-    let gone : HaveGone c.put.new.self c.take_back.new.self c.args.table.0 taken = subst (HaveGone c.put.new.self c.take_back.new.self c.args.table.0) c.as_slice.ensures.value c.take_back.ensures in
-    let place : c.len.result ≡ c.loop.counter = omega (arith, c.len.ensures, c.loop.invariant.count, c.loop.taken.ok.0) in
+    let more = came g (goal.at.returns-in-Err-clause-refused g c).After-take_back in
+    let place : c.len.result - c.len-start.result ≡ c.loop.counter = omega (arith, c.len.ensures, c.len-start.ensures, c.loop.invariant.count, c.loop.came.ok.0, c.args.came.now.ok.0) in
     let named : c.in_record.result ≡ in_record (c.loop.counter + 1) c.in-Err.refusal = c.in_record.ensures ∙ ap (λ (k : ℕ). in_record (k + 1) c.in-Err.refusal) place in (
-      taken_back old c.a_catalog_is_consistent.ensures c.put.new.self c.take_back.new.self c.args.table.0 taken more gone,
+      taken_back old c.a_catalog_is_consistent.ensures c.put.new.self c.take_back.new.self c.args.table.0 (drop (length c.args.came.now.items) c.loop.came.items) more (gone g (goal.at.returns-in-Err-clause-refused g c).After-take_back),
       subst (λ (e : Refusal). (e ≡ NoMemory) ⊎ ((load old.limits (database_of old) c.args.table rows).outcome ≡ Refused e)) (sym named)
           (under_way_refused old c.loop.self c.args.table rows c.loop.counter c.loop.invariant.way _ (next g (goal.at.returns-in-Err-clause-refused g c).After-next) c.put.new.self c.in-Err.refusal c.in-Err.ensures.refused),
     )
+
+pub returns-in-Err-clause-outline : goal.returns-in-Err-clause-outline
+returns-in-Err-clause-outline g c =
+    let more = came g (goal.at.returns-in-Err-clause-outline g c).After-take_back in
+    c.take_back.ensures.outline
+    ∙ ap (λ (refs : List TupleRef). without_rows c.args.table.0 refs (outline_of c.put.new.self)) (these g (goal.at.returns-in-Err-clause-outline g c).After-take_back)
+    ∙ (more_outlined c.args.self.now c.put.new.self c.args.table.0 (drop (length c.args.came.now.items) c.loop.came.items) more).others
+
+pub returns-clause-came : goal.returns-clause-came
+returns-clause-came g c = record {
+  refs = drop (length c.args.came.now.items) c.loop.came.items;
+  more = more_outlined c.args.self.now c.loop.self c.args.table.0 (drop (length c.args.came.now.items) c.loop.came.items) c.loop.invariant.more;
+  list = c.loop.invariant.list;
+}
