@@ -1,0 +1,4 @@
+pub mod KeyOrder
+pub mod Tables
+pub mod Undoing
+pub mod Steps

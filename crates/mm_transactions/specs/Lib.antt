@@ -1,0 +1,5 @@
+pub mod Undoing
+pub mod Log
+pub mod Tables
+pub mod State
+pub mod Lent

@@ -1,0 +1,23 @@
+//! Transactions over a catalog: begin, commit and rollback, one in another as deep as wanted.
+//!
+//! ```text
+//!  catalog    the tables as they are
+//!  log        steps   emp: 2 rows came │ dept: 1 row came │ emp: 1 row came     the oldest first
+//!             refs    7 8              │ 3                │ 9
+//!             marks   0                                   2                    where each open transaction begins
+//! ```
+//!
+//! A rollback takes the steps back to the innermost mark, the newest first. Nothing is copied when a transaction begins. It knows
+//! no names and makes no checks: the catalog does the changes, and says of each which rows came.
+//!
+//! - Each open transaction can be rolled back to just the database that it began with, without memory.
+//! - Outside a transaction nothing is noted.
+//! - In a transaction rows are inserted and loaded. All other changes are made outside.
+#![tactic(auto)]
+
+mod log;
+mod no_transaction;
+mod transactional;
+
+pub use no_transaction::NoTransaction;
+pub use transactional::TransactionalCatalog;

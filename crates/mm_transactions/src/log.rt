@@ -1,0 +1,204 @@
+//! What was done in the open transactions, and how it is undone.
+ghost use Rattle.std.specs.Prelude.{◌≡◌, ◌≢◌, ◌<◌, ◌≤◌, ◌∷◌, ℕ, [], MatchOption, IfErr, OnOk, OnErr, length, vec_capacity};
+
+use mm_catalog::Catalog;
+use mm_catalog::laws::a_catalog_is_consistent;
+use no_memory::NoMemory;
+use part_raw::TupleRef;
+use plain_tables::{Refusal, Sequence, TableNumber, Value};
+use std::alloc::Global;
+use std::marker::Model;
+
+/// A command that was done: rows came into a table. Their references stand in the log's list from `start` to the next step's.
+#[derive(Clone, Copy)]
+pub struct Step {
+    table: TableNumber,
+    start: usize,
+}
+
+// So many steps and references a log keeps room for when no transaction is open.
+const KEPT: usize = 256;
+
+/// The steps of the open transactions.
+#[derive(Drop)]
+pub struct UndoLog {
+    steps: Vec<Step>,
+    // The references of all steps, one behind the other.
+    refs: Vec<TupleRef>,
+    // How many steps there were when each transaction began, the innermost last.
+    marks: Vec<usize>,
+}
+
+impl Model for UndoLog {
+    ghost use Rattle.std.specs.Prelude.{reverse, length};
+    ghost use Rattle.mm_transactions.specs.Log.{LogState, changes_of, AreSteps};
+
+    ghost Value = { LogState };
+
+    ghost view = { λ l. record { changes = changes_of (reverse l.steps.items) l.refs.items; marks = reverse l.marks.items } };
+
+    ghost invariant = { λ l. AreSteps (reverse l.steps.items) (length l.refs.items) };
+}
+
+impl UndoLog {
+    ghost use Rattle.plain_tables.specs.Doing.{done};
+    ghost use Rattle.plain_tables.specs.ResolvedLaws.{IsMeant};
+    ghost use Rattle.plain_tables.specs.declared.resolved.Resolved.TheVariants as resolved;
+    ghost use Rattle.mm_catalog.specs.Changes.{HasEffect, IsRefusedFor, IsDeclinedFor};
+    ghost use Rattle.mm_catalog.specs.Outline.{outline_of};
+    ghost use Rattle.mm_catalog.specs.Seen.{database_of};
+    ghost use Rattle.mm_transactions.specs.Log.{IsNoted, IsUndone};
+    ghost use Rattle.mm_transactions.specs.Undoing.{CanUndo, undone};
+
+    /// No steps, and no transaction. It takes no memory.
+    pub fn new(alloc: Global) -> UndoLog
+        ensures changes { result.changes ≡ [] }
+        ensures marks { result.marks ≡ [] }
+    {
+        UndoLog {
+            steps: Vec::new(alloc),
+            refs: Vec::new(alloc),
+            marks: Vec::new(alloc),
+        }
+    }
+
+    /// How many steps there are.
+    pub fn len(&self) -> usize
+        ensures { result ≡ length self.now.changes }
+    {
+        self.steps.len()
+    }
+
+    /// How many transactions are open.
+    pub fn depth(&self) -> usize
+        ensures { result ≡ length self.now.marks }
+    {
+        self.marks.len()
+    }
+
+    /// Opens a transaction in those that are open.
+    pub fn open(&mut self) -> Result<(), NoMemory>
+        ensures changes { self.new.changes ≡ self.old.changes }
+        ensures opened { OnOk result (self.new.marks ≡ length self.old.changes ∷ self.old.marks) }
+        ensures unchanged { OnErr result (self.new ≡ self.old) }
+    {
+        self.marks.push(self.steps.len())?;
+        Ok(())
+    }
+
+    /// Closes the innermost transaction, and tells how many steps there were when it began.
+    pub fn close(&mut self) -> Option<usize>
+        ensures changes { self.new.changes ≡ self.old.changes }
+        ensures closed { MatchOption result ((self.old.marks ≡ []) × (self.new ≡ self.old)) (λ mark. self.old.marks ≡ mark ∷ self.new.marks) }
+    {
+        self.marks.pop()
+    }
+
+    /// Where no transaction is open, forgets the steps, and gives memory back where they took much.
+    pub fn settle(&mut self)
+        ensures marks { self.new.marks ≡ self.old.marks }
+        ensures inside { self.old.marks ≢ [] → self.new ≡ self.old }
+        ensures outside { self.old.marks ≡ [] → self.new.changes ≡ [] }
+    {
+        if self.marks.is_empty() {
+            empty_list(&mut self.steps);
+            empty_list(&mut self.refs);
+        }
+    }
+
+    /// Inserts a row into a table of a catalog, and notes it.
+    pub fn insert(
+        &mut self,
+        catalog: &mut Catalog,
+        table: TableNumber,
+        values: &[Value],
+    ) -> Result<(), Refusal>
+        requires { IsMeant catalog.old.limits (database_of catalog.old) (resolved.Insert table values.now) }
+        ensures inserted { OnOk result (HasEffect catalog.old catalog.new (done catalog.old.limits (database_of catalog.old) (resolved.Insert table values.now)) 1) }
+        ensures noted { OnOk result (IsNoted (outline_of catalog.old) (outline_of catalog.new) self.old self.new) }
+        ensures refused { IfErr result (IsRefusedFor catalog.old catalog.new (done catalog.old.limits (database_of catalog.old) (resolved.Insert table values.now))) }
+        ensures unchanged { OnErr result (self.new ≡ self.old) }
+    {
+        make_room(&mut self.steps, &mut self.refs)?;
+        let r = catalog.insert_row(table, values)?;
+        let step = Step {
+            table,
+            start: self.refs.len(),
+        };
+        self.refs.push_reserved(r);
+        self.steps.push_reserved(step);
+        Ok(())
+    }
+
+    /// Loads rows into a table of a catalog, and notes them.
+    pub fn load_rows(
+        &mut self,
+        catalog: &mut Catalog,
+        table: TableNumber,
+        rows: Sequence<Sequence<Value>>,
+    ) -> Result<(), Refusal>
+        requires { IsMeant catalog.old.limits (database_of catalog.old) (resolved.Load table rows) }
+        ensures loaded { OnOk result (HasEffect catalog.old catalog.new (done catalog.old.limits (database_of catalog.old) (resolved.Load table rows)) (length rows)) }
+        ensures noted { OnOk result (IsNoted (outline_of catalog.old) (outline_of catalog.new) self.old self.new) }
+        ensures refused { IfErr result (IsDeclinedFor catalog.old catalog.new (done catalog.old.limits (database_of catalog.old) (resolved.Load table rows))) }
+        ensures outline { OnErr result (outline_of catalog.new ≡ outline_of catalog.old) }
+        ensures unchanged { OnErr result (self.new ≡ self.old) }
+    {
+        make_room(&mut self.steps, &mut self.refs)?;
+        let start = self.refs.len();
+        catalog.load_listed(table, rows, &mut self.refs)?;
+        self.steps.push_reserved(Step { table, start });
+        Ok(())
+    }
+
+    // Undoes the newest step. It takes no memory.
+    fn undo_newest(&mut self, catalog: &mut Catalog)
+        requires some { 0 < length self.old.changes }
+        requires ready { CanUndo self.old.changes (outline_of catalog.old) }
+        ensures undone { IsUndone (outline_of catalog.old) (outline_of catalog.new) self.old self.new }
+    {
+        a_catalog_is_consistent(catalog);
+        let Some(step) = self.steps.pop() else {
+            unreachable!();
+        };
+        catalog.take_back(step.table, &self.refs[step.start..]);
+        self.refs.truncate(step.start);
+    }
+
+    /// Undoes steps, the newest first, until so many are left. It takes no memory, and never fails.
+    pub fn undo_to(&mut self, catalog: &mut Catalog, mark: usize)
+        requires within { mark ≤ length self.old.changes }
+        requires ready { CanUndo self.old.changes (outline_of catalog.old) }
+        ensures ready { CanUndo self.new.changes (outline_of catalog.new) }
+        ensures left { length self.new.changes ≡ mark }
+        ensures marks { self.new.marks ≡ self.old.marks }
+        ensures earlier { (m : ℕ) → m ≤ mark → undone m self.new.changes (outline_of catalog.new) ≡ undone m self.old.changes (outline_of catalog.old) }
+    {
+        while self.len() > mark {
+            self.undo_newest(catalog);
+        }
+    }
+}
+
+// Makes sure of room for a step more, and a reference.
+fn make_room(steps: &mut Vec<Step>, refs: &mut Vec<TupleRef>) -> Result<(), NoMemory>
+    ensures steps { steps.new.items ≡ steps.old.items }
+    ensures refs { refs.new.items ≡ refs.old.items }
+    ensures step_room { OnOk result (length steps.new.items < vec_capacity steps.new) }
+    ensures ref_room { OnOk result (length refs.new.items < vec_capacity refs.new) }
+{
+    steps.reserve(1)?;
+    refs.reserve(1)?;
+    Ok(())
+}
+
+// Empties a list, and gives its memory back where that is much.
+fn empty_list<T: Drop>(list: &mut Vec<T>)
+    ensures { list.new.items ≡ [] }
+{
+    if list.capacity() > KEPT {
+        *list = Vec::new(*list.allocator());
+    } else {
+        list.clear();
+    }
+}

@@ -1,0 +1,156 @@
+//! A catalog with transactions.
+ghost use Rattle.std.specs.Prelude.{◌≡◌, ◌≢◌, ◌≤◌, [], IfErr, OnOk, OnErr, length};
+ghost use Rattle.std.specs.Borrow.{sem};
+
+use crate::log::UndoLog;
+use crate::no_transaction::NoTransaction;
+use mm_catalog::Catalog;
+use mm_catalog::laws::a_catalog_is_consistent;
+use no_memory::NoMemory;
+use plain_tables::{Limits, Refusal, Sequence, TableNumber, Value};
+use std::alloc::Global;
+use std::marker::Model;
+
+/// Tables by name, and the transactions that are open over them.
+#[derive(Drop)]
+pub struct TransactionalCatalog {
+    catalog: Catalog,
+    log: UndoLog,
+}
+
+impl Model for TransactionalCatalog {
+    ghost use Rattle.mm_catalog.specs.contracts.catalog.Catalog.{the_row as catalog_row};
+    ghost use Rattle.mm_transactions.specs.State.{TransactionalState, IsUndoable, state_code};
+
+    ghost Value = { TransactionalState };
+
+    ghost coded = { state_code catalog_row.coded };
+
+    ghost view = { λ t. record { catalog = t.catalog; changes = t.log.changes; marks = t.log.marks } };
+
+    ghost invariant = { λ t. IsUndoable t.catalog t.log.changes t.log.marks };
+}
+
+impl TransactionalCatalog {
+    ghost use Rattle.plain_tables.specs.Doing.{done};
+    ghost use Rattle.plain_tables.specs.ResolvedLaws.{IsMeant};
+    ghost use Rattle.plain_tables.specs.Transactions.{begun, committed, rolled_back};
+    ghost use Rattle.plain_tables.specs.declared.resolved.Resolved.TheVariants as resolved;
+    ghost use Rattle.mm_catalog.specs.Changes.{HasEffect, IsRefusedFor, IsDeclinedFor};
+    ghost use Rattle.mm_catalog.specs.Seen.{database_of};
+    ghost use Rattle.mm_transactions.specs.Lent.{LendsCatalog};
+    ghost use Rattle.mm_transactions.specs.State.{saved_of, transactional_of};
+
+    /// No tables, under these limits, and no transaction. It takes no memory.
+    pub fn new(alloc: Global, limits: Limits) -> TransactionalCatalog
+        requires { limits.rows ≤ 16777216 }
+        ensures empty { database_of result.catalog ≡ [] }
+        ensures limits { result.catalog.limits ≡ limits }
+        ensures none { saved_of result ≡ [] }
+    {
+        TransactionalCatalog {
+            catalog: Catalog::new(alloc, limits),
+            log: UndoLog::new(alloc),
+        }
+    }
+
+    /// The tables as they are, lent.
+    pub fn catalog(&self) -> &Catalog
+        ensures { result.now ≡ self.now.catalog }
+    {
+        &self.catalog
+    }
+
+    /// How many transactions are open.
+    pub fn transactions(&self) -> usize
+        ensures { result ≡ length (saved_of self.now) }
+    {
+        self.log.depth()
+    }
+
+    /// Begins a transaction, in those that are open.
+    pub fn begin(&mut self) -> Result<(), NoMemory>
+        ensures catalog { self.new.catalog ≡ self.old.catalog }
+        ensures begun { OnOk result (transactional_of self.new ≡ begun (transactional_of self.old)) }
+        ensures unchanged { OnErr result (self.new ≡ self.old) }
+    {
+        a_catalog_is_consistent(&self.catalog);
+        self.log.open()
+    }
+
+    /// Ends the innermost transaction, and keeps what was done in it.
+    pub fn commit(&mut self) -> Result<(), NoTransaction>
+        ensures catalog { self.new.catalog ≡ self.old.catalog }
+        ensures open { OnOk result (saved_of self.old ≢ []) }
+        ensures committed { OnOk result (transactional_of self.new ≡ committed (transactional_of self.old)) }
+        ensures none { OnErr result (saved_of self.old ≡ []) }
+        ensures unchanged { OnErr result (self.new ≡ self.old) }
+    {
+        let Some(_) = self.log.close() else {
+            return Err(NoTransaction);
+        };
+        self.log.settle();
+        Ok(())
+    }
+
+    /// Ends the innermost transaction, and undoes what was done in it: the database is the one that it began with. It takes no
+    /// memory.
+    pub fn rollback(&mut self) -> Result<(), NoTransaction>
+        ensures limits { self.new.catalog.limits ≡ self.old.catalog.limits }
+        ensures open { OnOk result (saved_of self.old ≢ []) }
+        ensures rolled_back { OnOk result (transactional_of self.new ≡ rolled_back (transactional_of self.old)) }
+        ensures none { OnErr result (saved_of self.old ≡ []) }
+        ensures unchanged { OnErr result (self.new ≡ self.old) }
+    {
+        let Some(mark) = self.log.close() else {
+            return Err(NoTransaction);
+        };
+        self.log.undo_to(&mut self.catalog, mark);
+        self.log.settle();
+        a_catalog_is_consistent(&self.catalog);
+        Ok(())
+    }
+
+    /// Puts a row into a table. The answer is 41 where a row with its key is there, else 42 where a reference of it names
+    /// no row, else 43 where the table is full, and 90 where no memory is found. All is then as before.
+    pub fn insert(&mut self, table: TableNumber, values: &[Value]) -> Result<(), Refusal>
+        requires { IsMeant self.old.catalog.limits (database_of self.old.catalog) (resolved.Insert table values.now) }
+        ensures inserted { OnOk result (HasEffect self.old.catalog self.new.catalog (done self.old.catalog.limits (database_of self.old.catalog) (resolved.Insert table values.now)) 1) }
+        ensures refused { IfErr result (IsRefusedFor self.old.catalog self.new.catalog (done self.old.catalog.limits (database_of self.old.catalog) (resolved.Insert table values.now))) }
+        ensures saved { saved_of self.new ≡ saved_of self.old }
+    {
+        if self.log.depth() == 0 {
+            return self.catalog.insert(table, values);
+        }
+        a_catalog_is_consistent(&self.catalog);
+        self.log.insert(&mut self.catalog, table, values)
+    }
+
+    /// Puts rows into a table, all of them or none, as inserts one after the other do. Where one of them cannot come in, the
+    /// answer is that of its insert, with its number among the rows, counted from 1; and 90 where no memory is found.
+    pub fn load_rows(
+        &mut self,
+        table: TableNumber,
+        rows: Sequence<Sequence<Value>>,
+    ) -> Result<(), Refusal>
+        requires { IsMeant self.old.catalog.limits (database_of self.old.catalog) (resolved.Load table rows) }
+        ensures loaded { OnOk result (HasEffect self.old.catalog self.new.catalog (done self.old.catalog.limits (database_of self.old.catalog) (resolved.Load table rows)) (length rows)) }
+        ensures refused { IfErr result (IsDeclinedFor self.old.catalog self.new.catalog (done self.old.catalog.limits (database_of self.old.catalog) (resolved.Load table rows))) }
+        ensures saved { saved_of self.new ≡ saved_of self.old }
+    {
+        if self.log.depth() == 0 {
+            return self.catalog.load_rows(table, rows);
+        }
+        a_catalog_is_consistent(&self.catalog);
+        self.log.load_rows(&mut self.catalog, table, rows)
+    }
+
+    /// The tables, to be changed in any way where no transaction is open.
+    pub fn outside(&mut self) -> &mut Catalog
+        requires { saved_of self.old ≡ [] }
+        ensures* writes_back { sem 𝓛 (LendsCatalog self.entry result) }
+        ensures catalog { result.now ≡ self.old.catalog }
+    {
+        &mut self.catalog
+    }
+}
