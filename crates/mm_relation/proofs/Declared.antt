@@ -13,7 +13,7 @@ use Rattle.part_raw.specs.Store.{Tuples}
 use Rattle.plain_tables.specs.declared.schema.Schema.{Schema}
 use Rattle.plain_tables.specs.declared.schema.IndexKind.{IndexKind}
 use Rattle.plain_tables.specs.declared.schema.IndexKind.TheVariants.{Tree, Hash}
-use Rattle.mm_relation.specs.Rows.{Referring, Row}
+use Rattle.mm_relation.specs.Rows.{Aside, Row}
 use Rattle.plain_tables.specs.declared.numbers.ColumnNumber.{ColumnNumber}
 use Rattle.mm_relation.specs.declared.numbers.DeclaredIndex.{DeclaredIndex}
 use Rattle.mm_relation.specs.declared.index.Index.{Index}
@@ -43,8 +43,8 @@ shown_as d index = record { declaration = d; tree = tree_in index; entries = ent
 first_gone : {A B : Type 0} (f : A → B) (at : B → Bool) (kind : A → Bool) (xs : List A) → map f (filter kind (without_first (λ x. at (f x) && kind x) xs)) ≡ without_first at (map f (filter kind xs))
 first_gone f at kind xs = ap (map f) (filter-without_first (λ x. at (f x)) kind xs) ∙ sym (without_first-map at f (filter kind xs))
 
-module _ (referring : Referring) (schema : Schema) (targets : List (Option ℕ)) (declared : List DeclaredIndex) (rows : Tuples Row) (tree : RowTree) (all : Indexes) (kept : IsKept (state referring schema targets declared rows tree all)) where
-  pub current_with : (keys : Keys) (others : List DeclaredIndex) (new : Indexes) → IsCurrent keys (state referring schema targets declared rows tree all) → Serve keys rows (tree_list tree) new → IsCurrent keys (state referring schema targets others rows tree new)
+module _ (aside : Aside) (schema : Schema) (targets : List (Option ℕ)) (declared : List DeclaredIndex) (rows : Tuples Row) (tree : RowTree) (all : Indexes) (kept : IsKept (state aside schema targets declared rows tree all)) where
+  pub current_with : (keys : Keys) (others : List DeclaredIndex) (new : Indexes) → IsCurrent keys (state aside schema targets declared rows tree all) → Serve keys rows (tree_list tree) new → IsCurrent keys (state aside schema targets others rows tree new)
   current_with keys others new current serves = record { readable = current.readable; trees = trees_served keys rows (tree_list tree) (map seen new) serves; hashes = hashes_served keys rows (tree_list tree) (map seen new) serves }
 
   -- what the hashes show stays where a tree is declared or dropped, and has one more or one less where a hash is
@@ -57,21 +57,21 @@ module _ (referring : Referring) (schema : Schema) (targets : List (Option ℕ))
         pushed_of (λ (s : SeenIndex). (s.declaration.column.0, X s)) (λ s. not (is_tree s.declaration.kind)) all new on e
         ∙ (λ i. of_hashes (map seen all) ++ of_hashes (shown_as (same i) on.index ∷ []))
 
-  pub declared_added : (kind : IndexKind) (column : ColumnNumber) (new : Indexes) → IsAdded (declaration column kind) all new → IsDeclaredOf kind column (state referring schema targets declared rows tree all) (state referring schema targets (declared ++ declaration column kind ∷ []) rows tree new)
+  pub declared_added : (kind : IndexKind) (column : ColumnNumber) (new : Indexes) → IsAdded (declaration column kind) all new → IsDeclaredOf kind column (state aside schema targets declared rows tree all) (state aside schema targets (declared ++ declaration column kind ∷ []) rows tree new)
   declared_added Tree column new (on, same, e) =
       let trees : trees_of (map seen new) ≡ trees_of (map seen all) ++ (column.0, tree_in on.index) ∷ [] =
       pushed_of (λ (s : SeenIndex). (s.declaration.column.0, s.tree)) (λ s. is_tree s.declaration.kind) all new on e
       ∙ (λ i. trees_of (map seen all) ++ trees_of (shown_as (same i) on.index ∷ [])) in
       let hashes : hashes_of (map seen new) ≡ hashes_of (map seen all) = shown_more (λ s. s.entries) new on (declaration column Tree) same e ∙ append-nil _ in
       let buckets : all_buckets (map seen new) ≡ all_buckets (map seen all) = shown_more (λ s. s.buckets) new on (declaration column Tree) same e ∙ append-nil _ in
-      (tree_in on.index, λ i. record (state referring schema targets (declared ++ declaration column Tree ∷ []) rows tree all) { trees = trees i; hashes = hashes i; buckets = buckets i })
+      (tree_in on.index, λ i. record (state aside schema targets (declared ++ declaration column Tree ∷ []) rows tree all) { trees = trees i; hashes = hashes i; buckets = buckets i })
   declared_added Hash column new (on, same, e) =
       let trees : trees_of (map seen new) ≡ trees_of (map seen all) =
       pushed_of (λ (s : SeenIndex). (s.declaration.column.0, s.tree)) (λ s. is_tree s.declaration.kind) all new on e
       ∙ (λ i. trees_of (map seen all) ++ trees_of (shown_as (same i) on.index ∷ [])) ∙ append-nil _ in
       let hashes : hashes_of (map seen new) ≡ hashes_of (map seen all) ++ (column.0, entries_in on.index) ∷ [] = shown_more (λ s. s.entries) new on (declaration column Hash) same e in
       let buckets : all_buckets (map seen new) ≡ all_buckets (map seen all) ++ (column.0, buckets_in on.index) ∷ [] = shown_more (λ s. s.buckets) new on (declaration column Hash) same e in
-      (entries_in on.index, buckets_in on.index, λ i. record (state referring schema targets (declared ++ declaration column Hash ∷ []) rows tree all) { trees = trees i; hashes = hashes i; buckets = buckets i })
+      (entries_in on.index, buckets_in on.index, λ i. record (state aside schema targets (declared ++ declaration column Hash ∷ []) rows tree all) { trees = trees i; hashes = hashes i; buckets = buckets i })
 
   -- an index fewer
   abbrev without : DeclaredIndex → Indexes
@@ -87,7 +87,7 @@ module _ (referring : Referring) (schema : Schema) (targets : List (Option ℕ))
   no_tree_like : (column : ColumnNumber) (d : DeclaredIndex) → is_index (declaration column Hash) d ≡ true → is_tree d.kind ≡ false
   no_tree_like column d e = not-true (is_tree d.kind) (and_parts (d.column.0 == column.0) (not (is_tree d.kind)) e).1
 
-  pub kept_without : (kind : IndexKind) (column : ColumnNumber) → IsKept (state referring schema targets (without_first (is_index (declaration column kind)) declared) rows tree (without (declaration column kind)))
+  pub kept_without : (kind : IndexKind) (column : ColumnNumber) → IsKept (state aside schema targets (without_first (is_index (declaration column kind)) declared) rows tree (without (declaration column kind)))
   kept_without Tree column = record {
     keyed = kept.keyed;
     few = kept.few;
@@ -131,17 +131,17 @@ module _ (referring : Referring) (schema : Schema) (targets : List (Option ℕ))
         ap (of_hashes X) (seen_less (declaration column Hash))
         ∙ first_gone (λ (s : SeenIndex). (s.declaration.column.0, X s)) (λ h. h.0 == column.0) (λ s. not (is_tree s.declaration.kind)) (map seen all)
 
-  pub state_without : (kind : IndexKind) (column : ColumnNumber) (others : List DeclaredIndex) → state referring schema targets others rows tree (without (declaration column kind)) ≡ without_of kind column.0 (state referring schema targets others rows tree all)
+  pub state_without : (kind : IndexKind) (column : ColumnNumber) (others : List DeclaredIndex) → state aside schema targets others rows tree (without (declaration column kind)) ≡ without_of kind column.0 (state aside schema targets others rows tree all)
   state_without Tree column others =
       let trees : trees_of (map seen (without (declaration column Tree))) ≡ without_first (λ t. t.0 == column.0) (trees_of (map seen all)) =
       ap trees_of (seen_less (declaration column Tree)) ∙ first_gone (λ (s : SeenIndex). (s.declaration.column.0, s.tree)) (λ t. t.0 == column.0) (λ s. is_tree s.declaration.kind) (map seen all) in
-      λ i. record (state referring schema targets others rows tree all) { trees = trees i; hashes = shown_still (λ s. s.entries) column i; buckets = shown_still (λ s. s.buckets) column i }
+      λ i. record (state aside schema targets others rows tree all) { trees = trees i; hashes = shown_still (λ s. s.entries) column i; buckets = shown_still (λ s. s.buckets) column i }
   state_without Hash column others =
       let trees : trees_of (map seen (without (declaration column Hash))) ≡ trees_of (map seen all) =
       ap trees_of (seen_less (declaration column Hash)) ∙ ap (map (λ (s : SeenIndex). (s.declaration.column.0, s.tree))) (filter-without_other (λ (s : SeenIndex). is_index (declaration column Hash) s.declaration) (λ s. is_tree s.declaration.kind) (map seen all) (λ s e. no_tree_like column s.declaration e)) in
-      λ i. record (state referring schema targets others rows tree all) { trees = trees i; hashes = shown_less (λ s. s.entries) column i; buckets = shown_less (λ s. s.buckets) column i }
+      λ i. record (state aside schema targets others rows tree all) { trees = trees i; hashes = shown_less (λ s. s.entries) column i; buckets = shown_less (λ s. s.buckets) column i }
 
-  pub current_without : (kind : IndexKind) (column : ColumnNumber) (others : List DeclaredIndex) (keys : Keys) → IsCurrent keys (state referring schema targets declared rows tree all) → IsCurrent keys (without_of kind column.0 (state referring schema targets others rows tree all))
+  pub current_without : (kind : IndexKind) (column : ColumnNumber) (others : List DeclaredIndex) (keys : Keys) → IsCurrent keys (state aside schema targets declared rows tree all) → IsCurrent keys (without_of kind column.0 (state aside schema targets others rows tree all))
   current_without Tree column others keys current = record {
     readable = current.readable;
     trees = All-without_first (TreeServes keys rows (tree_list tree)) (λ (t : ℕ × RowTree). t.0 == column.0) (trees_of (map seen all)) current.trees;
@@ -160,11 +160,11 @@ any_of f at kind (x ∷ xs) = elim (kind x) as (λ b. ((at (f x) && b) || list_a
   | false ↦ ap (λ b. b || list_any (λ y. at (f y) && kind y) xs) (and_false (at (f x))) ∙ any_of f at kind xs
 ]
 
-pub any_declared : (referring : Referring) (schema : Schema) (targets : List (Option ℕ)) (declared : List DeclaredIndex) (rows : Tuples Row) (tree : RowTree) (all : Indexes) (column : ColumnNumber) (kind : IndexKind) → list_any (λ on. is_index (declaration column kind) (declaration_of on)) all ≡ has_declared_on (state referring schema targets declared rows tree all) column.0 kind
-any_declared referring schema targets declared rows tree all column Tree =
+pub any_declared : (aside : Aside) (schema : Schema) (targets : List (Option ℕ)) (declared : List DeclaredIndex) (rows : Tuples Row) (tree : RowTree) (all : Indexes) (column : ColumnNumber) (kind : IndexKind) → list_any (λ on. is_index (declaration column kind) (declaration_of on)) all ≡ has_declared_on (state aside schema targets declared rows tree all) column.0 kind
+any_declared aside schema targets declared rows tree all column Tree =
     sym (list_any-map (λ (s : SeenIndex). is_index (declaration column Tree) s.declaration) seen all)
     ∙ any_of (λ (s : SeenIndex). (s.declaration.column.0, s.tree)) (λ t. t.0 == column.0) (λ s. is_tree s.declaration.kind) (map seen all)
-any_declared referring schema targets declared rows tree all column Hash =
+any_declared aside schema targets declared rows tree all column Hash =
     sym (list_any-map (λ (s : SeenIndex). is_index (declaration column Hash) s.declaration) seen all)
     ∙ any_of (λ (s : SeenIndex). (s.declaration.column.0, s.entries)) (λ h. h.0 == column.0) (λ s. not (is_tree s.declaration.kind)) (map seen all)
 
@@ -174,8 +174,8 @@ none_held q h =
     let none : is_some (get (empty {X = Row} {R = ref_cmp}) q) ≡ false = ap is_some (held_at_first q) in
     absurd (cc)
 
-pub kept_new : (referring : Referring) (schema : Schema) (targets : List (Option ℕ)) (declared : List DeclaredIndex) (rows : Tuples Row) (tree : RowTree) (all : Indexes) → length targets ≡ length schema.columns → declared ≡ [] → rows ≡ empty → tree ≡ leafless → all ≡ [] → IsKept (state referring schema targets declared rows tree all)
-kept_new referring schema targets declared rows tree all width no_index no_row no_list no_all = rw (no_index, no_row, no_list, no_all) (record {
+pub kept_new : (aside : Aside) (schema : Schema) (targets : List (Option ℕ)) (declared : List DeclaredIndex) (rows : Tuples Row) (tree : RowTree) (all : Indexes) → length targets ≡ length schema.columns → declared ≡ [] → rows ≡ empty → tree ≡ leafless → all ≡ [] → IsKept (state aside schema targets declared rows tree all)
+kept_new aside schema targets declared rows tree all width no_index no_row no_list no_all = rw (no_index, no_row, no_list, no_all) (record {
   keyed = record {
     keys_differ = record { apart = λ a b p q e. absurd (none_held a p) };
     lists = record { held = λ k d l. absurd (omega (arith, l)); count = sym (len-empty ref_cmp Row); listed = λ r h. absurd (none_held r h) };
@@ -189,8 +189,8 @@ kept_new referring schema targets declared rows tree all width no_index no_row n
 })
 
 -- with no rows there is nothing to serve
-pub current_new : (referring : Referring) (schema : Schema) (targets : List (Option ℕ)) (declared : List DeclaredIndex) (rows : Tuples Row) (tree : RowTree) (all : Indexes) → rows ≡ empty → all ≡ [] → (keys : Keys) → IsCurrent keys (state referring schema targets declared rows tree all)
-current_new referring schema targets declared rows tree all no_row no_all keys = rw (no_row, no_all) (record {
+pub current_new : (aside : Aside) (schema : Schema) (targets : List (Option ℕ)) (declared : List DeclaredIndex) (rows : Tuples Row) (tree : RowTree) (all : Indexes) → rows ≡ empty → all ≡ [] → (keys : Keys) → IsCurrent keys (state aside schema targets declared rows tree all)
+current_new aside schema targets declared rows tree all no_row no_all keys = rw (no_row, no_all) (record {
   readable = λ r t e. absurd (none_held r (ap is_some e));
   trees = λ k d l. absurd (omega (arith, l));
   hashes = λ k d l. absurd (omega (arith, l));

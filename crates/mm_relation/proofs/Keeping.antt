@@ -16,7 +16,7 @@ use Rattle.plain_tables.specs.declared.value.Value.{Value}
 use Rattle.mm_relation.specs.declared.refusal.RowRefusal.{RowRefusal}
 use Rattle.mm_relation.specs.declared.refusal.RowRefusal.TheVariants.{KeyExists, Full, NoMemory}
 use Rattle.mm_relation.specs.Changes.{IsPlacedRightly, IsToldRightly}
-use Rattle.mm_relation.specs.Rows.{Referring, Row}
+use Rattle.mm_relation.specs.Rows.{Aside, Row}
 use Rattle.mm_relation.specs.declared.numbers.DeclaredIndex.{DeclaredIndex}
 use Rattle.mm_relation.specs.Reading.{Keys, row_value}
 use Rattle.mm_relation.specs.State.{RelationState, HasKey, RowTree, tree_list, IsKeyed, IsKept, IsCurrent, IsReadable, TreeServes, HashServes, columns_with_tree, columns_with_hash, is_tree}
@@ -60,10 +60,10 @@ module _ (keys : Keys) (rows : Tuples Row) (refs : List TupleRef) where
       ] trees hashes) in
       All-cons (Serves keys rows refs) s ss both.0 both.1
 
-module _ (referring : Referring) (schema : Schema) (targets : List (Option ℕ)) (declared : List DeclaredIndex) where
+module _ (aside : Aside) (schema : Schema) (targets : List (Option ℕ)) (declared : List DeclaredIndex) where
   -- a relation is seen by what its indexes show
-  pub same_state : (rows now : Tuples Row) (tree now_tree : RowTree) (all new : Indexes) → now ≡ rows → now_tree ≡ tree → map seen new ≡ map seen all → state referring schema targets declared now now_tree new ≡ state referring schema targets declared rows tree all
-  same_state rows now tree now_tree all new r l same = λ i. record { schema = schema; targets = targets; declared = declared; rows = r i; by_key = l i; trees = trees_of (same i); hashes = hashes_of (same i); buckets = all_buckets (same i); referrers = referring.numbers; counted = referring.counted }
+  pub same_state : (rows now : Tuples Row) (tree now_tree : RowTree) (all new : Indexes) → now ≡ rows → now_tree ≡ tree → map seen new ≡ map seen all → state aside schema targets declared now now_tree new ≡ state aside schema targets declared rows tree all
+  same_state rows now tree now_tree all new r l same = λ i. record { schema = schema; targets = targets; declared = declared; rows = r i; by_key = l i; trees = trees_of (same i); hashes = hashes_of (same i); buckets = all_buckets (same i); referrers = aside.numbers; counted = aside.counted; hidden = aside.hidden; owed = aside.owed }
 
   within_declared : (test : DeclaredIndex → Bool) → All (λ d. d.column.0 < length targets) declared → (c : ℕ) → Contains (map (λ d. d.column.0) (filter test declared)) c → c < length targets
   within_declared test within c h =
@@ -71,7 +71,7 @@ module _ (referring : Referring) (schema : Schema) (targets : List (Option ℕ))
       let there = Contains-from_filter test declared found.0 found.1 in
       subst (λ n. n < length targets) found.2 (All-contains (λ d. d.column.0 < length targets) declared found.0 within there.0)
 
-  module _ (rows : Tuples Row) (tree : RowTree) (all : Indexes) (kept : IsKept (state referring schema targets declared rows tree all)) where
+  module _ (rows : Tuples Row) (tree : RowTree) (all : Indexes) (kept : IsKept (state aside schema targets declared rows tree all)) where
     pub column_within : (c : ℕ) → IsColumn all c → c < length targets
     column_within c column =
         let found = Contains-from_map (λ (d : DeclaredIndex). d.column.0) (map declaration_of all) c column in
@@ -85,16 +85,16 @@ module _ (referring : Referring) (schema : Schema) (targets : List (Option ℕ))
     pub row_read : (keys : Keys) (row : Row) → IsReadable keys (length targets) row → CanReadRow keys row all
     row_read keys row readable c column = readable c (column_within c column)
 
-    pub can_read : (keys : Keys) → IsCurrent keys (state referring schema targets declared rows tree all) → CanRead keys rows all
+    pub can_read : (keys : Keys) → IsCurrent keys (state aside schema targets declared rows tree all) → CanRead keys rows all
     can_read keys current c q column held =
         let found = held_tuple rows q held in
         subst (λ o. IsSome (option_and_then (row_value keys c) o)) (sym found.1) (current.readable q found.0 found.1 c (column_within c column))
 
-    pub served : (keys : Keys) → IsCurrent keys (state referring schema targets declared rows tree all) → Serve keys rows (tree_list tree) all
+    pub served : (keys : Keys) → IsCurrent keys (state aside schema targets declared rows tree all) → Serve keys rows (tree_list tree) all
     served keys current = all_served keys rows (tree_list tree) (map seen all) current.trees current.hashes
 
     -- what is kept once rows came or went
-    module _ (still : Referring) (now : Tuples Row) (now_tree : RowTree) (new : Indexes) where
+    module _ (still : Aside) (now : Tuples Row) (now_tree : RowTree) (new : Indexes) where
       pub kept_on : IsKeyed now (tree_list now_tree) → len now ≤ 16777216 → map declaration_of new ≡ map declaration_of all → IsKept (state still schema targets declared now now_tree new)
       kept_on keyed few same = record {
         keyed = keyed;

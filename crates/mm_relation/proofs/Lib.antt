@@ -1,4 +1,7 @@
+pub mod Slots
+pub mod Parted
 pub mod Stored
+pub mod Hiding
 pub mod Writing
 pub mod Loops
 pub mod Placing

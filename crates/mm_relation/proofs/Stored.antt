@@ -10,7 +10,7 @@ use Rattle.common_lemmas.proofs.Options.{is_some-Some, is_some-option_map, and_t
 use Rattle.part_raw.specs.declared.tuple_ref.TupleRef.{TupleRef}
 use Rattle.part_raw.specs.Store.{Tuples, Store, with_cells}
 use Rattle.part_raw.proofs.Lookup.{same_or_other}
-use Rattle.part_raw.proofs.Mapped.{get-mapped, mapped-insert}
+use Rattle.part_raw.proofs.Mapped.{get-mapped}
 use Rattle.part_raw.proofs.Tuples.{get-insert_same, get-insert_other, get-remove_same, get-remove_other, held_at_first}
 use Rattle.plain_tables.specs.declared.value.Value.{Value}
 use Rattle.mm_relation.specs.declared.row.Cell.{Cell}
@@ -129,18 +129,18 @@ module _ (before now : Store Cell) (r : TupleRef) (column : ℕ) (cell : Cell) (
   pub cell_set : now ≡ with_cells before r (slice_set was.0 column cell)
   cell_set = subst (λ (o : Option (List Cell)). IfSome o (λ cells. now ≡ with_cells before r (slice_set cells column cell))) was.1 told
 
-  module _ (whole : AreWhole before.width before.tuples) (above : 0 < column) where
-    pub cell_set-whole : AreWhole now.width now.tuples
-    cell_set-whole =
-        let all = whole r was.0 was.1 in
-        subst (λ (s : Store Cell). AreWhole s.width s.tuples) (sym cell_set)
-        (whole_with before.width before.tuples r whole (slice_set was.0 column cell) (length-set was.0 column cell ∙ all.0, starts_still was.0 column cell above all.1))
+  -- the cells that are written
+  abbrev pub cells_set : List Cell
+  cells_set = slice_set was.0 column cell
 
-    pub cell_set-row : (row : Row) → get (rows_in before.tuples) r ≡ Some row → rows_in now.tuples ≡ insert (rows_in before.tuples) r (record row { cells = slice_set row.cells (column - 1) cell })
-    cell_set-row row found =
+  module _ (whole : AreWhole before.width before.tuples) (above : 0 < column) where
+    pub cells_set-whole : IsWhole before.width cells_set
+    cells_set-whole = let all = whole r was.0 was.1 in (length-set was.0 column cell ∙ all.0, starts_still was.0 column cell above all.1)
+
+    pub cells_set-row : (row : Row) → get (rows_in before.tuples) r ≡ Some row → row_of cells_set ≡ record row { cells = slice_set row.cells (column - 1) cell }
+    cells_set-row row found =
         let same : row_of was.0 ≡ row = same_Some _ _ (sym (row_under before.tuples r was.0 was.1) ∙ found) in
-        ap (λ (s : Store Cell). rows_in s.tuples) cell_set ∙ mapped-insert (λ r. row_of) before.tuples r (slice_set was.0 column cell)
-        ∙ ap (insert (rows_in before.tuples) r) (row_set was.0 column cell above (whole r was.0 was.1).1 ∙ ap (λ (x : Row). record x { cells = slice_set x.cells (column - 1) cell }) same)
+        row_set was.0 column cell above (whole r was.0 was.1).1 ∙ ap (λ (x : Row). record x { cells = slice_set x.cells (column - 1) cell }) same
 
 -- a column of a row that is held is one of the store's
 pub column_within : (s : Store Cell) (r : TupleRef) (whole : AreWhole s.width s.tuples) (column : ℕ) → ((row : Row) → get (rows_in s.tuples) r ≡ Some row → (0 < column) × (column ≤ length row.cells)) → IsSome (get (rows_in s.tuples) r) → column < s.width

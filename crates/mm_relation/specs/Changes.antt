@@ -20,6 +20,8 @@ pub record KeepsSchema (old new : RelationState) : Type 0 where
   pub targets : new.targets ≡ old.targets
   pub declared : new.declared ≡ old.declared
   pub counted : new.counted ≡ old.counted
+  pub hidden : new.hidden ≡ old.hidden
+  pub owed : new.owed ≡ old.owed
 
 -- one row more, under a reference that was free; no link names it
 pub record IsInserted (old new : RelationState) (r : TupleRef) (row : Row) : Type 0 where

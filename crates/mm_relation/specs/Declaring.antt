@@ -16,7 +16,7 @@ use Rattle.mm_relation.specs.State.{RelationState, RowTree, is_tree}
 -- these columns and nothing else: no row, no declared index, no column whose links lead anywhere
 abbrev pub new_relation : Schema → RelationState
 new_relation schema =
-    record { schema = schema; targets = replicate (length schema.columns) None; declared = []; rows = finite.empty; referrers = finite.empty; by_key = empty; trees = []; hashes = []; buckets = []; counted = false }
+    record { schema = schema; targets = replicate (length schema.columns) None; declared = []; rows = finite.empty; referrers = finite.empty; by_key = empty; trees = []; hashes = []; buckets = []; counted = false; hidden = finite.empty; owed = 0 }
 
 -- the declaration of an index
 abbrev pub declaration : ColumnNumber → IndexKind → DeclaredIndex

@@ -29,7 +29,8 @@ tree_list t = list t
 
 -- The schema; the table that each column's links lead into; the declared indexes; the rows; how many links name each; the key's
 -- tree; the column and the tree of each declared tree; the column and the entries of each declared hash; the column and the number
--- of buckets of each; whether there is memory for the numbers of links.
+-- of buckets of each; whether there is memory for the numbers of links; the rows that are hidden; and how many rows are owed, that is,
+-- can come back without memory.
 pub record RelationState : Type 0 where
   pub schema : Schema
   pub targets : List (Option ℕ)
@@ -41,13 +42,15 @@ pub record RelationState : Type 0 where
   pub hashes : List (ℕ × List (ℕ × TupleRef))
   pub buckets : List (ℕ × ℕ)
   pub counted : Bool
+  pub hidden : Tuples Row
+  pub owed : ℕ
 
 abbrev pub state_code : Coded Schema → Coded DeclaredIndex → Coded Row → Coded RelationState
 state_code schema index row =
-    code_by (Schema × (List (Option ℕ) × (List DeclaredIndex × (Tuples Row × (Tuples ℕ × (RowTree × (List (ℕ × RowTree) × (List (ℕ × List (ℕ × TupleRef)) × (List (ℕ × ℕ) × Bool)))))))))
-    (coded× schema (coded× (coded_list (coded_option coded_ℕ)) (coded× (coded_list index) (coded× (finite.code ref_code row) (coded× (finite.code ref_code coded_ℕ) (coded× (tree_code (label_code ref_code)) (coded× (coded_list (coded× coded_ℕ (tree_code (label_code ref_code)))) (coded× (coded_list (coded× coded_ℕ (coded_list (coded× coded_ℕ ref_code)))) (coded× (coded_list (coded× coded_ℕ coded_ℕ)) coded_bool)))))))))
-    (λ s. (s.schema, (s.targets, (s.declared, (s.rows, (s.referrers, (s.by_key, (s.trees, (s.hashes, (s.buckets, s.counted))))))))))
-    (λ p. record { schema = p.0; targets = p.1.0; declared = p.1.1.0; rows = p.1.1.1.0; referrers = p.1.1.1.1.0; by_key = p.1.1.1.1.1.0; trees = p.1.1.1.1.1.1.0; hashes = p.1.1.1.1.1.1.1.0; buckets = p.1.1.1.1.1.1.1.1.0; counted = p.1.1.1.1.1.1.1.1.1 }) (λ _. refl)
+    code_by (Schema × (List (Option ℕ) × (List DeclaredIndex × (Tuples Row × (Tuples ℕ × (RowTree × (List (ℕ × RowTree) × (List (ℕ × List (ℕ × TupleRef)) × (List (ℕ × ℕ) × (Bool × (Tuples Row × ℕ)))))))))))
+    (coded× schema (coded× (coded_list (coded_option coded_ℕ)) (coded× (coded_list index) (coded× (finite.code ref_code row) (coded× (finite.code ref_code coded_ℕ) (coded× (tree_code (label_code ref_code)) (coded× (coded_list (coded× coded_ℕ (tree_code (label_code ref_code)))) (coded× (coded_list (coded× coded_ℕ (coded_list (coded× coded_ℕ ref_code)))) (coded× (coded_list (coded× coded_ℕ coded_ℕ)) (coded× coded_bool (coded× (finite.code ref_code row) coded_ℕ)))))))))))
+    (λ s. (s.schema, (s.targets, (s.declared, (s.rows, (s.referrers, (s.by_key, (s.trees, (s.hashes, (s.buckets, (s.counted, (s.hidden, s.owed))))))))))))
+    (λ p. record { schema = p.0; targets = p.1.0; declared = p.1.1.0; rows = p.1.1.1.0; referrers = p.1.1.1.1.0; by_key = p.1.1.1.1.1.0; trees = p.1.1.1.1.1.1.0; hashes = p.1.1.1.1.1.1.1.0; buckets = p.1.1.1.1.1.1.1.1.0; counted = p.1.1.1.1.1.1.1.1.1.0; hidden = p.1.1.1.1.1.1.1.1.1.1.0; owed = p.1.1.1.1.1.1.1.1.1.1.1 }) (λ _. refl)
 
 -- no link leads anywhere: what an order by keys needs of links
 abbrev pub no_keys : Keys

@@ -74,7 +74,7 @@ fn write_cells(
     requires ready { IsPiled sets.now copies.old.items }
     ensures row { (t : Row) → finite.get rows.old.tuples r ≡ Some t → rows.new.tuples ≡ finite.insert rows.old.tuples r (with_cells sets.now t) }
     ensures width { rows.new.width ≡ rows.old.width }
-    ensures referring { rows.new.referring ≡ rows.old.referring }
+    ensures aside { rows.new.aside ≡ rows.old.aside }
     ensures left { (under : List Cell) → copies.old.items ≡ piled sets.now under → copies.new.items ≡ under }
 {
     let Some(((column, _), rest)) = sets.split_first() else {
@@ -107,7 +107,7 @@ fn change_row<R: LinkedKeys>(
     ensures declared { map declaration_of indexes.new ≡ map declaration_of indexes.old }
     ensures room { (n : ℕ) → HaveRoom (n + 1) indexes.old → HaveRoom n indexes.new }
     ensures width { rows.new.width ≡ rows.old.width }
-    ensures referring { rows.new.referring ≡ rows.old.referring }
+    ensures aside { rows.new.aside ≡ rows.old.aside }
     ensures left { (under : List Cell) → copies.old.items ≡ piled sets.now under → copies.new.items ≡ under }
 {
     remove_set(indexes, rows, links, r, sets);
@@ -121,7 +121,7 @@ fn move_cells(rows: &mut Rows, r: TupleRef, sets: &mut [(ColumnNumber, StoredCel
     requires columns { (t : Row) → finite.get rows.old.tuples r ≡ Some t → All (λ s. (0 < s.0.0) × (s.0.0 ≤ length t.cells)) sets.old }
     ensures row { (t : Row) → finite.get rows.old.tuples r ≡ Some t → rows.new.tuples ≡ finite.insert rows.old.tuples r (with_cells sets.old t) }
     ensures width { rows.new.width ≡ rows.old.width }
-    ensures referring { rows.new.referring ≡ rows.old.referring }
+    ensures aside { rows.new.aside ≡ rows.old.aside }
     ensures links { map link_set sets.new ≡ map link_set sets.old }
 {
     let Some((set, rest)) = sets.split_first_mut() else {
@@ -150,7 +150,7 @@ fn change_last<R: LinkedKeys>(
         → IsKeyed rows.new.tuples list × Serve (R.keys links.now) rows.new.tuples list indexes.new }
     ensures declared { map declaration_of indexes.new ≡ map declaration_of indexes.old }
     ensures width { rows.new.width ≡ rows.old.width }
-    ensures referring { rows.new.referring ≡ rows.old.referring }
+    ensures aside { rows.new.aside ≡ rows.old.aside }
     ensures links { map link_set sets.new ≡ map link_set sets.old }
 {
     remove_set(indexes, rows, links, r, sets);
@@ -177,7 +177,7 @@ fn change_each<R: LinkedKeys>(
     requires served { (list : List TupleRef) × IsKeyed rows.old.tuples list × Serve (R.keys links.now) rows.old.tuples list indexes.old }
     ensures rows { CellsSet rows.old.tuples rows.new.tuples rs.now sets.now }
     ensures width { rows.new.width ≡ rows.old.width }
-    ensures referring { rows.new.referring ≡ rows.old.referring }
+    ensures aside { rows.new.aside ≡ rows.old.aside }
     ensures served { (list : List TupleRef) → IsKeyed rows.old.tuples list → Serve (R.keys links.now) rows.old.tuples list indexes.old
         → IsKeyed rows.new.tuples list × Serve (R.keys links.now) rows.new.tuples list indexes.new }
     ensures declared { map declaration_of indexes.new ≡ map declaration_of indexes.old }
@@ -208,7 +208,7 @@ pub fn change_all<R: LinkedKeys>(
     requires served { (list : List TupleRef) × IsKeyed rows.old.tuples list × Serve (R.keys links.now) rows.old.tuples list indexes.old }
     ensures rows { CellsSet rows.old.tuples rows.new.tuples rs.now sets.old }
     ensures width { rows.new.width ≡ rows.old.width }
-    ensures referring { rows.new.referring ≡ rows.old.referring }
+    ensures aside { rows.new.aside ≡ rows.old.aside }
     ensures served { (list : List TupleRef) → IsKeyed rows.old.tuples list → Serve (R.keys links.now) rows.old.tuples list indexes.old
         → IsKeyed rows.new.tuples list × Serve (R.keys links.now) rows.new.tuples list indexes.new }
     ensures declared { map declaration_of indexes.new ≡ map declaration_of indexes.old }

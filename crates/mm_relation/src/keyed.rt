@@ -48,11 +48,11 @@ pub fn put_row(
     ensures same { map seen indexes.new ≡ map seen indexes.old }
     ensures room { (n : ℕ) → HaveRoom n indexes.old → HaveRoom n indexes.new }
     ensures width { rows.new.width ≡ rows.old.width }
-    ensures referring { IfOk result (λ r. rows.new.referring ≡ with_number rows.old.referring r 0) }
-    ensures kept_referring { OnErr result (rows.new.referring ≡ rows.old.referring) }
+    ensures aside { IfOk result (λ r. rows.new.aside ≡ with_number rows.old.aside r 0) }
+    ensures kept_aside { OnErr result (rows.new.aside ≡ rows.old.aside) }
     ensures moved { row.new.items ≡ [] }
 {
-    let r = rows.put(row);
+    let r = rows.put(row)?;
     if cover(indexes, r).is_err() {
         rows.remove(r);
         return Err(RowRefusal::NoMemory);
@@ -78,7 +78,7 @@ pub fn take_row(rows: &mut Rows, by_key: &mut Tree, r: TupleRef)
     ensures taken { rows.new.tuples ≡ finite.remove rows.old.tuples r }
     ensures unlisted { IsSameBag (items_of_tree by_key.old) (r ∷ (items_of_tree by_key.new)) }
     ensures width { rows.new.width ≡ rows.old.width }
-    ensures referring { rows.new.referring ≡ without_number rows.old.referring r }
+    ensures aside { rows.new.aside ≡ without_number rows.old.aside r }
 {
     by_key.remove(&mut OrderProbe::new(&KeyOrder::beside(rows, r), r));
     rows.remove(r);

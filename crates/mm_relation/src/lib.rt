@@ -34,6 +34,7 @@ mod relation;
 mod relations;
 mod row;
 mod rows;
+mod slot_set;
 mod sorted_rows;
 mod spares;
 mod stored_cell;

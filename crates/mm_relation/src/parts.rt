@@ -31,7 +31,7 @@ pub fn make_room(
     requires few { finite.len rows.old.tuples < 16777216 }
     ensures rows { rows.new.tuples ≡ rows.old.tuples }
     ensures width { rows.new.width ≡ rows.old.width }
-    ensures referring { rows.new.referring ≡ rows.old.referring }
+    ensures aside { rows.new.aside ≡ rows.old.aside }
     ensures by_key { by_key.new.tree ≡ by_key.old.tree }
     ensures same { map seen indexes.new ≡ map seen indexes.old }
     ensures free { OnOk result (0 < rows.new.free) }
@@ -79,8 +79,8 @@ pub fn place<R: LinkedKeys>(
     ensures kept_indexes { OnErr result (map seen indexes.new ≡ map seen indexes.old) }
     ensures moved { row.new.items ≡ [] }
     ensures width { rows.new.width ≡ rows.old.width }
-    ensures referring { IfOk result (λ r. rows.new.referring ≡ with_number rows.old.referring r 0) }
-    ensures kept_referring { OnErr result (rows.new.referring ≡ rows.old.referring) }
+    ensures aside { IfOk result (λ r. rows.new.aside ≡ with_number rows.old.aside r 0) }
+    ensures kept_aside { OnErr result (rows.new.aside ≡ rows.old.aside) }
 {
     let r = put_row(rows, by_key, indexes, row)?;
     insert(indexes, rows, links, r);
@@ -102,7 +102,7 @@ pub fn displace<R: LinkedKeys>(
     requires serve { Serve (R.keys links.now) rows.old.tuples (items_of_tree by_key.old) indexes.old }
     ensures taken { rows.new.tuples ≡ finite.remove rows.old.tuples r }
     ensures width { rows.new.width ≡ rows.old.width }
-    ensures referring { rows.new.referring ≡ without_number rows.old.referring r }
+    ensures aside { rows.new.aside ≡ without_number rows.old.aside r }
     ensures keyed { IsKeyed rows.new.tuples (items_of_tree by_key.new) }
     ensures serve { Serve (R.keys links.now) rows.new.tuples (items_of_tree by_key.new) indexes.new }
     ensures declared { map declaration_of indexes.new ≡ map declaration_of indexes.old }

@@ -9,9 +9,9 @@ use part_raw::TupleRef;
 // So many links more name the row.
 pub fn count_up(rows: &mut Rows, r: TupleRef, n: u64)
     requires held { IsSome (finite.get rows.old.tuples r) }
-    requires kept { IsTrue rows.old.referring.counted }
-    requires room { referrers_at rows.old.referring.numbers r + n < 2 ^ 64 }
-    ensures { rows.new ≡ record rows.old { referring = with_number rows.old.referring r (referrers_at rows.old.referring.numbers r + n) } }
+    requires kept { IsTrue rows.old.aside.counted }
+    requires room { referrers_at rows.old.aside.numbers r + n < 2 ^ 64 }
+    ensures { rows.new ≡ record rows.old { aside = with_number rows.old.aside r (referrers_at rows.old.aside.numbers r + n) } }
 {
     rows.set_referrers(r, *rows.referrers(r) + n);
 }
@@ -19,9 +19,9 @@ pub fn count_up(rows: &mut Rows, r: TupleRef, n: u64)
 // So many links fewer name the row.
 pub fn count_down(rows: &mut Rows, r: TupleRef, n: u64)
     requires held { IsSome (finite.get rows.old.tuples r) }
-    requires kept { IsTrue rows.old.referring.counted }
-    requires enough { n ≤ referrers_at rows.old.referring.numbers r }
-    ensures { rows.new ≡ record rows.old { referring = with_number rows.old.referring r (referrers_at rows.old.referring.numbers r - n) } }
+    requires kept { IsTrue rows.old.aside.counted }
+    requires enough { n ≤ referrers_at rows.old.aside.numbers r }
+    ensures { rows.new ≡ record rows.old { aside = with_number rows.old.aside r (referrers_at rows.old.aside.numbers r - n) } }
 {
     rows.set_referrers(r, *rows.referrers(r) - n);
 }

@@ -1,5 +1,7 @@
 //! Why a row is not taken in.
 
+use no_memory::NoMemory;
+
 /// Why a row is not taken in. The relation is then as before, and the row is dropped.
 #[derive(Clone, Copy, Debug, PartialEq, Eq)]
 pub enum RowRefusal {
@@ -9,4 +11,15 @@ pub enum RowRefusal {
     Full,
     /// A growth was refused.
     NoMemory,
+}
+
+impl From<NoMemory> for RowRefusal {
+    ghost use Rattle.mm_relation.specs.declared.refusal.RowRefusal.TheVariants as refusal;
+    ghost use Rattle.std.specs.Prelude.{◌≡◌};
+
+    ghost from_gives = { λ _ r. r ≡ refusal.NoMemory };
+
+    fn from(_: NoMemory) -> RowRefusal {
+        RowRefusal::NoMemory
+    }
 }

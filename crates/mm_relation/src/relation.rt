@@ -52,10 +52,10 @@ impl Model for Relation {
 
     ghost coded = { state_code schema_row.coded index_row.coded (row_code value_row.coded cell_row.coded) };
 
-    ghost view = { λ r. state r.rows.referring r.schema r.targets.items r.declared.items r.rows.tuples r.by_key.tree r.indexes };
+    ghost view = { λ r. state r.rows.aside r.schema r.targets.items r.declared.items r.rows.tuples r.by_key.tree r.indexes };
 
     // The store has a cell in a row for each column.
-    ghost invariant = { λ r. IsKept (state r.rows.referring r.schema r.targets.items r.declared.items r.rows.tuples r.by_key.tree r.indexes) × (r.rows.width ≡ length r.schema.columns) };
+    ghost invariant = { λ r. IsKept (state r.rows.aside r.schema r.targets.items r.declared.items r.rows.tuples r.by_key.tree r.indexes) × (r.rows.width ≡ length r.schema.columns) };
 }
 
 impl Relation {

@@ -1,45 +1,84 @@
 //! The rows of a relation in their store. A row's cells stand side by side, the key's the first, and the number of links
 //! that name the row stands beside them.
-ghost use Rattle.std.specs.Prelude.{◌≡◌, ◌+◌, ◌-◌, ◌<◌, ◌≤◌, [], true, false, Some, None, IsOk, IsSome, IsTrue, IfOk, OnErr, OnOk, length, slice_set};
+//!
+//! A row may be hidden: it keeps its slot and its reference, but is no row of the relation until it is shown again. How
+//! many rows may be hidden is owed first, with the memory that they need. Where nothing is owed no row is hidden, and what
+//! tells hidden rows apart takes no memory.
+ghost use Rattle.std.specs.Prelude.{◌≡◌, ℕ, ◌+◌, ◌-◌, ◌/◌, ◌<◌, ◌≤◌, [], true, false, Some, None, IsOk, IsSome, IsTrue, IfOk, OnErr, OnOk, length, slice_set};
 ghost use Rattle.std.specs.FinMap as finite;
 ghost use Rattle.mm_relation.specs.Reading.{key_at};
-ghost use Rattle.mm_relation.specs.Rows.{HaveNoReferrers, Row, StartsWithKey, referrers_at, row_of, row_store, with_number, without_number};
+ghost use Rattle.part_raw.specs.declared.tuple_ref.TupleRef.{TupleRef};
+ghost use Rattle.mm_relation.specs.Rows.{HaveNoReferrers, Row, StartsWithKey, has_slot, referrers_at, row_of, row_store, with_hidden, with_number, with_shown, without_number};
 
+use crate::slot_set::SlotSet;
 use crate::stored_cell::{SeenCell, StoredCell};
 use no_memory::NoMemory;
 use part_raw::{MAX_TUPLES, MAX_WIDTH, Partitions, TupleRef};
 use plain_tables::{ColumnNumber, StoredValue};
-use std::alloc::Global;
+use std::alloc::{AllocError, Global};
 use std::marker::Model;
+
+// The most rows of which a store owes that they can come back.
+const MOST_OWED: u64 = 16_777_216;
 
 // A store of rows, each under a reference that is its own while it is held.
 #[derive(Drop)]
 pub struct Rows {
     store: Partitions<StoredCell>,
+    // The slots of the hidden rows, and how many these are.
+    hidden: SlotSet,
+    hidden_count: u64,
+    owed: u64,
 }
 
 impl Model for Rows {
     ghost use Rattle.plain_tables.specs.contracts.value.Value.{the_row as value_row};
     ghost use Rattle.mm_relation.specs.contracts.row.Cell.{the_row as cell_row};
-    ghost use Rattle.mm_relation.specs.Rows.{RowStore, row_code, row_store_code, rows_of, AreRows};
+    ghost use Rattle.mm_relation.specs.Rows.{RowStore, row_code, row_store_code, rows_of, IsParted};
 
     ghost Value = { RowStore };
 
     ghost coded = { row_store_code (row_code value_row.coded cell_row.coded) };
 
-    ghost view = { λ r. rows_of r.store };
+    ghost view = { λ r. rows_of r.store r.hidden.words.items r.owed };
 
-    ghost invariant = { λ r. AreRows r.store };
+    ghost invariant = { λ r. IsParted r.store.width r.store.tuples r.store.counts r.hidden.words.items r.hidden_count r.owed };
+}
+
+// Makes memory to hide each row of the store, where rows are owed.
+fn cover(hidden: &mut SlotSet, store: &Partitions<StoredCell>, owed: u64) -> Result<(), NoMemory>
+    ensures same { (slot : ℕ) → has_slot hidden.new.words.items slot ≡ has_slot hidden.old.words.items slot }
+    ensures grows { length hidden.old.words.items ≤ length hidden.new.words.items }
+    ensures covered { OnOk result (0 < owed → (r : TupleRef) → IsSome (finite.get store.now.tuples r) → r.number / 64 < length hidden.new.words.items) }
+    ensures sure { owed ≡ 0 → IsOk result }
+{
+    if owed > 0 {
+        hidden.cover(store.slots())?;
+    }
+    Ok(())
+}
+
+// Gives that memory back where nothing is owed.
+fn shed(hidden: &mut SlotSet, owed: u64)
+    ensures kept { 0 < owed → hidden.new ≡ hidden.old }
+    ensures none { owed ≡ 0 → hidden.new.words.items ≡ [] }
+{
+    if owed == 0 {
+        hidden.clear();
+    }
 }
 
 impl Rows {
     // No row, in a store for rows of so many columns. It takes no memory.
     pub fn new(alloc: Global, width: usize) -> Rows
         requires { (0 < width) × (width ≤ MAX_WIDTH) }
-        ensures { result ≡ row_store width finite.empty (record { numbers = finite.empty; counted = false }) 0 }
+        ensures { result ≡ row_store width finite.empty (record { numbers = finite.empty; counted = false; hidden = finite.empty; owed = 0 }) 0 }
     {
         Rows {
             store: Partitions::new(alloc, width),
+            hidden: SlotSet::new(alloc),
+            hidden_count: 0,
+            owed: 0,
         }
     }
 
@@ -54,14 +93,23 @@ impl Rows {
     pub fn len(&self) -> u64
         ensures { result ≡ finite.len self.now.tuples }
     {
-        self.store.len()
+        self.store.len() - self.hidden_count
+    }
+
+    // How many rows it owes that they can come back.
+    pub fn owed(&self) -> u64
+        ensures value { result ≡ self.now.aside.owed }
+        ensures few { result ≤ 16777216 }
+        ensures hidden { finite.len self.now.aside.hidden ≤ result }
+    {
+        self.owed
     }
 
     // Makes sure of room for one row more.
     pub fn reserve(&mut self) -> Result<(), NoMemory>
         requires { finite.len self.old.tuples < 16777216 }
         ensures width { self.new.width ≡ self.old.width }
-        ensures referring { self.new.referring ≡ self.old.referring }
+        ensures aside { self.new.aside ≡ self.old.aside }
         ensures tuples { self.new.tuples ≡ self.old.tuples }
         ensures free { OnOk result (0 < self.new.free) }
     {
@@ -73,7 +121,7 @@ impl Rows {
     pub fn shed_spares(&mut self, few: u64)
         ensures tuples { self.new.tuples ≡ self.old.tuples }
         ensures width { self.new.width ≡ self.old.width }
-        ensures referring { self.new.referring ≡ self.old.referring }
+        ensures aside { self.new.aside ≡ self.old.aside }
         ensures kept { self.old.free ≤ few → self.new ≡ self.old }
     {
         self.store.shed_spares(few);
@@ -87,27 +135,38 @@ impl Rows {
         self.store.width()
     }
 
-    // Moves the cells of a row in, with no links that name it. It takes no memory, and the vector keeps its own.
-    pub fn put(&mut self, row: &mut Vec<StoredCell>) -> TupleRef
+    // Moves the cells of a row in, with no links that name it. It takes no memory but what is needed to hide the row, where
+    // rows are owed. The cells are gone either way, and the vector keeps its memory.
+    pub fn put(&mut self, row: &mut Vec<StoredCell>) -> Result<TupleRef, NoMemory>
         requires free { 0 < self.old.free }
         requires width { length row.old.items ≡ self.old.width }
         requires keyed { StartsWithKey row.old.items }
-        ensures fresh { finite.get self.old.tuples result ≡ None }
-        ensures numbered { result.number < MAX_TUPLES }
-        ensures unnamed { finite.get self.old.referring.numbers result ≡ None }
-        ensures tuples { self.new.tuples ≡ finite.insert self.old.tuples result (row_of row.old.items) }
+        ensures fresh { IfOk result (λ r. finite.get self.old.tuples r ≡ None) }
+        ensures numbered { IfOk result (λ r. r.number < MAX_TUPLES) }
+        ensures unnamed { IfOk result (λ r. finite.get self.old.aside.numbers r ≡ None) }
+        ensures tuples { IfOk result (λ r. self.new.tuples ≡ finite.insert self.old.tuples r (row_of row.old.items)) }
         ensures width { self.new.width ≡ self.old.width }
-        ensures referring { self.new.referring ≡ with_number self.old.referring result 0 }
+        ensures aside { IfOk result (λ r. self.new.aside ≡ with_number self.old.aside r 0) }
+        ensures kept { OnErr result (self.new.tuples ≡ self.old.tuples) }
+        ensures kept_aside { OnErr result (self.new.aside ≡ self.old.aside) }
+        ensures sure { self.old.aside.owed ≡ 0 → IsOk result }
         ensures moved { row.new.items ≡ [] }
     {
-        self.store.put(row)
+        let r = self.store.put(row);
+        match cover(&mut self.hidden, &self.store, self.owed) {
+            Ok(()) => Ok(r),
+            Err(refused) => {
+                self.store.remove(r);
+                Err(refused)
+            }
+        }
     }
 
     // Whether a row is held under this reference, which may be any.
     pub fn holds(&self, r: TupleRef) -> bool
         ensures { result ≡ finite.contains_key self.now.tuples r }
     {
-        self.store.holds(r)
+        self.store.holds(r) && !self.hidden.has(r.number)
     }
 
     // The number of slots, free or not. The number of each row's reference is below it.
@@ -141,32 +200,32 @@ impl Rows {
     // How many links name a row. It is read where it is asked for.
     pub fn referrers(&self, r: TupleRef) -> &u64
         requires { IsSome (finite.get self.now.tuples r) }
-        ensures { result.now ≡ referrers_at self.now.referring.numbers r }
+        ensures { result.now ≡ referrers_at self.now.aside.numbers r }
     {
         self.store.count(r)
     }
 
     // Whether the store has memory for the numbers of links that name its rows. Where it has none, no link names a row.
     pub fn is_counted(&self) -> bool
-        ensures value { result ≡ self.now.referring.counted }
-        ensures none { result ≡ false → HaveNoReferrers self.now.tuples self.now.referring.numbers }
+        ensures value { result ≡ self.now.aside.counted }
+        ensures none { result ≡ false → HaveNoReferrers self.now.tuples self.now.aside.numbers }
     {
         self.store.is_counted()
     }
 
     // Makes memory for those numbers.
     pub fn keep_counts(&mut self) -> Result<(), NoMemory>
-        ensures ok { OnOk result (self.new ≡ record self.old { referring = record self.old.referring { counted = true } }) }
+        ensures ok { OnOk result (self.new ≡ record self.old { aside = record self.old.aside { counted = true } }) }
         ensures err { OnErr result (self.new ≡ self.old) }
-        ensures had { IsTrue self.old.referring.counted → IsOk result }
+        ensures had { IsTrue self.old.aside.counted → IsOk result }
     {
         self.store.keep_counts()
     }
 
     // Gives the memory of those numbers back, each of which is 0. It takes no memory.
     pub fn forget_counts(&mut self)
-        requires { HaveNoReferrers self.old.tuples self.old.referring.numbers }
-        ensures { self.new ≡ record self.old { referring = record self.old.referring { counted = false } } }
+        requires { HaveNoReferrers self.old.tuples self.old.aside.numbers }
+        ensures { self.new ≡ record self.old { aside = record self.old.aside { counted = false } } }
     {
         self.store.forget_counts();
     }
@@ -174,8 +233,8 @@ impl Rows {
     // Sets how many links name a row, where these numbers are kept.
     pub fn set_referrers(&mut self, r: TupleRef, n: u64)
         requires held { IsSome (finite.get self.old.tuples r) }
-        requires counted { IsTrue self.old.referring.counted }
-        ensures { self.new ≡ record self.old { referring = with_number self.old.referring r n } }
+        requires counted { IsTrue self.old.aside.counted }
+        ensures { self.new ≡ record self.old { aside = with_number self.old.aside r n } }
     {
         self.store.set_count(r, n);
     }
@@ -185,7 +244,7 @@ impl Rows {
         requires held { IsSome (finite.get self.old.tuples r) }
         requires column { (t : Row) → finite.get self.old.tuples r ≡ Some t → (0 < column.0) × (column.0 ≤ length t.cells) }
         ensures width { self.new.width ≡ self.old.width }
-        ensures referring { self.new.referring ≡ self.old.referring }
+        ensures aside { self.new.aside ≡ self.old.aside }
         ensures row { (t : Row) → finite.get self.old.tuples r ≡ Some t → self.new.tuples ≡ finite.insert self.old.tuples r (record t { cells = slice_set t.cells (column.0 - 1) cell }) }
     {
         drop(self.store.replace(r, column.0, cell));
@@ -195,9 +254,63 @@ impl Rows {
     pub fn remove(&mut self, r: TupleRef)
         requires { IsSome (finite.get self.old.tuples r) }
         ensures width { self.new.width ≡ self.old.width }
-        ensures referring { self.new.referring ≡ without_number self.old.referring r }
+        ensures aside { self.new.aside ≡ without_number self.old.aside r }
         ensures rows { self.new.tuples ≡ finite.remove self.old.tuples r }
     {
+        self.store.remove(r);
+    }
+
+    // Owes so many rows more, and makes memory to hide as many.
+    pub fn owe(&mut self, n: u64) -> Result<(), NoMemory>
+        ensures ok { OnOk result (self.new ≡ record self.old { aside = record self.old.aside { owed = self.old.aside.owed + n } }) }
+        ensures err { OnErr result (self.new ≡ self.old) }
+    {
+        if n > MOST_OWED - self.owed {
+            return Err(NoMemory::from(AllocError));
+        }
+        cover(&mut self.hidden, &self.store, self.owed + n)?;
+        self.owed += n;
+        Ok(())
+    }
+
+    // So many rows are owed no longer, and none of them is hidden. It takes no memory.
+    pub fn forgive(&mut self, n: u64)
+        requires { n + finite.len self.old.aside.hidden ≤ self.old.aside.owed }
+        ensures { self.new ≡ record self.old { aside = record self.old.aside { owed = self.old.aside.owed - n } } }
+    {
+        self.owed -= n;
+        shed(&mut self.hidden, self.owed);
+    }
+
+    // Hides a row that no link names, where more are owed than are hidden. It takes no memory.
+    pub fn hide(&mut self, r: TupleRef)
+        requires held { IsSome (finite.get self.old.tuples r) }
+        requires unnamed { referrers_at self.old.aside.numbers r ≡ 0 }
+        requires owed { finite.len self.old.aside.hidden < self.old.aside.owed }
+        ensures { (row : Row) → finite.get self.old.tuples r ≡ Some row → self.new ≡ with_hidden self.old r row }
+    {
+        self.hidden.insert(r.number);
+        self.hidden_count += 1;
+    }
+
+    // Shows a hidden row again. It takes no memory.
+    pub fn show(&mut self, r: TupleRef)
+        requires { IsSome (finite.get self.old.aside.hidden r) }
+        ensures { (row : Row) → finite.get self.old.aside.hidden r ≡ Some row → self.new ≡ with_shown self.old r row }
+    {
+        self.hidden.remove(r.number);
+        self.hidden_count -= 1;
+    }
+
+    // Drops a hidden row. It takes no memory.
+    pub fn drop_hidden(&mut self, r: TupleRef)
+        requires { IsSome (finite.get self.old.aside.hidden r) }
+        ensures tuples { self.new.tuples ≡ self.old.tuples }
+        ensures width { self.new.width ≡ self.old.width }
+        ensures aside { self.new.aside ≡ record self.old.aside { hidden = finite.remove self.old.aside.hidden r } }
+    {
+        self.hidden.remove(r.number);
+        self.hidden_count -= 1;
         self.store.remove(r);
     }
 }

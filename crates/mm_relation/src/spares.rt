@@ -31,7 +31,7 @@ const MOST_HEADS_A_BUCKET: usize = 2;
 pub fn shed_rows(rows: &mut Rows)
     ensures tuples { rows.new.tuples ≡ rows.old.tuples }
     ensures width { rows.new.width ≡ rows.old.width }
-    ensures referring { rows.new.referring ≡ rows.old.referring }
+    ensures aside { rows.new.aside ≡ rows.old.aside }
     ensures kept { rows.old.free ≤ 4096 / rows.old.width → rows.new ≡ rows.old }
 {
     rows.shed_spares(FEW_CELLS / rows.width() as u64);

@@ -46,7 +46,7 @@ loop-r-init g c =
       room = subst (λ n. HaveRoom n c.args.indexes.now) all c.requires.room;
       left = λ n room. subst (λ m. HaveRoom (m + n) c.args.indexes.now) all room;
       width = refl;
-      referring = refl;
+      aside = refl;
       copies = c.requires.ready ∙ ap (λ n. pile n c.args.sets.now) all;
     }
 
@@ -61,7 +61,7 @@ loop-r-preserved g c = record {
       let one : length c.args.rs.now - c.loop-r.r-index + n ≡ length c.args.rs.now - (c.loop-r.r-index + 1) + n + 1 = omega arith in
       c.change_row.ensures.room (length c.args.rs.now - (c.loop-r.r-index + 1) + n) (subst (λ m. HaveRoom m c.loop-r.indexes) one (c.loop-r.invariant.left n room));
   width = c.change_row.ensures.width ∙ c.loop-r.invariant.width;
-  referring = c.change_row.ensures.referring ∙ c.loop-r.invariant.referring;
+  aside = c.change_row.ensures.aside ∙ c.loop-r.invariant.aside;
   copies = c.change_row.ensures.left _ (c.loop-r.invariant.copies ∙ pile_split (length c.args.rs.now) c.loop-r.r-index c.args.sets.now (omega arith));
 }
 

@@ -13,6 +13,6 @@ invariant-loop-r g l = record {
   room : HaveRoom (length l.rs - l.r-index) l.indexes;
   left : (n : ℕ) → HaveRoom (length l.rs + n) l.fn.indexes → HaveRoom (length l.rs - l.r-index + n) l.indexes;
   width : l.rows.width ≡ l.fn.rows.width;
-  referring : l.rows.referring ≡ l.fn.rows.referring;
+  aside : l.rows.aside ≡ l.fn.rows.aside;
   copies : l.copies.items ≡ pile (length l.rs - l.r-index) l.sets;
 }

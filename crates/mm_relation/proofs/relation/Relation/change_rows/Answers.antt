@@ -21,35 +21,35 @@ reserve-requires g c =
 pub change_all-requires-clause-read : goal.change_all-requires-clause-read
 change_all-requires-clause-read g c =
     let keys = linked_keys c.self.inside.targets.items (g.R.Relations.tables c.args.others.now) in
-    let same = same_state c.self.inside.rows.referring c.self.inside.schema c.self.inside.targets.items c.self.inside.declared.items c.self.inside.rows.tuples c.self.inside.rows.tuples c.self.inside.by_key.tree c.self.inside.by_key.tree c.self.inside.indexes c.reserve.new.indexes
+    let same = same_state c.self.inside.rows.aside c.self.inside.schema c.self.inside.targets.items c.self.inside.declared.items c.self.inside.rows.tuples c.self.inside.rows.tuples c.self.inside.by_key.tree c.self.inside.by_key.tree c.self.inside.indexes c.reserve.new.indexes
     refl refl c.reserve.ensures.same in
     let kept = subst IsKept (sym same) c.self.invariant.0 in
     let current = subst (IsCurrent keys) (sym same) (rw (← c.self.view_is) at c.requires.current) in
-    rw c.as_slice.ensures.value (can_read c.self.inside.rows.referring c.self.inside.schema c.self.inside.targets.items c.self.inside.declared.items c.self.inside.rows.tuples c.self.inside.by_key.tree c.reserve.new.indexes kept keys current)
+    rw c.as_slice.ensures.value (can_read c.self.inside.rows.aside c.self.inside.schema c.self.inside.targets.items c.self.inside.declared.items c.self.inside.rows.tuples c.self.inside.by_key.tree c.reserve.new.indexes kept keys current)
 
 pub change_all-requires-clause-served : goal.change_all-requires-clause-served
 change_all-requires-clause-served g c =
     let keys = linked_keys c.self.inside.targets.items (g.R.Relations.tables c.args.others.now) in
-    let same = same_state c.self.inside.rows.referring c.self.inside.schema c.self.inside.targets.items c.self.inside.declared.items c.self.inside.rows.tuples c.self.inside.rows.tuples c.self.inside.by_key.tree c.self.inside.by_key.tree c.self.inside.indexes c.reserve.new.indexes
+    let same = same_state c.self.inside.rows.aside c.self.inside.schema c.self.inside.targets.items c.self.inside.declared.items c.self.inside.rows.tuples c.self.inside.rows.tuples c.self.inside.by_key.tree c.self.inside.by_key.tree c.self.inside.indexes c.reserve.new.indexes
     refl refl c.reserve.ensures.same in
     let kept = subst IsKept (sym same) c.self.invariant.0 in
     let current = subst (IsCurrent keys) (sym same) (rw (← c.self.view_is) at c.requires.current) in
     rw c.as_slice.ensures.value
-    (tree_list c.self.inside.by_key.tree, c.self.invariant.0.keyed, served c.self.inside.rows.referring c.self.inside.schema c.self.inside.targets.items c.self.inside.declared.items c.self.inside.rows.tuples c.self.inside.by_key.tree c.reserve.new.indexes kept keys current)
+    (tree_list c.self.inside.by_key.tree, c.self.invariant.0.keyed, served c.self.inside.rows.aside c.self.inside.schema c.self.inside.targets.items c.self.inside.declared.items c.self.inside.rows.tuples c.self.inside.by_key.tree c.reserve.new.indexes kept keys current)
 
 pub invariant_of-self-2 : goal.invariant_of-self-2
 invariant_of-self-2 g c =
     let keys = linked_keys c.self.inside.targets.items (g.R.Relations.tables c.args.others.now) in
-    let same = same_state c.self.inside.rows.referring c.self.inside.schema c.self.inside.targets.items c.self.inside.declared.items c.self.inside.rows.tuples c.self.inside.rows.tuples c.self.inside.by_key.tree c.self.inside.by_key.tree c.self.inside.indexes c.reserve.new.indexes
+    let same = same_state c.self.inside.rows.aside c.self.inside.schema c.self.inside.targets.items c.self.inside.declared.items c.self.inside.rows.tuples c.self.inside.rows.tuples c.self.inside.by_key.tree c.self.inside.by_key.tree c.self.inside.indexes c.reserve.new.indexes
     refl refl c.reserve.ensures.same in
     let kept = subst IsKept (sym same) c.self.invariant.0 in
     let current = subst (IsCurrent keys) (sym same) (rw (← c.self.view_is) at c.requires.current) in
     let after : IsKeyed c.change_all.new.rows.tuples (tree_list c.self.inside.by_key.tree) × Serve keys c.change_all.new.rows.tuples (tree_list c.self.inside.by_key.tree) c.shed_spares.new.indexes =
     rw c.shed_spares.ensures.same
     ((rw c.as_slice.ensures.value at c.change_all.ensures.served) (tree_list c.self.inside.by_key.tree) c.self.invariant.0.keyed
-    (served c.self.inside.rows.referring c.self.inside.schema c.self.inside.targets.items c.self.inside.declared.items c.self.inside.rows.tuples c.self.inside.by_key.tree c.reserve.new.indexes kept keys current)) in (
-      kept_on c.self.inside.rows.referring c.self.inside.schema c.self.inside.targets.items c.self.inside.declared.items c.self.inside.rows.tuples c.self.inside.by_key.tree c.reserve.new.indexes kept
-          c.change_all.new.rows.referring c.change_all.new.rows.tuples c.self.inside.by_key.tree c.shed_spares.new.indexes after.0
+    (served c.self.inside.rows.aside c.self.inside.schema c.self.inside.targets.items c.self.inside.declared.items c.self.inside.rows.tuples c.self.inside.by_key.tree c.reserve.new.indexes kept keys current)) in (
+      kept_on c.self.inside.rows.aside c.self.inside.schema c.self.inside.targets.items c.self.inside.declared.items c.self.inside.rows.tuples c.self.inside.by_key.tree c.reserve.new.indexes kept
+          c.change_all.new.rows.aside c.change_all.new.rows.tuples c.self.inside.by_key.tree c.shed_spares.new.indexes after.0
           (as_few c.self.inside.rows.tuples c.change_all.new.rows.tuples (tree_list c.self.inside.by_key.tree) c.self.invariant.0.keyed after.0 c.self.invariant.0.few)
           (seen_declared c.change_all.new.indexes c.shed_spares.new.indexes c.shed_spares.ensures.same ∙ c.change_all.ensures.declared),
       c.change_all.ensures.width ∙ c.self.invariant.1,
@@ -58,18 +58,18 @@ invariant_of-self-2 g c =
 pub returns-clause-current : goal.returns-clause-current
 returns-clause-current g c =
     let keys = linked_keys c.self.inside.targets.items (g.R.Relations.tables c.args.others.now) in
-    let same = same_state c.self.inside.rows.referring c.self.inside.schema c.self.inside.targets.items c.self.inside.declared.items c.self.inside.rows.tuples c.self.inside.rows.tuples c.self.inside.by_key.tree c.self.inside.by_key.tree c.self.inside.indexes c.reserve.new.indexes
+    let same = same_state c.self.inside.rows.aside c.self.inside.schema c.self.inside.targets.items c.self.inside.declared.items c.self.inside.rows.tuples c.self.inside.rows.tuples c.self.inside.by_key.tree c.self.inside.by_key.tree c.self.inside.indexes c.reserve.new.indexes
     refl refl c.reserve.ensures.same in
     let kept = subst IsKept (sym same) c.self.invariant.0 in
     let current = subst (IsCurrent keys) (sym same) (rw (← c.self.view_is) at c.requires.current) in
     let after : IsKeyed c.change_all.new.rows.tuples (tree_list c.self.inside.by_key.tree) × Serve keys c.change_all.new.rows.tuples (tree_list c.self.inside.by_key.tree) c.shed_spares.new.indexes =
     rw c.shed_spares.ensures.same
     ((rw c.as_slice.ensures.value at c.change_all.ensures.served) (tree_list c.self.inside.by_key.tree) c.self.invariant.0.keyed
-    (served c.self.inside.rows.referring c.self.inside.schema c.self.inside.targets.items c.self.inside.declared.items c.self.inside.rows.tuples c.self.inside.by_key.tree c.reserve.new.indexes kept keys current)) in
+    (served c.self.inside.rows.aside c.self.inside.schema c.self.inside.targets.items c.self.inside.declared.items c.self.inside.rows.tuples c.self.inside.by_key.tree c.reserve.new.indexes kept keys current)) in
     let can = can_set keys (length c.self.inside.targets.items) c.self.inside.rows.tuples c.args.sets.now current.readable
     (rw (← c.self.view_is) at c.requires.columns) c.requires.not_the_key (rw (← c.self.view_is) at c.requires.readable) in
     rw (← c.self.view_is)
-    (current_on c.self.inside.rows.referring c.self.inside.schema c.self.inside.targets.items c.self.inside.declared.items c.self.inside.rows.tuples c.self.inside.by_key.tree c.reserve.new.indexes kept
-    c.change_all.new.rows.referring c.change_all.new.rows.tuples c.self.inside.by_key.tree c.shed_spares.new.indexes keys
+    (current_on c.self.inside.rows.aside c.self.inside.schema c.self.inside.targets.items c.self.inside.declared.items c.self.inside.rows.tuples c.self.inside.by_key.tree c.reserve.new.indexes kept
+    c.change_all.new.rows.aside c.change_all.new.rows.tuples c.self.inside.by_key.tree c.shed_spares.new.indexes keys
     (readable_set keys (length c.self.inside.targets.items) c.self.inside.rows.tuples c.args.sets.now current.readable can c.change_all.new.rows.tuples c.args.rs.now c.change_all.ensures.rows)
     after.1)

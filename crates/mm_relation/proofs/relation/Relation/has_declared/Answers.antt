@@ -10,4 +10,4 @@ pub returns : goal.returns
 returns c =
     rw (← c.self.view_is)
     (c.is_declared.ensures ∙ ap (list_any (λ (on : IndexOn). is_index (declaration c.args.column c.args.kind) (declaration_of on))) c.as_slice.ensures
-    ∙ any_declared c.self.inside.rows.referring c.self.inside.schema c.self.inside.targets.items c.self.inside.declared.items c.self.inside.rows.tuples c.self.inside.by_key.tree c.self.inside.indexes c.args.column c.args.kind)
+    ∙ any_declared c.self.inside.rows.aside c.self.inside.schema c.self.inside.targets.items c.self.inside.declared.items c.self.inside.rows.tuples c.self.inside.by_key.tree c.self.inside.indexes c.args.column c.args.kind)

@@ -4,7 +4,7 @@ use Rattle.mm_relation.proofs.relation.Relation.sub_referrers.Goals as goal
 
 pub invariant_of-self : goal.invariant_of-self
 invariant_of-self c = rw c.count_down.ensures (
-  kept_on c.self.inside.rows.referring c.self.inside.schema c.self.inside.targets.items c.self.inside.declared.items c.self.inside.rows.tuples c.self.inside.by_key.tree c.self.inside.indexes c.self.invariant.0
+  kept_on c.self.inside.rows.aside c.self.inside.schema c.self.inside.targets.items c.self.inside.declared.items c.self.inside.rows.tuples c.self.inside.by_key.tree c.self.inside.indexes c.self.invariant.0
       _ c.self.inside.rows.tuples c.self.inside.by_key.tree c.self.inside.indexes c.self.invariant.0.keyed c.self.invariant.0.few refl,
   c.self.invariant.1,
 )
@@ -12,6 +12,6 @@ invariant_of-self c = rw c.count_down.ensures (
 pub returns-clause-current : goal.returns-clause-current
 returns-clause-current c = rw c.count_down.ensures (λ keys current.
     let was = rw (← c.self.view_is) at current in
-    current_on c.self.inside.rows.referring c.self.inside.schema c.self.inside.targets.items c.self.inside.declared.items c.self.inside.rows.tuples c.self.inside.by_key.tree c.self.inside.indexes c.self.invariant.0
+    current_on c.self.inside.rows.aside c.self.inside.schema c.self.inside.targets.items c.self.inside.declared.items c.self.inside.rows.tuples c.self.inside.by_key.tree c.self.inside.indexes c.self.invariant.0
     _ c.self.inside.rows.tuples c.self.inside.by_key.tree c.self.inside.indexes keys was.readable
-    (served c.self.inside.rows.referring c.self.inside.schema c.self.inside.targets.items c.self.inside.declared.items c.self.inside.rows.tuples c.self.inside.by_key.tree c.self.inside.indexes c.self.invariant.0 keys was))
+    (served c.self.inside.rows.aside c.self.inside.schema c.self.inside.targets.items c.self.inside.declared.items c.self.inside.rows.tuples c.self.inside.by_key.tree c.self.inside.indexes c.self.invariant.0 keys was))

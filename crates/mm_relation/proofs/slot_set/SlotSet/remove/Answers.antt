@@ -1,0 +1,5 @@
+use Rattle.mm_relation.proofs.Slots.{clear_slot}
+use Rattle.mm_relation.proofs.slot_set.SlotSet.remove.Goals as goal
+
+pub returns-clause-changes : goal.returns-clause-changes
+returns-clause-changes c = clear_slot c.args.self.now.words.items c.args.slot c.index_mut.result.now c.requires c.index_mut.ensures.value
