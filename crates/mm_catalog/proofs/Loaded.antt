@@ -39,6 +39,8 @@ rewritten_then old mid new n b m a h l keys = record {
     targets = l.keeps.targets ∙ h.keeps.targets;
     declared = l.keeps.declared ∙ h.keeps.declared;
     counted = l.keeps.counted ∙ h.keeps.counted;
+    hidden = l.keeps.hidden ∙ h.keeps.hidden;
+    owed = l.keeps.owed ∙ h.keeps.owed;
   };
   keys = λ r held some. keys r held;
 }
@@ -54,7 +56,7 @@ more_none c n s there = record {
     here = there;
     count = refl;
     others = λ k t u other at now. (AreRecounted-refl c.relations).each k t u at now;
-    keeps = record { schema = refl; targets = refl; declared = refl; counted = refl };
+    keeps = record { schema = refl; targets = refl; declared = refl; counted = refl; hidden = refl; owed = refl };
     keys = λ r held some. refl;
   };
   same = refl;

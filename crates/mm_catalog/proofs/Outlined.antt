@@ -124,6 +124,8 @@ more_outlined c d n refs h = record {
           targets = sym h.rewritten.keeps.targets;
           declared = sym h.rewritten.keeps.declared;
           counted = sym h.rewritten.keeps.counted;
+          hidden = sym h.rewritten.keeps.hidden;
+          owed = sym h.rewritten.keeps.owed;
         })
         (without_is refs h.after.rows h.before.rows (λ q there. All-contains (λ p. get h.before.rows p ≡ None) refs q h.fresh there) (λ q no. sym (h.others q no)))
 

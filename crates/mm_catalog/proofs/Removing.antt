@@ -108,7 +108,7 @@ AreRemoved-none s = record {
   gone = λ r h. absurd (omega (arith, h.1));
   others = λ r h. refl;
   counts = λ r h. refl;
-  keeps = record { schema = refl; targets = refl; declared = refl; counted = refl };
+  keeps = record { schema = refl; targets = refl; declared = refl; counted = refl; hidden = refl; owed = refl };
 }
 
 pub AreRemoved-more : (s t u : RelationState) (refs : List TupleRef) (i : ℕ) (r : TupleRef) → i < length refs → get_or refs i r ≡ r → AreRemoved s t (take i refs) → IsRemoved t u r → AreRemoved s u (take (i + 1) refs)
@@ -139,6 +139,8 @@ AreRemoved-more s t u refs i r within is so_far removed =
         targets = removed.keeps.targets ∙ so_far.keeps.targets;
         declared = removed.keeps.declared ∙ so_far.keeps.declared;
         counted = removed.keeps.counted ∙ so_far.keeps.counted;
+        hidden = removed.keeps.hidden ∙ so_far.keeps.hidden;
+        owed = removed.keeps.owed ∙ so_far.keeps.owed;
       };
     })
 

@@ -66,6 +66,8 @@ module _ (c : CatalogState) (ok : IsConsistent c) (d e : CatalogState) (n : ℕ)
     targets = removed.keeps.targets ∙ h.rewritten.keeps.targets;
     declared = removed.keeps.declared ∙ h.rewritten.keeps.declared;
     counted = removed.keeps.counted ∙ h.rewritten.keeps.counted;
+    hidden = removed.keeps.hidden ∙ h.rewritten.keeps.hidden;
+    owed = removed.keeps.owed ∙ h.rewritten.keeps.owed;
   }
 
   step : IsRewritten d.relations e.relations n m z

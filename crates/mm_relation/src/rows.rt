@@ -15,11 +15,8 @@ use crate::stored_cell::{SeenCell, StoredCell};
 use no_memory::NoMemory;
 use part_raw::{MAX_TUPLES, MAX_WIDTH, Partitions, TupleRef};
 use plain_tables::{ColumnNumber, StoredValue};
-use std::alloc::{AllocError, Global};
+use std::alloc::Global;
 use std::marker::Model;
-
-// The most rows of which a store owes that they can come back.
-const MOST_OWED: u64 = 16_777_216;
 
 // A store of rows, each under a reference that is its own while it is held.
 #[derive(Drop)]
@@ -260,14 +257,12 @@ impl Rows {
         self.store.remove(r);
     }
 
-    // Owes so many rows more, and makes memory to hide as many.
+    // Owes so many rows more, at most 16,777,216 in all, and makes memory to hide as many.
     pub fn owe(&mut self, n: u64) -> Result<(), NoMemory>
+        requires { self.old.aside.owed + n ≤ 16777216 }
         ensures ok { OnOk result (self.new ≡ record self.old { aside = record self.old.aside { owed = self.old.aside.owed + n } }) }
         ensures err { OnErr result (self.new ≡ self.old) }
     {
-        if n > MOST_OWED - self.owed {
-            return Err(NoMemory::from(AllocError));
-        }
         cover(&mut self.hidden, &self.store, self.owed + n)?;
         self.owed += n;
         Ok(())

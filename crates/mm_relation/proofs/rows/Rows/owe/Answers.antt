@@ -1,4 +1,4 @@
-use Rattle.std.proofs.Common.{◌+◌, arith}
+use Rattle.std.proofs.Common.{◌+◌, ◌≤◌, arith}
 use Rattle.std.specs.Prelude.{Result, Ok, Err, OnErr}
 use Rattle.mm_relation.proofs.Hiding.{parted_covered, rows_covered}
 use Rattle.mm_relation.proofs.rows.Rows.owe.Goals as goal
@@ -10,7 +10,8 @@ invariant_of-self c =
 
 pub invariant_of-self-2 : goal.invariant_of-self-2
 invariant_of-self-2 c =
-    parted_covered c.self.inside.store.width c.self.inside.store.tuples c.self.inside.store.counts c.self.inside.hidden.words.items c.self.inside.hidden_count c.self.inside.owed c.self.invariant c.cover.new.hidden.words.items (c.self.inside.owed + c.args.n) c.cover.ensures.same (omega (arith, c.self.invariant.within)) (omega (arith, c.if-n-self.false, c.self.invariant.few))
+    let few : c.self.inside.owed + c.args.n ≤ 16777216 = rw (← c.self.view_is) at c.requires in
+    parted_covered c.self.inside.store.width c.self.inside.store.tuples c.self.inside.store.counts c.self.inside.hidden.words.items c.self.inside.hidden_count c.self.inside.owed c.self.invariant c.cover.new.hidden.words.items (c.self.inside.owed + c.args.n) c.cover.ensures.same (omega (arith, c.self.invariant.within)) few
     c.in_ok-cover.ensures.covered
 
 pub returns-clause-ok : goal.returns-clause-ok
