@@ -1,11 +1,13 @@
 -- Cells: what they are as more texts come.
-use Rattle.std.proofs.Common.{◌≡◌, ℕ, ◌+◌, ◌-◌, ◌≤◌, length, arith, List, [], ◌∷◌, ◌++◌, refl, ap, ◌∙◌, take, drop, map}
-use Rattle.std.specs.Prelude.{slice_range}
+use Rattle.std.proofs.Common.{◌≡◌, ℕ, ◌+◌, ◌-◌, ◌≤◌, length, arith, List, [], ◌∷◌, ◌++◌, refl, ap, ◌∙◌, append-nil, take, drop, map}
+use Rattle.std.proofs.lemmas.Bool.{false≢true}
+use Rattle.std.specs.Prelude.{Result, Ok, Err, IsOk, is_ok, if◌then◌else◌, slice_range}
 use Rattle.std.specs.List.{All}
 use Rattle.std.proofs.lemmas.List.{map-append, take-append-le, drop-append-le, length-drop}
 use Rattle.std.proofs.Math.Seq.{drop-append_seam, take-length}
+use Rattle.std.proofs.lemmas.List.Concat.{flat_map-append}
 use Rattle.std.proofs.lemmas.List.Elements.{All-tail, All-head}
-use Rattle.mm_cells.specs.Reading.{cell_value, IsReadable}
+use Rattle.mm_cells.specs.Reading.{cell_value, IsReadable, text_of, texts_of}
 use Rattle.mm_cells.specs.declared.cells.Cell.{Cell}
 use Rattle.plain_tables.specs.declared.value.Value.TheVariants as value
 
@@ -37,3 +39,16 @@ text-read texts more cells c all kind at long =
     map-append (cell_value (texts ++ more)) cells (c ∷ [])
     ∙ ap (λ vs. vs ++ cell_value (texts ++ more) c ∷ []) (values-kept texts more cells all)
     ∙ ap (λ v. map (cell_value texts) cells ++ v ∷ []) (rw (kind, at, long, range-new texts more) refl)
+
+-- the texts of all are those before, and the text that stands behind them
+pub texts-in-turn : (texts more : List ℕ) (cells : List Cell) (c : Cell) → All (IsReadable texts) cells → texts_of (map (cell_value texts) cells) ≡ texts
+    → c.kind ≡ 2 → c.at ≡ length texts → c.length ≡ length more → texts_of (map (cell_value (texts ++ more)) (cells ++ c ∷ [])) ≡ texts ++ more
+texts-in-turn texts more cells c all turn kind at long =
+    ap texts_of (text-read texts more cells c all kind at long)
+    ∙ flat_map-append text_of (map (cell_value texts) cells) (value.Text more ∷ [])
+    ∙ ap (λ before. before ++ (more ++ [])) turn ∙ ap (λ rest. texts ++ rest) (append-nil more)
+
+-- what is pushed where there is room stands behind the others
+pub pushed-behind : {A E : Type 0} (r : Result A E) (old new : List Cell) (c : Cell) → IsOk r → new ≡ (if is_ok r then old ++ c ∷ [] else old) → new ≡ old ++ c ∷ []
+pushed-behind (Ok a) old new c ok is = is
+pushed-behind (Err e) old new c ok is = absurd (false≢true ok)

@@ -1,9 +1,9 @@
 //! Cells, and the values that they are.
-ghost use Rattle.std.specs.Prelude.{◌≡◌, ◌++◌, ◌∷◌, ◌+◌, ◌<◌, [], None, length, map, OnOk, OnErr};
+ghost use Rattle.std.specs.Prelude.{◌≡◌, ◌++◌, ◌∷◌, ◌+◌, ◌<◌, ◌↔◌, [], None, length, map, IsErrOf, OnOk, OnErr};
 ghost use Rattle.plain_tables.specs.Stored.{link_number};
 ghost use Rattle.plain_tables.specs.declared.value.Value.TheVariants as value;
 ghost use Rattle.std.specs.List.{All};
-ghost use Rattle.mm_cells.specs.Reading.{IsReadable, cell_value};
+ghost use Rattle.mm_cells.specs.Reading.{IsReadable, IsTooLong, cell_value, texts_of};
 
 use crate::fault::CellFault;
 use no_memory::NoMemory;
@@ -50,6 +50,7 @@ pub struct Cells {
     pub cells: Vec<Cell>,
     pub texts: Vec<u8>,
     ghost readable: { All (IsReadable texts.items) cells.items },
+    ghost in_turn: { texts_of (map (cell_value texts.items) cells.items) ≡ texts.items },
 }
 
 impl Cells {
@@ -109,10 +110,11 @@ impl Cells {
         })
     }
 
-    /// Puts a text behind the others. At an error it is not put there: `TooLong` where the text is longer than 65,535 bytes, or the
-    /// texts before it are longer than 4 GiB.
+    /// Puts a text behind the others. At an error it is not put there: `TooLong` if the text has more than 65,535 bytes, or the texts
+    /// before it have 4 GiB or more.
     pub fn push_text(&mut self, text: &str) -> Result<(), CellFault>
         ensures pushed { OnOk result (values_of self.new ≡ values_of self.old ++ value.Text text.now ∷ []) }
+        ensures too_long { IsErrOf result CellFault.TooLong ↔ IsTooLong (values_of self.old) (value.Text text.now) }
         ensures unchanged { OnErr result (values_of self.new ≡ values_of self.old) }
     {
         let Ok(at) = u32::try_from(self.texts.len()) else {
@@ -135,18 +137,17 @@ impl Cells {
     /// Appends a full name as a text: a table's name, a dot and a column's. It fails as `push_text` does, and then appends nothing.
     pub fn push_name(&mut self, table: &str, column: &str) -> Result<(), CellFault>
         ensures pushed { OnOk result (values_of self.new ≡ values_of self.old ++ value.Text (table.now ++ 46 ∷ column.now) ∷ []) }
+        ensures too_long { IsErrOf result CellFault.TooLong ↔ IsTooLong (values_of self.old) (value.Text (table.now ++ 46 ∷ column.now)) }
         ensures unchanged { OnErr result (values_of self.new ≡ values_of self.old) }
     {
-        let before = self.texts.len();
-        let Ok(at) = u32::try_from(before) else {
+        let Ok(at) = u32::try_from(self.texts.len()) else {
+            return Err(CellFault::TooLong);
+        };
+        let Ok(length) = u16::try_from(table.len() + 1 + column.len()) else {
             return Err(CellFault::TooLong);
         };
         self.cells.reserve(1)?;
         append_name(&mut self.texts, table, column)?;
-        let Ok(length) = u16::try_from(self.texts.len() - before) else {
-            self.texts.truncate(before);
-            return Err(CellFault::TooLong);
-        };
         self.cells.push(Cell {
             integer: 0,
             at,
@@ -159,6 +160,7 @@ impl Cells {
     /// Puts a value of a command behind the others. At an error it is not put there; `TooLong` comes as from `push_text`.
     pub fn push_value(&mut self, value: &Value) -> Result<(), CellFault>
         ensures pushed { OnOk result (values_of self.new ≡ values_of self.old ++ value.now ∷ []) }
+        ensures too_long { IsErrOf result CellFault.TooLong ↔ IsTooLong (values_of self.old) value.now }
         ensures unchanged { OnErr result (values_of self.new ≡ values_of self.old) }
     {
         match value {
@@ -172,6 +174,7 @@ impl Cells {
     pub fn push(&mut self, value: &StoredValue) -> Result<(), CellFault>
         requires { link_number value.now ≡ None }
         ensures pushed { OnOk result (values_of self.new ≡ values_of self.old ++ value.now ∷ []) }
+        ensures too_long { IsErrOf result CellFault.TooLong ↔ IsTooLong (values_of self.old) value.now }
         ensures unchanged { OnErr result (values_of self.new ≡ values_of self.old) }
     {
         match value.seen() {
