@@ -12,7 +12,6 @@ pub mod LineLemmas
 pub mod ListingLemmas
 pub mod MemberLemmas
 pub mod MemoryLemmas
-pub mod NoLinks
 pub mod OnlyRowLemmas
 pub mod PerformLemmas
 pub mod PickLemmas
@@ -30,6 +29,7 @@ pub mod SelectLemmas
 pub mod ShortTexts
 pub mod ShowLemmas
 pub mod SinkLemmas
+pub mod StorableValues
 pub mod StreamLemmas
 pub mod TakeLemmas
 pub mod TurnLemmas

@@ -1,15 +1,20 @@
 -- What is put into a sink, one after another.
+use Rattle.mm_cells.specs.Reading.{AreFull, IsTooLong}
 use Rattle.mm_cells.specs.Values.{values_of}
 use Rattle.mm_cells.specs.declared.cells.Cells.{Cells}
-use Rattle.std.proofs.Common.{◌≡◌, ◌∙◌, ℕ, ◌+◌, ◌<◌, ◌≤◌, List, [], ◌∷◌, ◌++◌, Option, None, Some, map, sym, ap, subst, arith, append-nil, append_assoc, length}
+use Rattle.mm_cells.specs.declared.fault.CellFault.{CellFault}
+use Rattle.mm_cells.specs.declared.fault.CellFault.TheVariants as fault
+use Rattle.std.proofs.Common.{◌≡◌, ◌∙◌, ℕ, ◌+◌, ◌<◌, ◌≤◌, List, [], ◌∷◌, ◌++◌, Option, None, Some, inl, inr, map, sym, ap, subst, refl, arith, append-nil, append_assoc, length}
 use Rattle.std.proofs.KnownBytes.{Appends-nil}
 use Rattle.std.proofs.lemmas.List.{length-append}
 use Rattle.std.specs.Io.KnownBytes.{Appends}
 use Rattle.std.specs.List.{flat_map}
-use Rattle.std.specs.Prelude.{Result, Ok, Err, IfOk, IfSome, OnOk}
+use Rattle.std.specs.Prelude.{◌↔◌, Result, Ok, Err, IfErr, IfOk, IfSome, OnErr, OnOk}
 use Rattle.plain_tables.specs.Csv.{joined, record_text, row_record, value_field}
+use Rattle.plain_tables.specs.ResolvedLaws.{IsStorable}
 use Rattle.plain_tables.specs.Tables.{Row}
 use Rattle.plain_tables.specs.declared.value.Value.{Value}
+use Rattle.plain_tables.specs.declared.value.Value.TheVariants as value
 use Rattle.mm_session.specs.Sinks.{PutsValues, EndsRow, PutsRows, Written, IsBehind}
 
 module _ {S : Type 0} (received : S → List Row → Row → S → Type 0) where
@@ -67,3 +72,23 @@ rows-counted count old new row before after was is few grown =
     let longer : length after ≡ length before + length (row_record row) = ap length put ∙ length-append before (row_record row) in
     let some : 0 < length (row_record row) = record-some (map value_field row) in
     (within, omega arith)
+
+-- ---- cells that take no more
+
+-- behind full cells alone a storable value is too long
+full_before : (before : List Value) (v : Value) → IsStorable v → IsTooLong before v → AreFull before
+full_before before value.Null stores long = absurd long
+full_before before (value.Int z) stores long = absurd long
+full_before before (value.Text text) stores long = elim long [ inl past ↦ absurd (omega (arith, past, stores)) | inr full ↦ full ]
+
+-- cells that have declined one are full
+pub full_after : {A : Type 0} (result : Result A CellFault) (old new : Cells) (v : Value) → IsStorable v
+    → ((result ≡ Err fault.TooLong) ↔ IsTooLong (values_of old) v) → OnErr result (values_of new ≡ values_of old)
+    → IfErr result (λ why. why ≡ fault.TooLong → AreFull (values_of new))
+full_after (Ok a) old new v stores when same = tt
+full_after (Err why) old new v stores when same =
+    λ is. subst AreFull (sym same) (full_before (values_of old) v stores (when.0 (ap Err is)))
+
+-- what is said of a reason is so where that is the error
+pub declined_so : {A E : Type 0} (result : Result A E) (e : E) (P : Type 0) → IfErr result (λ why. why ≡ e → P) → result ≡ Err e → P
+declined_so result e P says is = (subst (λ r. IfErr r (λ why. why ≡ e → P)) is says) refl

@@ -42,6 +42,7 @@ impl Model for Session {
 
 impl Session {
     ghost use Rattle.mm_catalog.specs.Seen.{database_of};
+    ghost use Rattle.mm_cells.specs.Reading.{AreFull};
     ghost use Rattle.mm_cells.specs.Values.{values_of};
     ghost use Rattle.plain_streams.specs.Division.{IsWhole};
     ghost use Rattle.mm_session.specs.NextRequest.{AnswersLast, AnswersNext, KeepsMore};
@@ -179,11 +180,12 @@ impl Session {
     }
 
     /// Makes the cells the values that a select shows, a row behind the other, and tells how many columns each row has. A failure
-    /// may leave any cells there.
+    /// may leave any cells there; `TooLong` comes only if their texts have 4 GiB or more then.
     pub fn select(&self, query: &Query, cells: &mut Cells) -> Result<usize, CellFault>
         requires { IsMeant self.now.limits self.now.database (resolved.Select query.now) }
         ensures shown { IfOk result (λ columns. ShowsValues (done self.now.limits self.now.database (resolved.Select query.now)).outcome columns (values_of cells.new)) }
         ensures some { IfOk result (λ columns. 0 < columns) }
+        ensures too_long { IsErrOf result CellFault.TooLong → AreFull (values_of cells.new) }
     {
         self.responder.executor.select_values(query, cells)
     }

@@ -1,10 +1,11 @@
 //! A select that is not answered in bytes: the values that it shows are put into cells.
 
-ghost use Rattle.std.specs.Prelude.{◌<◌, IfOk};
+ghost use Rattle.std.specs.Prelude.{◌<◌, IfOk, IsErrOf};
 ghost use Rattle.plain_tables.specs.Doing.{done};
 ghost use Rattle.plain_tables.specs.ResolvedLaws.{IsMeant};
 ghost use Rattle.plain_tables.specs.declared.resolved.Resolved.TheVariants as resolved;
 ghost use Rattle.mm_catalog.specs.Seen.{database_of};
+ghost use Rattle.mm_cells.specs.Reading.{AreFull};
 ghost use Rattle.mm_cells.specs.Values.{values_of};
 ghost use Rattle.mm_session.specs.Changing.{ShowsValues};
 
@@ -15,11 +16,12 @@ use plain_tables::Query;
 
 impl Executor {
     /// Makes the cells the values that a select shows, a row behind the other, and tells how many columns each row has. A failure
-    /// may leave any cells there.
+    /// may leave any cells there; `TooLong` comes only if their texts have 4 GiB or more then.
     pub fn select_values(&self, query: &Query, cells: &mut Cells) -> Result<usize, CellFault>
         requires { IsMeant self.now.catalog.limits (database_of self.now.catalog) (resolved.Select query.now) }
         ensures shown { IfOk result (λ columns. ShowsValues (done self.now.catalog.limits (database_of self.now.catalog) (resolved.Select query.now)).outcome columns (values_of cells.new)) }
         ensures some { IfOk result (λ columns. 0 < columns) }
+        ensures too_long { IsErrOf result CellFault.TooLong → AreFull (values_of cells.new) }
     {
         a_catalog_is_consistent(&self.catalog);
         cells.clear();

@@ -1,6 +1,6 @@
 //! Rows that are put into a sink, value by value, from where they lie.
 
-ghost use Rattle.std.specs.Prelude.{◌≡◌, ◌∷◌, ◌<◌, ℕ, [], Some, IsSome, OnOk, length, map, slice_get, slice_index_or};
+ghost use Rattle.std.specs.Prelude.{◌≡◌, ◌∷◌, ◌<◌, ℕ, [], Some, IsSome, IfErr, OnOk, length, map, slice_get, slice_index_or};
 ghost use Rattle.std.specs.FinMap as finite;
 ghost use Rattle.std.specs.List.{All};
 ghost use Rattle.mm_catalog.specs.Picked.{seen_values};
@@ -30,7 +30,8 @@ pub fn push_placed<'a, S: RowSink<'a>>(
     requires lent { (n : ℕ) × (slice_get catalog.now.relations n ≡ Some relation.now) }
     requires held { IsSome (finite.get relation.now.rows r) }
     requires columns { AreColumns relation.now places.now }
-    ensures { OnOk result (PutsValues S.received sink.old sink.new (shown_row catalog.now relation.now places.now r)) }
+    ensures put { OnOk result (PutsValues S.received sink.old sink.new (shown_row catalog.now relation.now places.now r)) }
+    ensures declined { IfErr result (S.declines sink.new) }
 {
     a_catalog_is_consistent(catalog);
     a_relation_is_kept(relation);
@@ -51,7 +52,8 @@ pub fn push_whole<'a, S: RowSink<'a>>(
 ) -> Result<(), S::Fault>
     requires lent { (n : ℕ) × (slice_get catalog.now.relations n ≡ Some relation.now) }
     requires held { IsSome (finite.get relation.now.rows r) }
-    ensures { OnOk result (PutsValues S.received sink.old sink.new (seen_values catalog.now relation.now r)) }
+    ensures put { OnOk result (PutsValues S.received sink.old sink.new (seen_values catalog.now relation.now r)) }
+    ensures declined { IfErr result (S.declines sink.new) }
 {
     a_catalog_is_consistent(catalog);
     a_relation_is_kept(relation);
@@ -74,7 +76,8 @@ fn push_columns<'a, S: RowSink<'a>>(
     requires lent { (n : ℕ) × (slice_get catalog.now.relations n ≡ Some relation.now) }
     requires held { IsSome (finite.get relation.now.rows r) }
     requires columns { All (λ column. column.0 < length relation.now.schema.columns) (columns_shown (length relation.now.schema.columns) shown.now) }
-    ensures { OnOk result (PutsValues S.received sink.old sink.new (values_shown catalog.now relation.now shown.now r)) }
+    ensures put { OnOk result (PutsValues S.received sink.old sink.new (values_shown catalog.now relation.now shown.now r)) }
+    ensures declined { IfErr result (S.declines sink.new) }
 {
     match shown {
         Shown::All => push_whole(sink, catalog, relation, r),
@@ -95,7 +98,8 @@ pub fn push_shown<'a, S: RowSink<'a>>(
     requires held { IsSome (finite.get relation.now.rows r) }
     requires columns { All (λ column. column.0 < length relation.now.schema.columns) (columns_shown (length relation.now.schema.columns) shown.now) }
     requires some { 0 < length (columns_shown (length relation.now.schema.columns) shown.now) }
-    ensures { OnOk result (PutsRows S.received sink.old sink.new (values_shown catalog.now relation.now shown.now r ∷ [])) }
+    ensures put { OnOk result (PutsRows S.received sink.old sink.new (values_shown catalog.now relation.now shown.now r ∷ [])) }
+    ensures declined { IfErr result (S.declines sink.new) }
 {
     push_columns(sink, catalog, relation, r, shown)?;
     sink.end_row()
@@ -113,7 +117,8 @@ fn push_row<'a, S: RowSink<'a>>(
     requires places { All (HasPlace catalog.now.relations list.now.sources) places.now }
     requires some { 0 < length places.now }
     requires row { row < length list.now.rows }
-    ensures { OnOk result (PutsRows S.received sink.old sink.new (placed_values catalog.now list.now.sources places.now (slice_index_or list.now.rows row []) ∷ [])) }
+    ensures put { OnOk result (PutsRows S.received sink.old sink.new (placed_values catalog.now list.now.sources places.now (slice_index_or list.now.rows row []) ∷ [])) }
+    ensures declined { IfErr result (S.declines sink.new) }
 {
     a_catalog_is_consistent(catalog);
     for place in places {
@@ -132,7 +137,8 @@ pub fn push_list<'a, S: RowSink<'a>>(
     requires over { IsOver catalog.now.relations list.now }
     requires places { All (HasPlace catalog.now.relations list.now.sources) places.now }
     requires some { 0 < length places.now }
-    ensures { OnOk result (PutsRows S.received sink.old sink.new (map (placed_values catalog.now list.now.sources places.now) list.now.rows)) }
+    ensures put { OnOk result (PutsRows S.received sink.old sink.new (map (placed_values catalog.now list.now.sources places.now) list.now.rows)) }
+    ensures declined { IfErr result (S.declines sink.new) }
 {
     for row in 0..list.len() {
         push_row(sink, catalog, list, row, places)?;

@@ -1,6 +1,6 @@
 //! A select of one table that shows each list of values once: they are told apart as rows are found, and no list of these is kept.
 
-ghost use Rattle.std.specs.Prelude.{◌≡◌, IfOk, OnOk, length};
+ghost use Rattle.std.specs.Prelude.{◌≡◌, IfErr, IfOk, OnOk, length};
 ghost use Rattle.plain_tables.specs.Doing.{headings, joined_tables};
 ghost use Rattle.mm_catalog.specs.Seen.{database_of};
 ghost use Rattle.mm_session.specs.Sinks.{PutsRows};
@@ -23,6 +23,7 @@ impl Executor {
     ) -> Result<usize, S::Fault>
         requires scan { IsScan self.now.catalog query.now }
         ensures shown { OnOk result (PutsRows S.received sink.old sink.new (rows_shown self.now.catalog query.now)) }
+        ensures declined { IfErr result (S.declines sink.new) }
         ensures columns { IfOk result (λ columns. columns ≡ length (headings (joined_tables (database_of self.now.catalog) query.now.source query.now.joins) query.now.shown)) }
     {
         a_catalog_is_consistent(&self.catalog);

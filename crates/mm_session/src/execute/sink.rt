@@ -1,8 +1,9 @@
 //! Where the rows go that a select shows: into an answer, as records, or into cells.
 
-ghost use Rattle.std.specs.Prelude.{◌≡◌, ◌++◌, ◌∷◌, [], None, Some, IfOk, OnOk};
+ghost use Rattle.std.specs.Prelude.{◌≡◌, ◌++◌, ◌∷◌, [], Some, IfErr, IfOk, OnOk};
 ghost use Rattle.std.specs.Io.KnownBytes.{Keeps};
-ghost use Rattle.plain_tables.specs.Stored.{link_number};
+ghost use Rattle.no_memory.specs.declared.NoMemory.{NoMemory as PlainNoMemory};
+ghost use Rattle.plain_tables.specs.ResolvedLaws.{IsStorable};
 ghost use Rattle.mm_session.specs.Sinks.{PutsValues, EndsRow};
 
 use crate::answer::Answer;
@@ -24,23 +25,38 @@ pub trait RowSink<'a> {
     // Since a state, these rows were received, and these values of one that has not ended.
     ghost received: { Self → List Row → Row → Self → Type 0 };
 
+    // The sink, as it is, may be why it takes no more for this reason.
+    ghost declines: { Self → Self.Fault → Type 0 };
+
     /// Puts a value behind those of its row.
     fn push_value(&mut self, value: &'a StoredValue) -> Result<(), Self::Fault>
-        requires { link_number value.now ≡ None }
-        ensures { OnOk result (PutsValues received self.old self.new (value.now ∷ [])) };
+        requires { IsStorable value.now }
+        ensures taken { OnOk result (PutsValues received self.old self.new (value.now ∷ [])) }
+        ensures declined { IfErr result (declines self.new) };
 
     /// Ends a row, which has a value.
     fn end_row(&mut self) -> Result<(), Self::Fault>
-        ensures { OnOk result (EndsRow received self.old self.new) };
+        ensures ended { OnOk result (EndsRow received self.old self.new) }
+        ensures declined { IfErr result (declines self.new) };
+
+    // A growth that was refused is a reason at any time.
+    ghost by_memory: { (sink : Self) (refused : PlainNoMemory) (why : Self.Fault) → Self.Fault.from_gives refused why → declines sink why };
 }
 
 impl<'a> RowSink<'a> for Cells {
+    ghost use Rattle.std.proofs.Common.{rules};
     ghost use Rattle.std.specs.List.{flat_map};
+    ghost use Rattle.mm_cells.specs.Reading.{AreFull};
     ghost use Rattle.mm_cells.specs.Values.{values_of};
+    ghost use Rattle.mm_cells.specs.declared.fault.CellFault.TheVariants as fault;
 
     type Fault = CellFault;
 
     ghost received = { λ start rows part now. values_of now ≡ values_of start ++ (flat_map (λ row. row) rows ++ part) };
+
+    ghost declines = { λ now why. why ≡ fault.TooLong → AreFull (values_of now) };
+
+    ghost by_memory = { Prim.search rules };
 
     #[inline]
     fn push_value(&mut self, value: &'a StoredValue) -> Result<(), CellFault> {
@@ -114,6 +130,10 @@ impl<'a> RowSink<'a> for Records<'a> {
     type Fault = NoMemory;
 
     ghost received = { IsBehind };
+
+    ghost declines = { λ now why. Unit {0} };
+
+    ghost by_memory = { λ sink refused why gives. tt };
 
     #[inline]
     fn push_value(&mut self, value: &'a StoredValue) -> Result<(), NoMemory> {

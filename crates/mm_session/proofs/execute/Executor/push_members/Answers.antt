@@ -26,7 +26,7 @@ pub returns-clause-shown : goal.returns-clause-shown
 returns-clause-shown g c =
     let list = c.in_ok-list.list in
     subst (PutsRows g.S.RowSink.received c.args.sink.now c.push_list.new.sink)
-    (ap (λ (ps : List Place). map (placed_values c.args.self.now.catalog list.sources ps) list.rows) c.columns.ensures ∙ c.in_ok-list.ensures.rows) c.in_ok-push_list.ensures
+    (ap (λ (ps : List Place). map (placed_values c.args.self.now.catalog list.sources ps) list.rows) c.columns.ensures ∙ c.in_ok-list.ensures.rows) c.in_ok-push_list.ensures.put
 
 pub returns-clause-columns : goal.returns-clause-columns
 returns-clause-columns g c =

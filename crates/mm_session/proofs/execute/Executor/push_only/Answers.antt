@@ -46,7 +46,7 @@ returns-clause-shown g c =
     subst (PutsRows g.S.RowSink.received c.args.sink.now c.push_shown.new.sink)
     (one_shown c.args.self.now.catalog c.a_catalog_is_consistent.ensures c.args.query.now (c.requires.meant, c.requires.only.ordered.1) c.at-relation.result.now c.at-relation.ensures c.args.row c.requires.only c.in-Some.r
     c.in-Some.is)
-    c.in_ok-push_shown.ensures
+    c.in_ok-push_shown.ensures.put
 
 pub returns-clause-columns : goal.returns-clause-columns
 returns-clause-columns g c =

@@ -56,7 +56,7 @@ returns-clause-shown g c =
     (ap (λ (ps : List Place). map (placed_values c.args.self.now.catalog list.sources ps) list.rows) c.columns.ensures
     ∙ scanned_rows c.args.self.now.catalog c.a_catalog_is_consistent.ensures c.args.query.now c.requires.scan c.in_ok-places.places.items c.in_ok-places.ensures c.as_slice-tests.result.now c.as_slice-tests.ensures
     c.in_ok-list.list c.in_ok-list.ensures.distinct)
-    c.in_ok-push_list.ensures
+    c.in_ok-push_list.ensures.put
 
 pub returns-clause-columns : goal.returns-clause-columns
 returns-clause-columns g c =

@@ -21,15 +21,15 @@ push_placed-requires g c = λ κs. (
   ),
 )
 
-pub returns-in-All : goal.returns-in-All
-returns-in-All g c =
+pub returns-in-All-clause-put : goal.returns-in-All-clause-put
+returns-in-All-clause-put g c =
     rw c.in-All.is
-    (on_ok_weaker c.push_whole.result (subst (PutsValues g.S.RowSink.received c.args.sink.now c.push_whole.new.sink) (whole_shown c.args.catalog.now c.args.relation.now c.args.r c.requires.held)) c.push_whole.ensures)
+    (on_ok_weaker c.push_whole.result (subst (PutsValues g.S.RowSink.received c.args.sink.now c.push_whole.new.sink) (whole_shown c.args.catalog.now c.args.relation.now c.args.r c.requires.held)) c.push_whole.ensures.put)
 
-pub returns-in-Columns : goal.returns-in-Columns
-returns-in-Columns g c =
+pub returns-in-Columns-clause-put : goal.returns-in-Columns-clause-put
+returns-in-Columns-clause-put g c =
     rw c.in-Columns.is
     (on_ok_weaker c.push_placed.result
     (subst (PutsValues g.S.RowSink.received c.args.sink.now c.push_placed.new.sink)
     (ap (λ (ps : List Place). shown_row c.args.catalog.now c.args.relation.now ps c.args.r) c.as_slice.ensures ∙ placed_shown c.args.catalog.now c.args.relation.now c.args.r c.in-Columns.places))
-    c.push_placed.ensures)
+    c.push_placed.ensures.put)

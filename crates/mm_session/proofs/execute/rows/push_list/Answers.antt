@@ -13,4 +13,4 @@ loop-row-preserved g c =
     let within : at < length list.rows = omega arith in
     let received = g.S.RowSink.received in
     subst (PutsRows received c.args.sink.now c.push_row.new.sink) (sym (map_more shown list.rows at [] within))
-    (rows_more received c.args.sink.now c.loop-row.sink c.push_row.new.sink (map shown (take at list.rows)) (shown (get_or list.rows at []) ∷ []) c.loop-row.invariant c.in_ok-push_row.ensures)
+    (rows_more received c.args.sink.now c.loop-row.sink c.push_row.new.sink (map shown (take at list.rows)) (shown (get_or list.rows at []) ∷ []) c.loop-row.invariant c.in_ok-push_row.ensures.put)

@@ -1,13 +1,13 @@
-use Rattle.std.proofs.Common.{◌≡◌, ◌∙◌, ◌++◌, ◌∷◌, ◌<◌, [], None, ap, sym, get_or, map, subst, take, length, arith, refl}
+use Rattle.std.proofs.Common.{◌≡◌, ◌∙◌, ◌++◌, ◌∷◌, ◌<◌, [], ap, sym, get_or, map, subst, take, length, arith, refl}
 use Rattle.std.proofs.lemmas.List.{map_more}
-use Rattle.plain_tables.specs.Stored.{link_number}
+use Rattle.plain_tables.specs.ResolvedLaws.{IsStorable}
 use Rattle.plain_tables.specs.declared.numbers.Place.{Place}
 use Rattle.plain_tables.specs.declared.value.Value.{Value}
 use Rattle.mm_catalog.proofs.Among.{among_at}
 use Rattle.temp_list.specs.Reading.{value_in}
 use Rattle.temp_list.proofs.ReadingLemmas.{can_read, lent_value}
 use Rattle.mm_session.specs.Sinks.{PutsValues}
-use Rattle.mm_session.proofs.NoLinks.{column_plain}
+use Rattle.mm_session.proofs.StorableValues.{column_storable}
 use Rattle.mm_session.proofs.SinkLemmas.{values_more}
 use Rattle.mm_session.proofs.execute.rows.push_placed.Goals as goal
 
@@ -30,8 +30,8 @@ push_value-requires g c =
     lent_value c.args.catalog.now.relations c.args.relation.now c.args.r c.row-row.result c.row-row.ensures.row c.row-row.ensures.targets place.column.0 c.value.result.now c.value.ensures in
     λ k. (
       (refl, tt),
-      subst (λ v. link_number v ≡ None) (sym read)
-          (column_plain c.args.catalog.now c.a_catalog_is_consistent.ensures lent.0 c.args.relation.now lent.1 c.args.r c.requires.held place.column.0
+      subst IsStorable (sym read)
+          (column_storable c.args.catalog.now c.a_catalog_is_consistent.ensures lent.0 c.args.relation.now lent.1 c.args.r c.requires.held place.column.0
           (c.requires.columns c.loop-place.place-index none (omega (arith, c.loop-place-test.true)))),
     )
 
@@ -45,4 +45,4 @@ loop-place-preserved g c =
     lent_value c.args.catalog.now.relations c.args.relation.now c.args.r c.row-row.result c.row-row.ensures.row c.row-row.ensures.targets (get_or places at none).column.0 c.value.result.now c.value.ensures in
     subst (PutsValues g.S.RowSink.received c.args.sink.now c.push_value.new.self)
     (ap (λ (v : Value). map value (take at places) ++ v ∷ []) read ∙ sym (map_more value places at none within))
-    (values_more g.S.RowSink.received c.args.sink.now c.loop-place.sink c.push_value.new.self (map value (take at places)) (c.value.result.now ∷ []) c.loop-place.invariant c.in_ok-push_value.ensures)
+    (values_more g.S.RowSink.received c.args.sink.now c.loop-place.sink c.push_value.new.self (map value (take at places)) (c.value.result.now ∷ []) c.loop-place.invariant c.in_ok-push_value.ensures.taken)

@@ -1,14 +1,14 @@
-use Rattle.std.proofs.Common.{◌≡◌, ◌∙◌, ◌++◌, ◌∷◌, ◌<◌, [], None, List, ap, sym, get_or, map, subst, take, length, arith, refl}
+use Rattle.std.proofs.Common.{◌≡◌, ◌∙◌, ◌++◌, ◌∷◌, ◌<◌, [], List, ap, sym, get_or, map, subst, take, length, arith, refl}
 use Rattle.std.proofs.lemmas.List.{map_more, take_all, length-map}
 use Rattle.std.proofs.lemmas.Result.{on_ok_weaker}
 use Rattle.std.proofs.lemmas.Option.{slice_get-get_or}
 use Rattle.part_raw.specs.declared.tuple_ref.TupleRef.{TupleRef}
-use Rattle.plain_tables.specs.Stored.{link_number}
+use Rattle.plain_tables.specs.ResolvedLaws.{IsStorable}
 use Rattle.plain_tables.specs.declared.numbers.Place.{Place}
 use Rattle.plain_tables.specs.declared.value.Value.{Value}
 use Rattle.temp_list.specs.Lists.{value_of}
 use Rattle.mm_session.specs.Sinks.{PutsValues}
-use Rattle.mm_session.proofs.NoLinks.{placed_plain}
+use Rattle.mm_session.proofs.StorableValues.{placed_storable}
 use Rattle.mm_session.proofs.SinkLemmas.{values_more, row_put}
 use Rattle.mm_session.proofs.execute.rows.push_row.Goals as goal
 
@@ -27,8 +27,8 @@ push_value-requires g c =
     let read : c.place_value.result.now ≡ value_of catalog.relations list.sources row place = c.place_value.ensures row (slice_get-get_or list.rows c.args.row [] c.requires.row) in
     λ k. (
       (refl, tt),
-      subst (λ v. link_number v ≡ None) (sym read)
-          (placed_plain catalog c.a_catalog_is_consistent.ensures list.sources row place (c.requires.over.rows c.args.row [] c.requires.row)
+      subst IsStorable (sym read)
+          (placed_storable catalog c.a_catalog_is_consistent.ensures list.sources row place (c.requires.over.rows c.args.row [] c.requires.row)
           (c.requires.places c.loop-place.place-index none (omega (arith, c.loop-place-test.true)))),
     )
 
@@ -43,10 +43,10 @@ loop-place-preserved g c =
     let read : c.place_value.result.now ≡ value (get_or places at none) = c.place_value.ensures row (slice_get-get_or list.rows c.args.row [] c.requires.row) in
     subst (PutsValues g.S.RowSink.received c.args.sink.now c.push_value.new.self)
     (ap (λ (v : Value). map value (take at places) ++ v ∷ []) read ∙ sym (map_more value places at none within))
-    (values_more g.S.RowSink.received c.args.sink.now c.loop-place.sink c.push_value.new.self (map value (take at places)) (c.place_value.result.now ∷ []) c.loop-place.invariant c.in_ok-push_value.ensures)
+    (values_more g.S.RowSink.received c.args.sink.now c.loop-place.sink c.push_value.new.self (map value (take at places)) (c.place_value.result.now ∷ []) c.loop-place.invariant c.in_ok-push_value.ensures.taken)
 
-pub returns : goal.returns
-returns g c =
+pub returns-clause-put : goal.returns-clause-put
+returns-clause-put g c =
     let at = c.loop-place.place-index in
     let list = c.args.list.now in
     let places = c.args.places.now in
@@ -57,4 +57,4 @@ returns g c =
     on_ok_weaker c.end_row.result
     (λ ends. row_put g.S.RowSink.received c.args.sink.now c.loop-place.sink c.end_row.new.self (map value places)
     (subst (λ (ps : List Place). PutsValues g.S.RowSink.received c.args.sink.now c.loop-place.sink (map value ps)) all c.loop-place.invariant) ends (omega (arith, long, c.requires.some)))
-    c.end_row.ensures
+    c.end_row.ensures.ended

@@ -1,7 +1,7 @@
-use Rattle.std.proofs.Common.{◌≡◌, ◌∙◌, ◌++◌, ◌∷◌, ◌<◌, [], None, ap, sym, get_or, subst, take, length, arith, refl}
+use Rattle.std.proofs.Common.{◌≡◌, ◌∙◌, ◌++◌, ◌∷◌, ◌<◌, [], ap, sym, get_or, subst, take, length, arith, refl}
 use Rattle.std.specs.Prelude.{pos}
 use Rattle.std.proofs.lemmas.List.{take_more, take_all}
-use Rattle.plain_tables.specs.Stored.{link_number}
+use Rattle.plain_tables.specs.ResolvedLaws.{IsStorable}
 use Rattle.plain_tables.specs.declared.schema.Schema.{Schema}
 use Rattle.plain_tables.specs.declared.value.Value.{Value}
 use Rattle.plain_tables.specs.declared.value.Value.TheVariants as value
@@ -12,7 +12,7 @@ use Rattle.temp_list.proofs.ReadingLemmas.{can_read, lent_value}
 use Rattle.mm_session.specs.Sinks.{PutsValues}
 use Rattle.mm_session.proofs.DumpLemmas.{seen_long}
 use Rattle.mm_session.proofs.MemberLemmas.{value_seen}
-use Rattle.mm_session.proofs.NoLinks.{column_plain}
+use Rattle.mm_session.proofs.StorableValues.{column_storable}
 use Rattle.mm_session.proofs.SinkLemmas.{values_more}
 use Rattle.mm_session.proofs.execute.rows.push_whole.Goals as goal
 
@@ -32,8 +32,8 @@ push_value-requires g c =
     lent_value c.args.catalog.now.relations c.args.relation.now c.args.r c.row-row.result c.row-row.ensures.row c.row-row.ensures.targets c.loop-column.column c.value.result.now c.value.ensures in
     λ k. (
       (refl, tt),
-      subst (λ v. link_number v ≡ None) (sym read)
-          (column_plain c.args.catalog.now c.a_catalog_is_consistent.ensures lent.0 c.args.relation.now lent.1 c.args.r c.requires.held c.loop-column.column
+      subst IsStorable (sym read)
+          (column_storable c.args.catalog.now c.a_catalog_is_consistent.ensures lent.0 c.args.relation.now lent.1 c.args.r c.requires.held c.loop-column.column
           (omega (arith, c.loop-column-test.true, c.len-column-end.ensures, schema))),
     )
 
@@ -51,10 +51,10 @@ loop-column-preserved g c =
     subst (PutsValues g.S.RowSink.received c.args.sink.now c.push_value.new.self)
     (ap (λ (v : Value). take at seen ++ v ∷ []) read
     ∙ sym (take_more seen at (value.Int (pos 0)) (let long = seen_long catalog s c.args.r c.requires.held in omega (arith, long, within))))
-    (values_more g.S.RowSink.received c.args.sink.now c.loop-column.sink c.push_value.new.self (take at seen) (c.value.result.now ∷ []) c.loop-column.invariant c.in_ok-push_value.ensures)
+    (values_more g.S.RowSink.received c.args.sink.now c.loop-column.sink c.push_value.new.self (take at seen) (c.value.result.now ∷ []) c.loop-column.invariant c.in_ok-push_value.ensures.taken)
 
-pub returns : goal.returns
-returns g c =
+pub returns-clause-put : goal.returns-clause-put
+returns-clause-put g c =
     let seen = seen_values c.args.catalog.now c.args.relation.now c.args.r in
     let schema = ap (λ (h : Schema). length h.columns) c.schema.ensures in
     let long = seen_long c.args.catalog.now c.args.relation.now c.args.r c.requires.held in
