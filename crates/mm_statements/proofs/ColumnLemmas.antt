@@ -43,15 +43,12 @@ use Rattle.plain_statements.specs.declared.resolution.Template.{Template}
 use Rattle.plain_statements.specs.declared.resolution.Template.TheVariants as template
 use Rattle.plain_statements.specs.declared.statement.Statement.{Statement}
 use Rattle.plain_statements.specs.declared.statement.Statement.TheVariants as statement
-use Rattle.mm_cells.specs.declared.fault.CellFault.{CellFault}
-use Rattle.mm_cells.specs.declared.fault.CellFault.TheVariants as cells
 use Rattle.mm_session.specs.Columns.{column_told, columns_told}
 use Rattle.mm_session.specs.Sessions.{State}
 use Rattle.mm_session.specs.Shown.{places_shown}
 use Rattle.mm_statements.specs.Columns.{column_of, column_placed, columns_of_query, columns_of_table, columns_of_template, columns_shown, source_tables}
 use Rattle.mm_statements.specs.Databases.{DatabaseState}
 use Rattle.mm_statements.specs.Executing.{IsUntold, TellsColumns, columns_of}
-use Rattle.mm_statements.specs.Faults.{execute_fault_of}
 use Rattle.mm_prepared.specs.Kept.{IsKnown, SameSeen, named, seen}
 use Rattle.mm_statements.specs.Resolving.{IsUnresolved}
 use Rattle.mm_statements.specs.Right.{AreRight}
@@ -270,7 +267,7 @@ known-told session old new number r cells known right same resolution are =
 -- a statement that is refused, whatever is bound, is not told
 pub unresolved-untold : (session : State) (statements : Statements) (number : ℕ) (e : ExecuteFault)
     → IsUnresolved session.database statements number e → IsUntold (state_of session statements) number e
-unresolved-untold session statements number fault.TooLong never = tt
+unresolved-untold session statements number fault.TooLong never = never
 unresolved-untold session statements number fault.NoSuchStatement none = statement-seen session statements number ∙ ap (option_map seen) none
 unresolved-untold session statements number (fault.Refused why) says = λ other.
     let r = says other in
@@ -281,9 +278,3 @@ unresolved-untold session statements number (fault.Refused why) says = λ other.
       spelled = r.spelled;
       refuses = r.refuses;
     }
-
--- ---- what the cells of columns don't take
-
-pub cells-untold : (database : DatabaseState) (number : ℕ) (f : CellFault) → IsUntold database number (execute_fault_of f)
-cells-untold database number (cells.NoMemory refused) = λ other. absurd (other refl)
-cells-untold database number cells.TooLong = tt

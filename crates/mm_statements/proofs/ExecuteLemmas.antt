@@ -1,5 +1,5 @@
 -- Executing: what comes of the resolved command of a statement.
-use Rattle.std.proofs.Common.{◌≡◌, ℕ, map, refl, sym, ap, ◌∙◌, subst, ⊎_elim, [], Option, Some, None, Result, Ok, Err}
+use Rattle.std.proofs.Common.{◌≡◌, ◌≢◌, ℕ, map, refl, sym, ap, ◌∙◌, subst, ⊎_elim, [], Option, Some, None, Result, Ok, Err}
 use Rattle.std.specs.Prelude.{IfSome, IsSome, IsSomeAnd, OnErr, OnOk}
 use Rattle.std.specs.List.{All}
 use Rattle.std.specs.Option.{option_map}
@@ -11,6 +11,7 @@ use Rattle.plain_tables.specs.Effects.{Effect, refused}
 use Rattle.plain_tables.specs.ResolvedLaws.{HasWidth, IsMeant, emptied}
 use Rattle.plain_tables.specs.declared.command.Limits.{Limits}
 use Rattle.plain_tables.specs.declared.refusal.Refusal.{Refusal}
+use Rattle.plain_tables.specs.declared.refusal.Refusal.TheVariants as refusal
 use Rattle.plain_tables.specs.declared.resolved.Resolved.{Resolved}
 use Rattle.plain_tables.proofs.ResolvedLemmas.{resolved_are_meant}
 use Rattle.plain_statements.specs.declared.resolution.Resolution.{Resolution}
@@ -177,3 +178,17 @@ on-err (Err e) h = h
 pub cells-declined : (database : DatabaseState) (number : ℕ) (f : CellFault) → IsDeclined database number (execute_fault_of f)
 cells-declined database number (cells.NoMemory refused) = λ other. absurd (other refl)
 cells-declined database number cells.TooLong = tt
+
+refused-apart : (why : Refusal) → fault.Refused why ≢ fault.TooLong
+refused-apart why is = cc
+
+-- a value is too long where it was for the cells
+pub full-cells : (f : CellFault) (P : Type 0) → (f ≡ cells.TooLong → P) → execute_fault_of f ≡ fault.TooLong → P
+full-cells (cells.NoMemory refused) P full is = absurd (refused-apart refusal.NoMemory is)
+full-cells cells.TooLong P full is = full refl
+
+-- and never where a statement is not resolved
+pub unresolved-apart : (tables : Database) (statements : Statements) (number : ℕ) (e : ExecuteFault) → IsUnresolved tables statements number e → e ≢ fault.TooLong
+unresolved-apart tables statements number fault.NoSuchStatement none is = cc
+unresolved-apart tables statements number (fault.Refused why) says is = cc
+unresolved-apart tables statements number fault.TooLong never is = never

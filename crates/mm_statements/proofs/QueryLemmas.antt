@@ -28,6 +28,7 @@ use Rattle.mm_statements.specs.Faults.{query_fault_of}
 use Rattle.mm_statements.specs.Querying.{IsEffectOfLine, IsMeaningOfLine, IsUnanswered, IsUnqueried, is_statement}
 use Rattle.mm_statements.specs.Querying as querying
 use Rattle.mm_statements.specs.Resolving.{IsOfRows}
+use Rattle.mm_statements.specs.declared.faults.QueryFault.TheVariants as fault
 
 -- ---- what such a command is resolved to
 
@@ -105,3 +106,11 @@ change-unqueried old new line r why means declined =
 pub cells-unanswered : (session : State) (line : List ℕ) (f : CellFault) → IsReadable line → IsUnanswered session line (query_fault_of f)
 cells-unanswered session line (cells.NoMemory refused) readable = querying.no_memory readable
 cells-unanswered session line cells.TooLong readable = readable
+
+refused-apart : (why : Refusal) → fault.Refused why ≢ fault.TooLong
+refused-apart why is = cc
+
+-- a value is too long where it was for the cells
+pub full-cells : (f : CellFault) (P : Type 0) → (f ≡ cells.TooLong → P) → query_fault_of f ≡ fault.TooLong → P
+full-cells (cells.NoMemory refused) P full is = absurd (refused-apart refusal.NoMemory is)
+full-cells cells.TooLong P full is = full refl

@@ -71,4 +71,4 @@ pub record IsRefusedEver (database : DatabaseState) (number : ℕ) (why : Refusa
 abbrev pub IsUntold : DatabaseState → ℕ → ExecuteFault → Type 0
 IsUntold database number fault.NoSuchStatement = statement_at database number ≡ None
 IsUntold database number (fault.Refused why) = why ≢ NoMemory → IsRefusedEver database number why
-IsUntold database number fault.TooLong = Unit {0}
+IsUntold database number fault.TooLong = ⊥

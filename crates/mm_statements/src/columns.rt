@@ -1,7 +1,8 @@
 //! The columns of what a select shows, by its resolution alone: of each its name, after its table's, and the number of its kind.
-ghost use Rattle.std.specs.Prelude.{◌≡◌, ◌++◌, ◌<◌, Some, length, pos, slice_get, OnOk};
+ghost use Rattle.std.specs.Prelude.{◌≡◌, ◌++◌, ◌<◌, Some, length, pos, slice_get, IfErr, OnOk};
 ghost use Rattle.std.specs.List.{flat_map};
 ghost use Rattle.plain_tables.specs.Tables.{Table};
+ghost use Rattle.plain_tables.specs.declared.refusal.Refusal.TheVariants as refusal;
 ghost use Rattle.mm_catalog.specs.Seen.{database_of};
 ghost use Rattle.mm_cells.specs.Values.{values_of};
 ghost use Rattle.mm_session.specs.Columns.{kind_number};
@@ -10,7 +11,7 @@ ghost use Rattle.mm_statements.specs.Columns.{column_of, column_placed, columns_
 use mm_catalog::Catalog;
 use mm_cells::{CellFault, Cells, INTEGER, TEXT};
 use plain_statements::SlotQuery;
-use plain_tables::{BaseKind, Column, Place, Shown, TableNumber};
+use plain_tables::{BaseKind, Column, Place, Refusal, Shown, TableNumber};
 
 // The number of a kind of values.
 fn number_of(kind: Option<BaseKind>) -> i64
@@ -108,16 +109,24 @@ fn push_places(
     Ok(())
 }
 
-/// Appends the columns that a query shows of the tables of a catalog. It reads no value.
-pub fn push_columns(
-    cells: &mut Cells,
-    catalog: &Catalog,
-    query: &SlotQuery,
-) -> Result<(), CellFault>
+// Appends the columns that a query shows, as far as cells have numbers for their names.
+fn push_shown(cells: &mut Cells, catalog: &Catalog, query: &SlotQuery) -> Result<(), CellFault>
     ensures { OnOk result (values_of cells.new ≡ values_of cells.old ++ columns_of_query (database_of catalog.now) query.now) }
 {
     match &query.shown {
         Shown::All => push_tables(cells, catalog, query),
         Shown::Columns(places) => push_places(cells, catalog, query, places.as_slice()),
+    }
+}
+
+/// Appends the columns that a query shows of the tables of a catalog. It reads no value. A line is too short to name columns for 4 GiB of
+/// text, so the one refusal is 90.
+pub fn push_columns(cells: &mut Cells, catalog: &Catalog, query: &SlotQuery) -> Result<(), Refusal>
+    ensures pushed { OnOk result (values_of cells.new ≡ values_of cells.old ++ columns_of_query (database_of catalog.now) query.now) }
+    ensures no_memory { IfErr result (λ why. why ≡ refusal.NoMemory) }
+{
+    match push_shown(cells, catalog, query) {
+        Ok(()) => Ok(()),
+        Err(_) => Err(Refusal::NoMemory),
     }
 }

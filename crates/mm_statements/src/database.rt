@@ -69,6 +69,7 @@ impl Database {
     ghost use Rattle.plain_tables.specs.declared.value.Value.TheVariants as value;
     ghost use Rattle.plain_streams.specs.Division.{IsWhole};
     ghost use Rattle.plain_streams.specs.Requests.{without_return};
+    ghost use Rattle.mm_cells.specs.Reading.{AreFull};
     ghost use Rattle.mm_cells.specs.Values.{values_of};
     ghost use Rattle.mm_session.specs.OneRequest.{AnswersOne, GoesBetween, StaysInStream};
     ghost use Rattle.mm_session.specs.Sessions.{BreaksOff, Feeds, Finishes, Gains, new_session};
@@ -240,11 +241,13 @@ impl Database {
     }
 
     /// Does what the statement of a number says with the values that are bound, beside the stream. It makes the cells the values of the
-    /// rows that it shows, a row behind the other, and none where it shows none; where it fails they may be any.
+    /// rows that it shows, a row behind the other, and none where it shows none; where it fails they may be any. `TooLong` comes only if
+    /// their texts have 4 GiB or more then.
     pub fn execute(&mut self, number: usize, shown: &mut Cells) -> Result<Executed, ExecuteFault>
         ensures done { IfOk result (λ given. (effect : Effect) × IsEffectOf self.old number effect × HasGiven self.new.session effect given (values_of shown.new)) }
         ensures missing { statement_at self.old number ≡ None → result ≡ Err fault.NoSuchStatement }
         ensures declined { IfErr result (IsDeclined self.old number) }
+        ensures too_long { IsErrOf result ExecuteFault.TooLong → AreFull (values_of shown.new) }
         ensures unchanged { OnErr result (IsUnchanged self.old self.new) }
 
         // The stream goes on as before, and the statements stay.
@@ -290,7 +293,8 @@ impl Database {
     }
 
     /// Does the insert, the update, the delete or the select that a line spells, beside the stream. No statement is kept, and no
-    /// question mark is a hole. It makes the cells the values of the rows that it shows, as an execution does.
+    /// question mark is a hole. It makes the cells the values of the rows that it shows, as an execution does, which also says
+    /// when `TooLong` comes.
     ///
     /// A carriage return at the line's end is no part of it.
     pub fn query(
@@ -301,6 +305,7 @@ impl Database {
     ) -> Result<Executed, QueryFault>
         ensures done { IfOk result (λ given. (effect : Effect) × IsEffectOfLine self.old.session (without_return line.now) effect × HasGiven self.new.session effect given (values_of cells.new)) }
         ensures refused { IfErr result (IsUnanswered self.old.session (without_return line.now)) }
+        ensures too_long { IsErrOf result QueryFault.TooLong → AreFull (values_of cells.new) }
         ensures unchanged { OnErr result (IsUnchanged self.old self.new) }
 
         // The stream goes on as before, and the statements stay.

@@ -6,7 +6,7 @@ use Rattle.mm_catalog.specs.Seen.{database_of}
 use Rattle.mm_cells.specs.Values.{values_of}
 use Rattle.mm_statements.specs.Columns.{columns_of_query, columns_of_template}
 use Rattle.mm_statements.specs.declared.faults.ExecuteFault.TheVariants as fault
-use Rattle.mm_statements.proofs.ColumnLemmas.{cells-untold, known-told, none-told, unresolved-untold}
+use Rattle.mm_statements.proofs.ColumnLemmas.{known-told, none-told, unresolved-untold}
 use Rattle.mm_statements.proofs.ExecuteLemmas.{unchanged}
 use Rattle.mm_statements.proofs.SeenLemmas.{statement-none}
 use Rattle.mm_statements.proofs.database.Database.columns.Goals as goal
@@ -34,7 +34,7 @@ returns-in_err-resolve-clause-unchanged c =
 pub returns-in_err-push_columns-clause-declined : goal.returns-in_err-push_columns-clause-declined
 returns-in_err-push_columns-clause-declined c =
     let e = err_from_is_err_and c.from_residual-in_err-push_columns.result c.from_residual-in_err-push_columns.ensures.1 in
-    rw (← c.self.view_is, e.1, e.2) (cells-untold _ c.args.number c.in_err-push_columns.field-0.0)
+    rw (← c.self.view_is, e.1, e.2) (λ other. absurd (other c.in_err-push_columns.ensures.no_memory))
 
 pub returns-in_err-push_columns-clause-unchanged : goal.returns-in_err-push_columns-clause-unchanged
 returns-in_err-push_columns-clause-unchanged c =
@@ -59,7 +59,7 @@ returns-clause-told c =
     let s = c.self.inside.session in
     let query = c.in-Select.query in
     let told : values_of c.push_columns.new.cells ≡ columns_of_template s.database c.resolution_of-resolution.result.now.template =
-    c.in_ok-push_columns.ensures
+    c.in_ok-push_columns.ensures.pushed
     ∙ ap (λ (vs : List Value). vs ++ columns_of_query (database_of c.catalog.result.now) query) c.clear.ensures
     ∙ ap (λ (tables : Database). columns_of_query tables query) c.catalog.ensures.tables
     ∙ sym (ap (columns_of_template s.database) c.in-Select.is) in

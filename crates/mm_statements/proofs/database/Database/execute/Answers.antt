@@ -3,9 +3,12 @@ use Rattle.std.proofs.lemmas.Result.{err_from_is_err_and}
 use Rattle.plain_tables.specs.Doing.{done}
 use Rattle.plain_tables.specs.ResolvedLaws.{IsMeant}
 use Rattle.plain_tables.specs.declared.resolved.Resolved.TheVariants as resolved
+use Rattle.mm_cells.specs.Reading.{AreFull}
+use Rattle.mm_cells.specs.Values.{values_of}
+use Rattle.mm_statements.specs.Faults.{execute_fault_of}
 use Rattle.mm_statements.specs.Resolving.{IsFinished, IsOfRows}
 use Rattle.mm_statements.specs.declared.faults.ExecuteFault.TheVariants as fault
-use Rattle.mm_statements.proofs.ExecuteLemmas.{cells-declined, change-declined, changed-right, effect-of, on-err, same-finished, same-unfinished, unchanged, unfinished-declined, unresolved-unfinished}
+use Rattle.mm_statements.proofs.ExecuteLemmas.{cells-declined, change-declined, changed-right, effect-of, full-cells, on-err, same-finished, same-unfinished, unchanged, unfinished-declined, unresolved-apart, unresolved-unfinished}
 use Rattle.mm_statements.proofs.FinishedLemmas.{rows-change}
 use Rattle.mm_statements.proofs.SeenLemmas.{same-seen, statement-none}
 use Rattle.mm_statements.proofs.database.Database.execute.Goals as goal
@@ -25,6 +28,14 @@ returns-in_err-resolve-clause-declined c =
     rw (← c.self.view_is, e.1, e.2)
     (unfinished-declined c.self.inside.session c.self.inside.statements c.args.number _
     (unresolved-unfinished c.self.inside.session.database c.self.inside.statements c.args.number _ c.in_err-resolve.ensures.refused))
+
+pub returns-in_err-resolve-clause-too_long : goal.returns-in_err-resolve-clause-too_long
+returns-in_err-resolve-clause-too_long c =
+    let e = err_from_is_err_and c.from_residual.result c.from_residual.ensures.1 in
+    rw (e.1, e.2)
+    (λ is.
+    let same : c.in_err-resolve.field-0.0 ≡ fault.TooLong = cc in
+    absurd (unresolved-apart c.self.inside.session.database c.self.inside.statements c.args.number _ c.in_err-resolve.ensures.refused same))
 
 pub returns-in_err-resolve-clause-unchanged : goal.returns-in_err-resolve-clause-unchanged
 returns-in_err-resolve-clause-unchanged c =
@@ -117,6 +128,14 @@ pub returns-in_err-columns-clause-declined : goal.returns-in_err-columns-clause-
 returns-in_err-columns-clause-declined c =
     let e = err_from_is_err_and c.from_residual-in_err-columns.result c.from_residual-in_err-columns.ensures.1 in
     rw (← c.self.view_is, e.1, e.2) (cells-declined _ c.args.number c.in_err-columns.field-0.0)
+
+pub returns-in_err-columns-clause-too_long : goal.returns-in_err-columns-clause-too_long
+returns-in_err-columns-clause-too_long c =
+    let e = err_from_is_err_and c.from_residual-in_err-columns.result c.from_residual-in_err-columns.ensures.1 in
+    rw (e.1, e.2)
+    (λ is.
+    let same : execute_fault_of c.in_err-columns.field-0.0 ≡ fault.TooLong = cc in
+    full-cells c.in_err-columns.field-0.0 (AreFull (values_of c.select.new.cells)) (λ long. c.in_err-columns.ensures.too_long (ap Err long)) same)
 
 pub returns-in_err-columns-clause-unchanged : goal.returns-in_err-columns-clause-unchanged
 returns-in_err-columns-clause-unchanged c =

@@ -1,11 +1,15 @@
-use Rattle.std.proofs.Common.{refl, Ok}
+use Rattle.std.proofs.Common.{◌≡◌, ap, refl, Err, Ok}
 use Rattle.std.proofs.lemmas.Result.{err_from_is_err_and}
 use Rattle.plain_tables.specs.Doing.{done}
 use Rattle.plain_tables.specs.declared.resolved.Resolved.TheVariants as resolved
+use Rattle.mm_cells.specs.Reading.{AreFull}
+use Rattle.mm_cells.specs.Values.{values_of}
+use Rattle.mm_statements.specs.Faults.{query_fault_of}
 use Rattle.mm_statements.specs.Querying.{IsMeaningOfLine}
+use Rattle.mm_statements.specs.declared.faults.QueryFault.TheVariants as fault
 use Rattle.mm_statements.proofs.ExecuteLemmas.{changed-right, on-err, unchanged}
 use Rattle.mm_statements.proofs.FinishedLemmas.{rows-change}
-use Rattle.mm_statements.proofs.QueryLemmas.{cells-unanswered, change-unqueried, effect-of-line}
+use Rattle.mm_statements.proofs.QueryLemmas.{cells-unanswered, change-unqueried, effect-of-line, full-cells}
 use Rattle.mm_statements.proofs.database.Database.query.Goals as goal
 
 pub returns-in_err-command-clause-refused : goal.returns-in_err-command-clause-refused
@@ -17,6 +21,14 @@ pub returns-in_err-columns-clause-refused : goal.returns-in_err-columns-clause-r
 returns-in_err-columns-clause-refused c =
     let e = err_from_is_err_and c.from_residual-in_err-columns.result c.from_residual-in_err-columns.ensures.1 in
     rw (← c.self.view_is, e.1, e.2) (cells-unanswered c.self.inside.session _ c.in_err-columns.field-0.0 c.in_ok-command.ensures.spelled.readable)
+
+pub returns-in_err-columns-clause-too_long : goal.returns-in_err-columns-clause-too_long
+returns-in_err-columns-clause-too_long c =
+    let e = err_from_is_err_and c.from_residual-in_err-columns.result c.from_residual-in_err-columns.ensures.1 in
+    rw (e.1, e.2)
+    (λ is.
+    let same : query_fault_of c.in_err-columns.field-0.0 ≡ fault.TooLong = cc in
+    full-cells c.in_err-columns.field-0.0 (AreFull (values_of c.select.new.cells)) (λ long. c.in_err-columns.ensures.too_long (ap Err long)) same)
 
 pub returns-in-Select-clause-done : goal.returns-in-Select-clause-done
 returns-in-Select-clause-done c =
