@@ -1,12 +1,13 @@
 //! Blocks that are too long or too short, and those that are no rows of their table.
 
+use crate::fault::ReasonFault;
 use crate::shown::Cut;
 use crate::tables::{Seen, table_named};
 use crate::told::{Reason, tell};
 use crate::values::takes_null;
 use csv::{ByteRecord, ErrorKind, Reader, ReaderBuilder};
 use mm_catalog::Catalog;
-use plain_tables::{BaseKind, Column, LONGEST_TEXT, Refusal, Text};
+use plain_tables::{BaseKind, Column, LONGEST_TEXT, Text};
 use std::alloc::Global;
 
 // The bytes that may mark a text as UTF-8 at its front.
@@ -24,10 +25,10 @@ fn reader_of(alloc: Global, block: &[u8]) -> Reader<&[u8]> {
 fn next_record(
     reader: &mut Reader<&[u8]>,
     fields: &mut ByteRecord,
-) -> Result<Option<bool>, Refusal> {
+) -> Result<Option<bool>, ReasonFault> {
     match reader.read_byte_record(fields) {
         Ok(is_there) => Ok(Some(is_there)),
-        Err(error) if matches!(error.kind(), ErrorKind::OutOfMemory) => Err(Refusal::NoMemory),
+        Err(error) if matches!(error.kind(), ErrorKind::OutOfMemory) => Err(ReasonFault::NoMemory),
         Err(_) => Ok(None),
     }
 }

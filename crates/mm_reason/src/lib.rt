@@ -21,6 +21,7 @@ mod blamed;
 mod blocks;
 mod columns;
 mod declaring;
+mod fault;
 mod filled;
 mod hints;
 mod joins;
@@ -37,5 +38,6 @@ mod told;
 mod values;
 
 pub use answered::refusal_of;
+pub use fault::ReasonFault;
 pub use reasons::reason;
 pub use statements::{prepare_reason, statement_reason};

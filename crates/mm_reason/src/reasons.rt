@@ -2,6 +2,7 @@
 
 use crate::blamed::Blamed;
 use crate::blocks::{cut_short, too_long, too_long_dump};
+use crate::fault::{ReasonFault, unless_refused};
 use crate::parts::Parts;
 use crate::rows::refused_by_rows;
 use crate::syntax::why_stopped;
@@ -25,7 +26,8 @@ fn of_names(
     let Some(parts) = Parts::of(alloc, command)? else {
         return Ok(None);
     };
-    let Some(culprit) = command_culprit(catalog, again, block, refusal)? else {
+    let Some(Some(culprit)) = unless_refused(command_culprit(catalog, again, block, refusal))?
+    else {
         return Ok(None);
     };
     Blamed {
@@ -62,7 +64,7 @@ pub fn of_command(
 /// Why a line spells no command or no statement, where it is refused for that.
 pub fn of_stop(alloc: Global, line: &str, stopped: Stopped, refusal: Refusal) -> Reason {
     let Some(stop) = stopped.stop() else {
-        return Err(Refusal::NoMemory);
+        return Err(ReasonFault::NoMemory);
     };
     if refusal != Refusal::NotACommand {
         return Ok(None);
@@ -151,15 +153,14 @@ fn of_line(
 
 /// Why the request of a line and a block was refused so, in words, if that can be told. It is asked of the tables as they were
 /// when the request was refused. Of a block that came in part the line is asked with that part, and of one past its limit with
-/// none. Where the line has line feeds, as a piece of a stream has, it is asked of the first request in it that has an answer. The
-/// error is 90, where a growth was refused.
+/// none. Where the line has line feeds, as a piece of a stream has, it is asked of the first request in it that has an answer.
 pub fn reason(
     alloc: Global,
     catalog: &Catalog,
     line: &[u8],
     block: &[u8],
     refusal: Refusal,
-) -> Result<Option<String>, Refusal> {
+) -> Result<Option<String>, ReasonFault> {
     let told = if refusal == Refusal::NoMemory {
         of_no_memory(alloc)?
     } else {

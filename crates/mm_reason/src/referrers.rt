@@ -6,6 +6,7 @@ ghost use Rattle.std.specs.List.{All};
 ghost use Rattle.plain_tables.specs.ResolvedLaws.{OfTable, AreTests};
 ghost use Rattle.mm_catalog.specs.Seen.{database_of};
 
+use crate::fault::ReasonFault;
 use crate::shown::Shown;
 use crate::tables::{Seen, table_at};
 use crate::told::{Reason, tell};
@@ -70,7 +71,7 @@ fn why_named(
     catalog: &Catalog,
     named: &str,
     r: TupleRef,
-) -> Result<String, Refusal> {
+) -> Result<String, ReasonFault> {
     for number in 0..catalog.table_count() {
         if let Some(table) = table_at(catalog, TableNumber(number)) {
             if let Some(told) = why_named_by(alloc, &table, named, r)? {
@@ -131,7 +132,7 @@ pub fn named_rows(
             why_kept(alloc, catalog, table, tests.as_slice())
         }
         Ok(_) => Ok(None),
-        Err(Refusal::NoMemory) => Err(Refusal::NoMemory),
+        Err(Refusal::NoMemory) => Err(ReasonFault::NoMemory),
         Err(_) => Ok(None),
     }
 }

@@ -1,5 +1,6 @@
 //! Commands whose names and values are right, and which rows refuse.
 
+use crate::fault::unless_refused;
 use crate::referrers::named_rows;
 use crate::shown::Shown;
 use crate::tables::{Seen, table_at};
@@ -154,10 +155,9 @@ pub fn refused_by_rows(
         (Command::Delete { table, conditions }, Refusal::RowIsReferenced) => {
             named_rows(alloc, catalog, table, conditions)
         }
-        (command, _) => match catalog.resolve(command, block) {
-            Ok(resolved) => of_resolved(alloc, catalog, resolved, refusal),
-            Err(Refusal::NoMemory) => Err(Refusal::NoMemory),
-            Err(_) => Ok(None),
+        (command, _) => match unless_refused(catalog.resolve(command, block))? {
+            Some(resolved) => of_resolved(alloc, catalog, resolved, refusal),
+            None => Ok(None),
         },
     }
 }

@@ -2,6 +2,7 @@
 
 use crate::blamed::Blamed;
 use crate::columns::column_of_hole;
+use crate::fault::{ReasonFault, unless_refused};
 use crate::filled::Filling;
 use crate::parts::Parts;
 use crate::reasons::{of_command, of_no_memory, of_stop, of_too_long, of_utf8};
@@ -16,11 +17,11 @@ use plain_tables::{Refusal, Value};
 use std::alloc::Global;
 
 // The statement that a line spells, if it spells one.
-fn statement_of(alloc: Global, line: &Line<'_>) -> Result<Option<Statement>, Refusal> {
+fn statement_of(alloc: Global, line: &Line<'_>) -> Result<Option<Statement>, ReasonFault> {
     match parse_statement(alloc, line) {
         Ok(statement) => Ok(Some(statement)),
         Err(ParseRefusal::Syntax) => Ok(None),
-        Err(ParseRefusal::NoMemory) => Err(Refusal::NoMemory),
+        Err(ParseRefusal::NoMemory) => Err(ReasonFault::NoMemory),
     }
 }
 
@@ -33,7 +34,7 @@ fn of_statement(alloc: Global, catalog: &Catalog, line: &Line<'_>, refusal: Refu
     let Some(again) = statement_of(alloc, line)? else {
         return Ok(None);
     };
-    let Some(culprit) = statement_culprit(catalog, again, refusal)? else {
+    let Some(Some(culprit)) = unless_refused(statement_culprit(catalog, again, refusal))? else {
         return Ok(None);
     };
     let command = Filling::of(alloc, &[]).command(statement)?;
@@ -101,7 +102,7 @@ fn slot_at(statement: &Statement, number: usize) -> Option<&Slot> {
 }
 
 // The words of a reason, and the column of the question mark of the value that they are about, where it has one.
-fn pointed(alloc: Global, line: &Line<'_>, told: Told) -> Result<String, Refusal> {
+fn pointed(alloc: Global, line: &Line<'_>, told: Told) -> Result<String, ReasonFault> {
     let Told { words, value } = told;
     let Some(number) = value else {
         return Ok(words);
@@ -136,13 +137,13 @@ fn of_line(alloc: Global, catalog: &Catalog, line: &[u8], refusal: Refusal) -> R
 }
 
 /// Why a line was refused so when it was to be kept as a statement, in words, if that can be told. It is asked of the tables as
-/// they were then. The error is 90, where a growth was refused.
+/// they were then.
 pub fn prepare_reason(
     alloc: Global,
     catalog: &Catalog,
     line: &[u8],
     refusal: Refusal,
-) -> Result<Option<String>, Refusal> {
+) -> Result<Option<String>, ReasonFault> {
     let told = if refusal == Refusal::NoMemory {
         of_no_memory(alloc)?
     } else {
@@ -156,14 +157,14 @@ pub fn prepare_reason(
 
 /// Why the statement that a line spells was refused so with these values for its question marks, in words, if that can be told. Where
 /// one of these values is to blame, the words begin with the column of its question mark. It is asked of the tables as they were
-/// when the statement was refused. The error is 90, where a growth was refused.
+/// when the statement was refused.
 pub fn statement_reason(
     alloc: Global,
     catalog: &Catalog,
     line: &str,
     values: &[Value],
     refusal: Refusal,
-) -> Result<Option<String>, Refusal> {
+) -> Result<Option<String>, ReasonFault> {
     let Some(Judged::Text(line)) = judge_line(line.as_bytes()) else {
         return Ok(None);
     };

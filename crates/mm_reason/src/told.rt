@@ -1,7 +1,7 @@
 //! What a search for a reason gives.
 
+use crate::fault::ReasonFault;
 use no_memory::NoMemory;
-use plain_tables::Refusal;
 use std::alloc::AllocError;
 
 /// The words of a reason.
@@ -25,8 +25,8 @@ impl Told {
     }
 }
 
-/// The words of a reason, where it can be told. The error is 90, where a growth was refused.
-pub type Reason = Result<Option<Told>, Refusal>;
+/// The words of a reason, where it can be told.
+pub type Reason = Result<Option<Told>, ReasonFault>;
 
 /// The reason of these words.
 pub fn tell(words: Result<String, AllocError>) -> Reason {

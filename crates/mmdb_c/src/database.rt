@@ -4,9 +4,9 @@ ghost use Rattle.std.specs.Prelude.{◌≡◌, ◌≤◌, ◌↔◌, IsTrue, IsE
 ghost use Rattle.plain_streams.specs.Division.{IsWhole};
 
 use mm_cells::Cells;
-use mm_reason::{reason, refusal_of};
+use mm_reason::{ReasonFault, reason, refusal_of};
 use mm_session::{Answer, NotOneRequest, SessionFault};
-use plain_tables::{Limits, NoMemory, Refusal};
+use plain_tables::{Limits, NoMemory};
 use plan_chooser::Policy;
 use std::alloc::Global;
 
@@ -72,7 +72,12 @@ impl Database {
 
     /// Keeps the words that say why the request of a line and a block was refused by the refusal that the answers begin with.
     /// There are none where they begin with none, or where that can't be told.
-    pub fn find_reason(&mut self, alloc: Global, line: &[u8], block: &[u8]) -> Result<(), Refusal>
+    pub fn find_reason(
+        &mut self,
+        alloc: Global,
+        line: &[u8],
+        block: &[u8],
+    ) -> Result<(), ReasonFault>
         ensures { IsAsBefore self.old self.new }
     {
         self.reason.clear();

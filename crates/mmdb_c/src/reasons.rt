@@ -1,9 +1,8 @@
 //! Why a statement was refused, and why a line is none.
 
 use crate::database::Database;
-use mm_reason::{prepare_reason, refusal_of, statement_reason};
+use mm_reason::{ReasonFault, prepare_reason, refusal_of, statement_reason};
 use no_memory::NoMemory;
-use plain_tables::Refusal;
 use std::alloc::Global;
 
 /// Why it was not looked for why a statement was refused.
@@ -24,15 +23,16 @@ impl From<NoMemory> for Unexplained {
     }
 }
 
-impl From<Refusal> for Unexplained {
+impl From<ReasonFault> for Unexplained {
     ghost use Rattle.std.specs.Prelude.{◌≡◌};
     ghost use Rattle.mmdb_c.specs.declared.reasons.Unexplained.TheVariants as unexplained;
 
     ghost from_gives = { λ _ e. e ≡ unexplained.NoMemory };
 
-    // A reason is refused by 90 alone.
-    fn from(_: Refusal) -> Unexplained {
-        Unexplained::NoMemory
+    fn from(why: ReasonFault) -> Unexplained {
+        match why {
+            ReasonFault::NoMemory => Unexplained::NoMemory,
+        }
     }
 }
 
@@ -55,7 +55,7 @@ impl Database {
 
     /// Keeps the words that say why a line was refused, when it was to be prepared, by the refusal that the answers begin with. There
     /// are none where they begin with none, or where that can't be told.
-    pub fn find_prepare_reason(&mut self, alloc: Global, line: &[u8]) -> Result<(), Refusal>
+    pub fn find_prepare_reason(&mut self, alloc: Global, line: &[u8]) -> Result<(), ReasonFault>
         ensures { IsAsBefore self.old self.new }
     {
         let words = match refusal_of(self.answer.as_slice()) {
