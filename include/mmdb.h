@@ -117,8 +117,8 @@ typedef enum mmdb_status {
     MMDB_NOT_UTF8 = 11,          /* mmdb_bind_text of bytes that are not UTF-8 */
     MMDB_REFUSED = 12,           /* mmdb_prepare, mmdb_execute, mmdb_columns, mmdb_query: refused. mmdb_answer and
                                     mmdb_refusal tell why, as `error 41 key exists` and a line feed; nothing changed */
-    MMDB_TOO_LARGE = 13          /* mmdb_execute, mmdb_columns, mmdb_query: the texts of the rows are more than 4 GiB
-                                    together; mmdb_prepare: the database has 4294967296 statements. Nothing changed */
+    MMDB_TOO_LARGE = 13          /* mmdb_execute, mmdb_query: the texts of the rows are more than 4 GiB together;
+                                    mmdb_prepare: the database has 4294967296 statements. Nothing changed */
 } mmdb_status;
 
 /* How plans are chosen. No policy changes an answer, only what it costs. MMDB_AUTO is the one to take. */
@@ -183,8 +183,7 @@ uint32_t mmdb_execute(mmdb *db, uint32_t statement, mmdb_rows *rows);
    and its kind, which is the integer MMDB_INTEGER or MMDB_TEXT. Another statement has no columns. They are good until
    the next call on this handle.
    Gives MMDB_DONE and the columns; or MMDB_REFUSED where mmdb_prepare of the line would be refused now, as by 30 once
-   its table is dropped, or by 90 when out of memory; or MMDB_TOO_LARGE, which a select has no columns for; or
-   MMDB_NOT_OPEN or MMDB_NO_SUCH_STATEMENT. */
+   its table is dropped, or by 90 when out of memory; or MMDB_NOT_OPEN or MMDB_NO_SUCH_STATEMENT. */
 uint32_t mmdb_columns(mmdb *db, uint32_t statement, mmdb_rows *columns);
 
 /* Frees a statement: its rows are good no longer, and its number may be given to another. It needs no memory. The

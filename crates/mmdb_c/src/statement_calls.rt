@@ -3,10 +3,12 @@
 ghost use Rattle.std.specs.Prelude.{◌≡◌, ◌≢◌, ◌↔◌, ◌≤◌, ◌⊎◌, [], IsNone, IsSome, IsSomeAnd, length};
 ghost use Rattle.std.specs.Str.{IsUtf8};
 ghost use Rattle.plain_tables.specs.declared.value.Value.TheVariants as value;
+ghost use Rattle.mm_cells.specs.Reading.{AreFull};
+ghost use Rattle.mm_cells.specs.Values.{values_of};
 ghost use Rattle.mm_prepared.specs.Cells.{IsSmall, cell_value};
 ghost use Rattle.mm_statements.specs.declared.database.Executed.TheVariants as gives;
 ghost use Rattle.mmdb_c.specs.Calls.{Becomes};
-ghost use Rattle.mmdb_c.specs.StatementCalls.{Prepares, IsUnprepared, KeepsAll, KeepsEach, KeepsOthers, KeepsShown, KeepsStatements, IsMissing, IsPast, Binds, Finalizes, Executes, IsUnexecuted, IsUntold, KeepsColumns, Tells, Queries, IsUnqueried};
+ghost use Rattle.mmdb_c.specs.StatementCalls.{Prepares, IsUnprepared, KeepsAll, KeepsEach, KeepsOthers, KeepsShown, KeepsStatements, IsMissing, IsPast, Binds, Finalizes, Executes, IsUnexecuted, IsUntold, KeepsColumns, Tells, Queries, IsUnqueried, shown_by};
 
 use crate::handle::Handle;
 use crate::rows::Rows;
@@ -170,6 +172,7 @@ pub extern "C" fn mmdb_execute(
     ensures refused { result ≡ REFUSED → Becomes handle.old.database handle.new.database (IsUnexecuted statement) }
     ensures kept { result ≢ DONE → IsSome handle.old.database → Becomes handle.old.database handle.new.database KeepsAll }
     ensures rows { IsSome handle.old.database → Becomes handle.old.database handle.new.database (KeepsOthers statement) }
+    ensures too_large { result ≡ TOO_LARGE → IsSomeAnd handle.new.database (λ d. AreFull (shown_by d statement)) }
     ensures others { IsSome handle.old.database → (result ≡ DONE) ⊎ ((result ≡ NO_SUCH_STATEMENT) ⊎ ((result ≡ REFUSED) ⊎ (result ≡ TOO_LARGE))) }
     ensures unchanged { (result ≡ NOT_OPEN) ⊎ (result ≡ NO_SUCH_STATEMENT) → handle.new.database ≡ handle.old.database }
     ensures untold { result ≢ DONE → rows.new ≡ rows.old }
@@ -201,7 +204,7 @@ pub extern "C" fn mmdb_columns(
     ensures refused { result ≡ REFUSED → Becomes handle.old.database handle.new.database (IsUntold statement) }
     ensures kept { IsSome handle.old.database → Becomes handle.old.database handle.new.database KeepsAll }
     ensures rows { IsSome handle.old.database → Becomes handle.old.database handle.new.database KeepsShown }
-    ensures others { IsSome handle.old.database → (result ≡ DONE) ⊎ ((result ≡ NO_SUCH_STATEMENT) ⊎ ((result ≡ REFUSED) ⊎ (result ≡ TOO_LARGE))) }
+    ensures others { IsSome handle.old.database → (result ≡ DONE) ⊎ ((result ≡ NO_SUCH_STATEMENT) ⊎ (result ≡ REFUSED)) }
     ensures unchanged { (result ≡ NOT_OPEN) ⊎ (result ≡ NO_SUCH_STATEMENT) → handle.new.database ≡ handle.old.database }
     ensures untold { result ≢ DONE → columns.new ≡ columns.old }
 {
@@ -256,6 +259,7 @@ pub extern "C" fn mmdb_query(
     ensures judged { IsSome handle.old.database × (line.now ≢ []) → (result ≡ DONE) ⊎ ((result ≡ REFUSED) ⊎ (result ≡ TOO_LARGE)) }
     ensures done { result ≡ DONE → Becomes handle.old.database handle.new.database (λ old new. Queries line.now old new rows.new) }
     ensures refused { result ≡ REFUSED → Becomes handle.old.database handle.new.database (IsUnqueried line.now) }
+    ensures too_large { result ≡ TOO_LARGE → IsSomeAnd handle.new.database (λ d. AreFull (values_of d.queried)) }
     ensures kept { (result ≡ REFUSED) ⊎ (result ≡ TOO_LARGE) → Becomes handle.old.database handle.new.database KeepsAll }
     ensures rows { (result ≡ DONE) ⊎ ((result ≡ REFUSED) ⊎ (result ≡ TOO_LARGE)) → Becomes handle.old.database handle.new.database KeepsStatements }
     ensures unchanged { (result ≡ NOT_OPEN) ⊎ (result ≡ NO_LINE) → handle.new.database ≡ handle.old.database }

@@ -55,7 +55,9 @@ fn make_room(shown: &mut Vec<Cells>, number: usize) -> Result<(), NoMemory>
 }
 
 impl Database {
-    ghost use Rattle.mmdb_c.specs.StatementCalls.{Prepares, IsUnprepared, KeepsAll, KeepsEach, KeepsOthers, KeepsShown, KeepsStatements, IsMissing, IsPast, IsUnbound, Binds, Finalizes, HasTold, Executes, IsUnexecuted, IsUntold, KeepsColumns, Queries, IsUnqueried};
+    ghost use Rattle.mmdb_c.specs.StatementCalls.{Prepares, IsUnprepared, KeepsAll, KeepsEach, KeepsOthers, KeepsShown, KeepsStatements, IsMissing, IsPast, IsUnbound, Binds, Finalizes, HasTold, Executes, IsUnexecuted, IsUntold, KeepsColumns, Queries, IsUnqueried, shown_by};
+    ghost use Rattle.mm_cells.specs.Reading.{AreFull};
+    ghost use Rattle.mm_cells.specs.Values.{values_of};
     ghost use Rattle.mm_statements.specs.Executing.{IsDeclined};
 
     /// Keeps the statement that a line spells; the answer is empty then. Where it is refused, that is the answer, and at another fault
@@ -118,6 +120,7 @@ impl Database {
         requires { number < length self.old.shown.items }
         ensures done { OnOk result (HasTold number self.old self.new rows.new) }
         ensures declined { IfErr result (IsDeclined self.old.inner number) }
+        ensures too_long { IsErrOf result ExecuteFault.TooLong → AreFull (shown_by self.new number) }
         ensures unchanged { OnErr result (KeepsAll self.old self.new) }
         ensures others { KeepsOthers number self.old self.new }
         ensures answer { self.new.answer ≡ self.old.answer }
@@ -135,6 +138,7 @@ impl Database {
         ensures missing { IsMissing number self.old → result ≡ Err unexecuted.NoSuchStatement }
         ensures none { result ≡ Err unexecuted.NoSuchStatement → IsMissing number self.old × (self.new ≡ self.old) }
         ensures refused { IsErrOf result unexecuted.Refused → IsUnexecuted number self.old self.new }
+        ensures too_long { result ≡ Err unexecuted.TooLong → AreFull (shown_by self.new number) }
         ensures unchanged { OnErr result (KeepsAll self.old self.new) }
         ensures others { KeepsOthers number self.old self.new }
         ensures untold { OnErr result (rows.new ≡ rows.old) }
@@ -166,6 +170,7 @@ impl Database {
         ensures missing { IsMissing number self.old → result ≡ Err unexecuted.NoSuchStatement }
         ensures none { result ≡ Err unexecuted.NoSuchStatement → IsMissing number self.old × (self.new ≡ self.old) }
         ensures refused { IsErrOf result unexecuted.Refused → IsUntold number self.old self.new }
+        ensures fits { result ≢ Err unexecuted.TooLong }
         ensures unchanged { KeepsAll self.old self.new }
         ensures shown { KeepsShown self.old self.new }
     {
@@ -190,6 +195,7 @@ impl Database {
     pub fn query(&mut self, alloc: Global, line: &[u8], rows: &mut Rows) -> Result<(), QueryFault>
         ensures done { OnOk result (Queries line.now self.old self.new rows.new) }
         ensures refused { IfErr result (λ e. e ≢ querying.TooLong → IsUnqueried line.now self.old self.new) }
+        ensures too_long { result ≡ Err querying.TooLong → AreFull (values_of self.new.queried) }
         ensures unchanged { OnErr result (KeepsAll self.old self.new) }
         ensures statements { KeepsStatements self.old self.new }
         ensures untold { OnErr result (rows.new ≡ rows.old) }

@@ -1,7 +1,9 @@
 -- The cells that the statement has shown are filled where they stand.
 use Rattle.std.proofs.Common.{◌≡◌, ◌∙◌, ◌<◌, ℕ, List, [], Some, refl, ap, sym, subst, length, get_or-set_same}
+use Rattle.std.proofs.lemmas.Result.{err_from_is_err_and}
 use Rattle.std.specs.Option.{option_map_or}
 use Rattle.std.specs.Prelude.{slice_get, slice_set}
+use Rattle.mm_cells.specs.Reading.{AreFull}
 use Rattle.mm_cells.specs.Values.{values_of}
 use Rattle.mm_cells.specs.declared.cells.Cells.{Cells}
 use Rattle.mm_statements.specs.Executing.{HasGiven}
@@ -15,6 +17,14 @@ returns-in_err-executed-clause-others c = record {
   queried = refl;
   columns = refl;
 }
+
+pub returns-in_err-executed-clause-too_long : goal.returns-in_err-executed-clause-too_long
+returns-in_err-executed-clause-too_long c =
+    let e = err_from_is_err_and c.from_residual.result c.from_residual.ensures.1 in
+    let cells : Cells = c.execute.new.shown in
+    let there : slice_get (slice_set c.args.self.now.shown.items c.args.number cells) c.args.number ≡ Some cells =
+    set-same c.args.self.now.shown.items c.args.number cells c.requires in
+    rw (e.1, e.2) (λ is. subst (λ o. AreFull (option_map_or values_of o [])) (sym there) (c.in_err-executed.ensures.too_long is))
 
 pub returns-clause-done : goal.returns-clause-done
 returns-clause-done c =
