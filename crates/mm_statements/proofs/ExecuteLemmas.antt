@@ -27,8 +27,10 @@ use Rattle.mm_session.specs.OneRequest.{StaysInStream}
 use Rattle.mm_session.specs.Sessions.{State}
 use Rattle.mm_prepared.specs.Kept.{KeptStatement}
 use Rattle.mm_statements.specs.Databases.{DatabaseState, IsUnchanged}
-use Rattle.mm_statements.specs.Executing.{IsDeclined, IsEffectOf}
-use Rattle.mm_statements.specs.Faults.{execute_fault_of}
+use Rattle.mm_statements.specs.Executing.{IsChangeOf, IsDeclined, IsEffectOf}
+use Rattle.mm_statements.specs.Faults.{IsUndone, execute_fault_of, execute_fault_of_change}
+use Rattle.mm_statements.specs.declared.faults.ChangeFault.{ChangeFault}
+use Rattle.mm_statements.specs.declared.faults.ChangeFault.TheVariants as changing
 use Rattle.mm_prepared.specs.Kept.{IsKnown, NamesNow, SameSeen, named, seen}
 use Rattle.mm_statements.specs.Resolving.{IsFinished, IsRefusing, IsUnfinished, IsUnmeant, IsUnresolved}
 use Rattle.mm_statements.specs.Resolving as resolving
@@ -81,6 +83,7 @@ pub unresolved-unfinished : (tables : Database) (statements : Statements) (numbe
     → IsUnresolved tables statements number e → IsUnfinished tables statements number e
 unresolved-unfinished tables statements number fault.NoSuchStatement none = none
 unresolved-unfinished tables statements number fault.TooLong never = never
+unresolved-unfinished tables statements number fault.Shared never = never
 unresolved-unfinished tables statements number (fault.Refused why) says = λ other.
     let r = says other in
     record { prepared = r.prepared; there = r.there; statement = r.statement; spelled = r.spelled; means = r.refuses r.prepared.bound }
@@ -137,8 +140,22 @@ effect-of session statements number m f = record {
 pub unfinished-declined : (session : State) (statements : Statements) (number : ℕ) (e : ExecuteFault)
     → IsUnfinished session.database statements number e → IsDeclined (state_of session statements) number e
 unfinished-declined session statements number fault.TooLong never = tt
+unfinished-declined session statements number fault.Shared never = absurd never
 unfinished-declined session statements number fault.NoSuchStatement none = statement-seen session statements number ∙ ap (option_map seen) none
 unfinished-declined session statements number (fault.Refused why) says = λ other. effect-of session statements number (Err why) (says other)
+
+-- a statement that was finished as a change is one
+pub change-of : (session : State) (statements : Statements) (number : ℕ) (c : Resolved) → IsFinished session.database statements number (Ok c)
+    → IsChange c → IsChangeOf (state_of session statements) number
+change-of session statements number c f change = record {
+  kept = seen f.prepared;
+  there = statement-seen session statements number ∙ ap (option_map seen) f.there;
+  statement = f.statement;
+  spelled = f.spelled;
+  command = c;
+  means = f.means;
+  change = change;
+}
 
 -- and one whose change was declined
 pub change-declined : (old new : State) (statements : Statements) (number : ℕ) (c : Resolved) (why : Refusal)
@@ -147,6 +164,13 @@ pub change-declined : (old new : State) (statements : Statements) (number : ℕ)
 change-declined old new statements number c why f declined other =
     ⊎_elim (λ none. absurd (other none))
     (λ is. subst (IsEffectOf (state_of old statements) number) is (effect-of old statements number (Ok c) f)) declined.1
+
+-- so it is of a change that was not done
+pub change-undone : (old new : State) (statements : Statements) (number : ℕ) (c : Resolved) (f : ChangeFault)
+    → IsFinished old.database statements number (Ok c) → IsChange c → IsUndone old new (done old.limits old.database c) f
+    → IsDeclined (state_of old statements) number (execute_fault_of_change f)
+change-undone old new statements number c (changing.Refused why) finished change undone = change-declined old new statements number c why finished undone
+change-undone old new statements number c changing.Shared finished change undone = change-of old statements number c finished change
 
 -- ---- what stays
 
@@ -192,3 +216,4 @@ pub unresolved-apart : (tables : Database) (statements : Statements) (number : �
 unresolved-apart tables statements number fault.NoSuchStatement none is = cc
 unresolved-apart tables statements number (fault.Refused why) says is = cc
 unresolved-apart tables statements number fault.TooLong never is = never
+unresolved-apart tables statements number fault.Shared never is = never

@@ -11,3 +11,4 @@ pub mod QueryLemmas
 pub mod RequestLemmas
 pub mod RightLemmas
 pub mod SeenLemmas
+pub mod SharedLemmas

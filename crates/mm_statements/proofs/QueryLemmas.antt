@@ -22,9 +22,11 @@ use Rattle.plain_tables.proofs.Uniqueness.{spells-one}
 use Rattle.plain_streams.specs.Requests.{IsReadable}
 use Rattle.mm_cells.specs.declared.fault.CellFault.{CellFault}
 use Rattle.mm_cells.specs.declared.fault.CellFault.TheVariants as cells
-use Rattle.mm_session.specs.Changing.{HasDeclined}
+use Rattle.mm_session.specs.Changing.{HasDeclined, IsChange}
 use Rattle.mm_session.specs.Sessions.{State}
-use Rattle.mm_statements.specs.Faults.{query_fault_of}
+use Rattle.mm_statements.specs.Faults.{IsUndone, query_fault_of, query_fault_of_change}
+use Rattle.mm_statements.specs.declared.faults.ChangeFault.{ChangeFault}
+use Rattle.mm_statements.specs.declared.faults.ChangeFault.TheVariants as changing
 use Rattle.mm_statements.specs.Querying.{IsEffectOfLine, IsMeaningOfLine, IsUnanswered, IsUnqueried, is_statement}
 use Rattle.mm_statements.specs.Querying as querying
 use Rattle.mm_statements.specs.Resolving.{IsOfRows}
@@ -100,6 +102,12 @@ pub change-unqueried : (old new : State) (line : List ℕ) (r : Resolved) (why :
 change-unqueried old new line r why means declined =
     ⊎_elim (λ none. subst (IsUnqueried old line) (sym none) (querying.no_memory means.readable))
     (λ is. querying.refuses why (subst (IsEffectOfLine old line) is (effect-of-line old line (Ok r) means))) declined.1
+
+-- so it is of a change that was not done
+pub change-unanswered : (old new : State) (line : List ℕ) (r : Resolved) (f : ChangeFault) → IsMeaningOfLine old.database line (Ok r) → IsChange r
+    → IsUndone old new (done old.limits old.database r) f → IsUnanswered old line (query_fault_of_change f)
+change-unanswered old new line r (changing.Refused why) means change undone = change-unqueried old new line r why means undone
+change-unanswered old new line r changing.Shared means change undone = (r, means, change)
 
 -- ---- what the cells of a select don't take
 

@@ -14,7 +14,7 @@ use Rattle.plain_statements.specs.declared.statement.Statement.{Statement}
 use Rattle.plain_statements.specs.Executing.{executed}
 use Rattle.plain_statements.specs.Laws.{Refuses}
 use Rattle.plain_statements.specs.StatementSpelling.{SpellsStatement}
-use Rattle.mm_session.specs.Changing.{HasChanged, ShowsValues}
+use Rattle.mm_session.specs.Changing.{HasChanged, IsChange, ShowsValues}
 use Rattle.mm_session.specs.Sessions.{State}
 use Rattle.mm_prepared.specs.Kept.{KeptStatement}
 use Rattle.mm_statements.specs.Databases.{DatabaseState, statement_at}
@@ -37,12 +37,23 @@ HasGiven new effect (gives.Changed count) cells = HasChanged new effect count ×
 HasGiven new effect (gives.Rows columns) cells =
     (new.database ≡ effect.database) × ShowsValues effect.outcome columns cells × (0 < columns)
 
+-- The number names a statement that, with the values that are bound, is an insert, an update or a delete of these tables.
+pub record IsChangeOf (database : DatabaseState) (number : ℕ) : Type 0 where
+  pub kept : KeptStatement
+  pub there : statement_at database number ≡ Some kept
+  pub statement : Statement
+  pub spelled : SpellsStatement kept.line statement
+  pub command : Resolved
+  pub means : resolved_of [] database.session.database (filled kept.values statement) ≡ Ok command
+  pub change : IsChange command
+
 -- The number names no statement; or the refusal is the effect, unless there was no memory. What it shows may be too long for cells.
 abbrev pub IsDeclined : DatabaseState → ℕ → ExecuteFault → Type 0
 IsDeclined database number fault.NoSuchStatement = statement_at database number ≡ None
 IsDeclined database number (fault.Refused why) =
     why ≢ NoMemory → IsEffectOf database number (refused database.session.database why)
 IsDeclined database number fault.TooLong = Unit {0}
+IsDeclined database number fault.Shared = IsChangeOf database number
 
 -- the columns of what a resolved command shows of these tables
 abbrev pub columns_of : Database → Resolved → List Value
@@ -72,3 +83,4 @@ abbrev pub IsUntold : DatabaseState → ℕ → ExecuteFault → Type 0
 IsUntold database number fault.NoSuchStatement = statement_at database number ≡ None
 IsUntold database number (fault.Refused why) = why ≢ NoMemory → IsRefusedEver database number why
 IsUntold database number fault.TooLong = ⊥
+IsUntold database number fault.Shared = ⊥

@@ -1,14 +1,24 @@
--- Faults: what a refusal is among the faults of preparing, and a fault of cells among those of executing and of querying.
+-- Faults: what a refusal is among the faults of preparing, a fault of cells among those of executing and of querying, and a fault of a
+-- session among those of a stream.
+use Rattle.plain_tables.specs.Effects.{Effect}
 use Rattle.plain_tables.specs.declared.refusal.Refusal.{Refusal}
 use Rattle.plain_tables.specs.declared.refusal.Refusal.TheVariants as refusal
 use Rattle.mm_cells.specs.declared.fault.CellFault.{CellFault}
 use Rattle.mm_cells.specs.declared.fault.CellFault.TheVariants as cells
+use Rattle.mm_session.specs.Changing.{HasDeclined}
+use Rattle.mm_session.specs.Sessions.{State}
+use Rattle.mm_session.specs.declared.fault.SessionFault.{SessionFault}
+use Rattle.mm_session.specs.declared.fault.SessionFault.TheVariants as session
 use Rattle.mm_statements.specs.declared.faults.ExecuteFault.{ExecuteFault}
 use Rattle.mm_statements.specs.declared.faults.ExecuteFault.TheVariants as executing
 use Rattle.mm_statements.specs.declared.faults.PrepareFault.{PrepareFault}
 use Rattle.mm_statements.specs.declared.faults.PrepareFault.TheVariants as fault
 use Rattle.mm_statements.specs.declared.faults.QueryFault.{QueryFault}
 use Rattle.mm_statements.specs.declared.faults.QueryFault.TheVariants as querying
+use Rattle.mm_statements.specs.declared.faults.StreamFault.{StreamFault}
+use Rattle.mm_statements.specs.declared.faults.StreamFault.TheVariants as streaming
+use Rattle.mm_statements.specs.declared.faults.ChangeFault.{ChangeFault}
+use Rattle.mm_statements.specs.declared.faults.ChangeFault.TheVariants as changing
 
 -- running out of memory has a variant of its own
 abbrev pub fault_of : Refusal → PrepareFault
@@ -24,3 +34,21 @@ execute_fault_of cells.TooLong = executing.TooLong
 abbrev pub query_fault_of : CellFault → QueryFault
 query_fault_of (cells.NoMemory refused) = querying.Refused refusal.NoMemory
 query_fault_of cells.TooLong = querying.TooLong
+
+-- a session's fault is the stream's
+abbrev pub stream_fault_of : SessionFault → StreamFault
+stream_fault_of session.Write = streaming.Write
+stream_fault_of session.Ended = streaming.Ended
+
+abbrev pub execute_fault_of_change : ChangeFault → ExecuteFault
+execute_fault_of_change (changing.Refused why) = executing.Refused why
+execute_fault_of_change changing.Shared = executing.Shared
+
+abbrev pub query_fault_of_change : ChangeFault → QueryFault
+query_fault_of_change (changing.Refused why) = querying.Refused why
+query_fault_of_change changing.Shared = querying.Shared
+
+-- the session declined the change, unless another database shares it
+abbrev pub IsUndone : State → State → Effect → ChangeFault → Type 0
+IsUndone old new effect (changing.Refused why) = HasDeclined old new effect why
+IsUndone old new effect changing.Shared = Unit {0}

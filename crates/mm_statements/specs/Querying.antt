@@ -1,5 +1,5 @@
 -- Querying: what comes of a line of which no statement is kept.
-use Rattle.std.specs.Prelude.{◌≡◌, ℕ, ◌<◌, ◌≤◌, List, [], Bool, true, false, length, IsTrue, Result}
+use Rattle.std.specs.Prelude.{◌≡◌, ℕ, ◌<◌, ◌≤◌, List, [], Bool, true, false, length, IsTrue, Result, Ok}
 use Rattle.std.specs.Str.{IsUtf8}
 use Rattle.plain_tables.specs.Commands.{effect_of}
 use Rattle.plain_tables.specs.Databases.{Database}
@@ -13,6 +13,7 @@ use Rattle.plain_tables.specs.declared.refusal.Refusal.TheVariants.{LineTooLong,
 use Rattle.plain_tables.specs.declared.resolved.Resolved.{Resolved}
 use Rattle.plain_streams.specs.Division.{IsUnbroken}
 use Rattle.plain_streams.specs.Requests.{IsReadable, is_silent}
+use Rattle.mm_session.specs.Changing.{IsChange}
 use Rattle.mm_session.specs.Sessions.{State}
 use Rattle.mm_statements.specs.declared.faults.QueryFault.{QueryFault}
 use Rattle.mm_statements.specs.declared.faults.QueryFault.TheVariants as fault
@@ -49,11 +50,6 @@ pub data IsUnqueried (session : State) (line : List ℕ) : Refusal → Type 0 wh
   refuses : (why : Refusal) → IsEffectOfLine session line (refused session.database why) → IsUnqueried session line why
   no_memory : IsReadable line → IsUnqueried session line NoMemory
 
--- The refusal is why nothing comes of a line; or the line can be read, and what it shows is too long for cells.
-abbrev pub IsUnanswered : State → List ℕ → QueryFault → Type 0
-IsUnanswered session line (fault.Refused why) = IsUnqueried session line why
-IsUnanswered session line fault.TooLong = IsReadable line
-
 -- The line can be read, and spells an insert, an update, a delete or a select that means this of the tables.
 pub record IsMeaningOfLine (tables : Database) (line : List ℕ) (meaning : Result Resolved Refusal) : Type 0 where
   pub readable : IsReadable line
@@ -61,3 +57,13 @@ pub record IsMeaningOfLine (tables : Database) (line : List ℕ) (meaning : Resu
   pub statement : IsTrue (is_statement command)
   pub spelled : Spells line command
   pub means : resolved_of [] tables command ≡ meaning
+
+-- The line can be read, and spells an insert, an update or a delete of the tables.
+abbrev pub IsChangeOfLine : Database → List ℕ → Type 0
+IsChangeOfLine tables line = (command : Resolved) × IsMeaningOfLine tables line (Ok command) × IsChange command
+
+-- The refusal is why nothing comes of a line; or the line can be read, and what it shows is too long for cells.
+abbrev pub IsUnanswered : State → List ℕ → QueryFault → Type 0
+IsUnanswered session line (fault.Refused why) = IsUnqueried session line why
+IsUnanswered session line fault.TooLong = IsReadable line
+IsUnanswered session line fault.Shared = IsChangeOfLine session.database line

@@ -49,6 +49,7 @@ abbrev pub IsUnresolved : Database → Statements → ℕ → ExecuteFault → T
 IsUnresolved tables statements number fault.NoSuchStatement = named statements number ≡ None
 IsUnresolved tables statements number (fault.Refused why) = why ≢ NoMemory → IsRefusing tables statements number why
 IsUnresolved tables statements number fault.TooLong = ⊥
+IsUnresolved tables statements number fault.Shared = ⊥
 
 -- an insert, an update, a delete or a select
 abbrev pub IsOfRows : Resolved → Type 0
@@ -60,3 +61,4 @@ abbrev pub IsUnfinished : Database → Statements → ℕ → ExecuteFault → T
 IsUnfinished tables statements number fault.NoSuchStatement = named statements number ≡ None
 IsUnfinished tables statements number (fault.Refused why) = why ≢ NoMemory → IsFinished tables statements number (Err why)
 IsUnfinished tables statements number fault.TooLong = ⊥
+IsUnfinished tables statements number fault.Shared = ⊥

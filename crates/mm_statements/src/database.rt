@@ -1,13 +1,15 @@
 //! A database with statements: a session, and the statements that are kept of its tables.
 
 use crate::columns::push_columns;
-use crate::faults::{ExecuteFault, PrepareFault, QueryFault};
+use crate::faults::{ExecuteFault, PrepareFault, QueryFault, RequestFault, StreamFault};
 use crate::querying::command_of_line;
 use crate::reading::{count_marks, meaning, readable};
 use crate::resolving::{command_of, resolution_of, resolve};
+use crate::shared::SharedSession;
+use mm_catalog::laws::a_catalog_is_consistent;
 use mm_cells::Cells;
 use mm_prepared::{Cell, Commands, Declined, Lent, Statements, may_declare};
-use mm_session::{Answer, NotOneRequest, Session, SessionFault};
+use mm_session::{Answer, Session};
 use no_memory::NoMemory;
 use plain_statements::Template;
 use plain_tables::{Limits, Resolved, Value};
@@ -40,16 +42,20 @@ pub struct PreparedLine<'a> {
 
 /// A session with statements. A statement is a line whose question marks are holes for values; it is prepared once, and executed with
 /// the values that are bound then.
+///
+/// Several databases may share a session. Each has statements of its own, and reads the tables. Only the last that is left changes
+/// them; the others are refused by `Shared`.
 #[derive(Drop)]
 pub struct Database {
-    session: Session,
+    session: SharedSession,
+    policy: Policy,
     statements: Statements,
     commands: Commands,
 }
 
 impl Model for Database {
     ghost use Rattle.plain_tables.specs.contracts.value.Value.{the_row as value_row};
-    ghost use Rattle.mm_session.specs.contracts.session.Session.{the_row as session_row};
+    ghost use Rattle.mm_statements.specs.contracts.shared.SharedSession.{the_row as session_row};
     ghost use Rattle.mm_prepared.specs.Kept.{all_seen};
     ghost use Rattle.mm_statements.specs.Databases.{DatabaseState, database_code};
     ghost use Rattle.mm_statements.specs.Right.{AreRight};
@@ -81,6 +87,8 @@ impl Database {
     ghost use Rattle.mm_statements.specs.Querying.{IsEffectOfLine, IsUnanswered};
     ghost use Rattle.mm_prepared.specs.declared.declined.Declined.TheVariants as declined;
     ghost use Rattle.mm_statements.specs.declared.faults.ExecuteFault.TheVariants as fault;
+    ghost use Rattle.mm_statements.specs.declared.faults.RequestFault.TheVariants as request_fault;
+    ghost use Rattle.mm_statements.specs.declared.faults.StreamFault.TheVariants as stream_fault;
     ghost use Rattle.plain_tables.specs.Effects.{Effect};
 
     /// A database with no tables, under these limits, and no statements.
@@ -89,18 +97,63 @@ impl Database {
         ensures session { IfOk result (λ d. d.session ≡ new_session limits [] d.session.catalog) }
         ensures none { IfOk result (λ d. (number : ℕ) → statement_at d number ≡ None) }
     {
+        let session = Session::with_limits(alloc, policy, limits)?;
         Ok(Database {
-            session: Session::with_limits(alloc, policy, limits)?,
+            session: SharedSession::new(alloc, session)?,
+            policy,
             statements: Statements::new(alloc),
             commands: Commands::new(alloc),
         })
+    }
+
+    /// A database that shares the session, with no statements of its own.
+    pub fn reader(&self, alloc: Global) -> Result<Database, NoMemory>
+        ensures session { IfOk result (λ d. d.session ≡ self.now.session) }
+        ensures none { IfOk result (λ d. (number : ℕ) → statement_at d number ≡ None) }
+    {
+        Ok(Database {
+            session: self.session.another()?,
+            policy: self.policy,
+            statements: Statements::new(alloc),
+            commands: Commands::new(alloc),
+        })
+    }
+
+    /// Has another database share the session, in the place of its own, which ends where no third shares it. The other's statements
+    /// and their values stay. What is known of their meaning is forgotten.
+    pub fn share(&self, other: &mut Database) -> Result<(), NoMemory>
+        ensures session { OnOk result (other.new.session ≡ self.now.session) }
+        ensures statements { OnOk result (SameStatements other.old other.new) }
+        ensures unchanged { OnErr result (other.new ≡ other.old) }
+    {
+        let session = self.session.another()?;
+        other.statements.forget();
+        other.session = session;
+        other.policy = self.policy;
+        Ok(())
+    }
+
+    /// Leaves the session, which ends where no other database shares it, for a new one without tables. The statements and their values
+    /// stay. What is known of their meaning is forgotten.
+    pub fn leave(&mut self, alloc: Global) -> Result<(), NoMemory>
+        ensures session { OnOk result (self.new.session ≡ new_session self.old.session.limits [] self.new.session.catalog) }
+        ensures statements { OnOk result (SameStatements self.old self.new) }
+        ensures unchanged { OnErr result (self.new ≡ self.old) }
+    {
+        let catalog = self.session.catalog();
+        a_catalog_is_consistent(catalog);
+        let session = Session::with_limits(alloc, self.policy, catalog.limits())?;
+        let session = SharedSession::new(alloc, session)?;
+        self.statements.forget();
+        self.session = session;
+        Ok(())
     }
 
     /// The session, lent.
     pub fn session(&self) -> &Session
         ensures { result.now ≡ self.now.session }
     {
-        &self.session
+        self.session.session()
     }
 
     /// Answers one request by itself, beside the stream: a line without its line feed, and the block behind it, which is empty
@@ -112,12 +165,14 @@ impl Database {
         line: &[u8],
         block: &[u8],
         answer: &mut Answer,
-    ) -> Result<(), NotOneRequest>
+    ) -> Result<(), RequestFault>
         // The request is one, and was answered.
         ensures ok { OnOk result (AnswersOne self.old.session.limits self.old.session.database (record { line = line.now; block = block.now }) answer.new self.new.session.database) }
 
         // It isn't: the line has a line feed in it, or takes another number of bytes than the block has.
-        ensures err { OnErr result (¬ (IsWhole (record { line = line.now; block = block.now }))) }
+        ensures err { IsErrOf result request_fault.NotOneRequest → ¬ (IsWhole (record { line = line.now; block = block.now })) }
+
+        // Where it isn't, or another database shares the session, nothing has changed.
         ensures unchanged { OnErr result ((self.new ≡ self.old) × (answer.new ≡ answer.old)) }
 
         // The stream goes on as before, and the request stands behind what of it was answered.
@@ -137,18 +192,21 @@ impl Database {
     /// Takes the next bytes of the stream, and answers each request that ends in them.
     ///
     /// After `Write` the session has ended: each later call answers `Ended` and writes nothing.
-    pub fn feed<W: Write>(&mut self, piece: &[u8], w: &mut W) -> Result<(), SessionFault>
+    pub fn feed<W: Write>(&mut self, piece: &[u8], w: &mut W) -> Result<(), StreamFault>
         // Ended, before the call.
-        ensures ended { IsErrOf result SessionFault.Ended ↔ IsTrue self.old.session.ended }
-        ensures unchanged { IsErrOf result SessionFault.Ended → (self.new.session ≡ self.old.session) × Keeps (W.contents w.old) (W.contents w.new) }
+        ensures ended { IsErrOf result stream_fault.Ended ↔ IsTrue self.old.session.ended }
+        ensures unchanged { IsErrOf result stream_fault.Ended → (self.new.session ≡ self.old.session) × Keeps (W.contents w.old) (W.contents w.new) }
 
         // Each request that ended was answered.
         ensures ok { OnOk result (Gains (W.contents w.old) (W.contents w.new) (Feeds self.old.session self.new.session piece.now)) }
 
         // A write failed, and the answers stop somewhere.
-        ensures write { IsErrOf result SessionFault.Write → Gains (W.contents w.old) (W.contents w.new) (BreaksOff self.old.session self.new.session piece.now false) }
-        ensures over { IsErrOf result SessionFault.Write → IsTrue self.new.session.ended }
+        ensures write { IsErrOf result stream_fault.Write → Gains (W.contents w.old) (W.contents w.new) (BreaksOff self.old.session self.new.session piece.now false) }
+        ensures over { IsErrOf result stream_fault.Write → IsTrue self.new.session.ended }
         ensures limits { self.new.session.limits ≡ self.old.session.limits }
+
+        // Another database shares the session.
+        ensures shared { IsErrOf result stream_fault.Shared → (self.new.session ≡ self.old.session) × Keeps (W.contents w.old) (W.contents w.new) }
 
         // The statements stay.
         ensures statements { SameStatements self.old self.new }
@@ -160,12 +218,13 @@ impl Database {
 
     /// Answers the last request of the stream, which it ends in, where there is one. The session has ended then: each later call
     /// answers `Ended` and writes nothing.
-    pub fn end<W: Write>(&mut self, w: &mut W) -> Result<(), SessionFault>
-        ensures ended { IsErrOf result SessionFault.Ended ↔ IsTrue self.old.session.ended }
-        ensures unchanged { IsErrOf result SessionFault.Ended → (self.new.session ≡ self.old.session) × Keeps (W.contents w.old) (W.contents w.new) }
+    pub fn end<W: Write>(&mut self, w: &mut W) -> Result<(), StreamFault>
+        ensures ended { IsErrOf result stream_fault.Ended ↔ IsTrue self.old.session.ended }
+        ensures unchanged { IsErrOf result stream_fault.Ended → (self.new.session ≡ self.old.session) × Keeps (W.contents w.old) (W.contents w.new) }
         ensures ok { OnOk result (Gains (W.contents w.old) (W.contents w.new) (Finishes self.old.session self.new.session)) }
-        ensures write { IsErrOf result SessionFault.Write → Gains (W.contents w.old) (W.contents w.new) (BreaksOff self.old.session self.new.session [] true) }
-        ensures over { IsTrue self.new.session.ended }
+        ensures write { IsErrOf result stream_fault.Write → Gains (W.contents w.old) (W.contents w.new) (BreaksOff self.old.session self.new.session [] true) }
+        ensures shared { IsErrOf result stream_fault.Shared → (self.new.session ≡ self.old.session) × Keeps (W.contents w.old) (W.contents w.new) }
+        ensures over { (result ≢ Err stream_fault.Shared) → IsTrue self.new.session.ended }
         ensures limits { self.new.session.limits ≡ self.old.session.limits }
         ensures statements { SameStatements self.old self.new }
     {

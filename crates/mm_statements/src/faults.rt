@@ -1,6 +1,7 @@
-//! Why a line is not kept as a statement, why a statement is not executed, and why nothing comes of a line.
+//! Why a line is not kept as a statement, why a statement is not executed, and why nothing comes of a line or of a piece of a stream.
 
 use mm_cells::CellFault;
+use mm_session::{NotOneRequest, SessionFault};
 use no_memory::NoMemory;
 use plain_tables::Refusal;
 
@@ -48,6 +49,8 @@ pub enum ExecuteFault {
     Refused(Refusal),
     /// The texts of the rows that it shows are longer than 4 GiB together: cells have no numbers for them.
     TooLong,
+    /// It is an insert, an update or a delete, and another database shares the tables.
+    Shared,
 }
 
 impl From<Refusal> for ExecuteFault {
@@ -94,6 +97,8 @@ pub enum QueryFault {
     Refused(Refusal),
     /// The texts of the rows that it shows are longer than 4 GiB together: cells have no numbers for them.
     TooLong,
+    /// It is an insert, an update or a delete, and another database shares the tables.
+    Shared,
 }
 
 impl From<Refusal> for QueryFault {
@@ -117,6 +122,99 @@ impl From<CellFault> for QueryFault {
         match why {
             CellFault::NoMemory(refused) => QueryFault::Refused(Refusal::from(refused)),
             CellFault::TooLong => QueryFault::TooLong,
+        }
+    }
+}
+
+/// Why a request was not answered. Nothing has changed.
+#[derive(Clone, Copy, Debug, PartialEq, Eq)]
+pub enum RequestFault {
+    /// The line has a line feed in it, or asks for another number of bytes than the block has.
+    NotOneRequest,
+    /// Another database shares the tables.
+    Shared,
+}
+
+impl From<NotOneRequest> for RequestFault {
+    ghost use Rattle.std.specs.Prelude.{◌≡◌};
+    ghost use Rattle.mm_statements.specs.declared.faults.RequestFault.TheVariants as fault;
+
+    ghost from_gives = { λ _ e. e ≡ fault.NotOneRequest };
+
+    fn from(_: NotOneRequest) -> RequestFault {
+        RequestFault::NotOneRequest
+    }
+}
+
+/// Why a piece of the stream was not taken to its end.
+#[derive(Clone, Copy, Debug, PartialEq, Eq)]
+pub enum StreamFault {
+    /// A write answered an error or took no byte. The stream has ended.
+    Write,
+    /// The stream had ended before the call.
+    Ended,
+    /// Another database shares the tables. Nothing has changed.
+    Shared,
+}
+
+impl From<SessionFault> for StreamFault {
+    ghost use Rattle.std.specs.Prelude.{◌≡◌};
+    ghost use Rattle.mm_statements.specs.Faults.{stream_fault_of};
+
+    ghost from_gives = { λ why e. e ≡ stream_fault_of why };
+
+    fn from(why: SessionFault) -> StreamFault {
+        match why {
+            SessionFault::Write => StreamFault::Write,
+            SessionFault::Ended => StreamFault::Ended,
+        }
+    }
+}
+
+/// Why a change was not done. Nothing has changed.
+#[derive(Clone, Copy, Debug, PartialEq, Eq)]
+pub enum ChangeFault {
+    /// It is refused; 90 where a growth was refused.
+    Refused(Refusal),
+    /// Another database shares the tables.
+    Shared,
+}
+
+impl From<Refusal> for ChangeFault {
+    ghost use Rattle.std.specs.Prelude.{◌≡◌};
+    ghost use Rattle.mm_statements.specs.declared.faults.ChangeFault.TheVariants as fault;
+
+    ghost from_gives = { λ why e. e ≡ fault.Refused why };
+
+    fn from(why: Refusal) -> ChangeFault {
+        ChangeFault::Refused(why)
+    }
+}
+
+impl From<ChangeFault> for ExecuteFault {
+    ghost use Rattle.std.specs.Prelude.{◌≡◌};
+    ghost use Rattle.mm_statements.specs.Faults.{execute_fault_of_change};
+
+    ghost from_gives = { λ why e. e ≡ execute_fault_of_change why };
+
+    fn from(why: ChangeFault) -> ExecuteFault {
+        match why {
+            ChangeFault::Refused(why) => ExecuteFault::Refused(why),
+            ChangeFault::Shared => ExecuteFault::Shared,
+        }
+    }
+}
+
+impl From<ChangeFault> for QueryFault {
+    ghost use Rattle.std.specs.Prelude.{◌≡◌};
+    ghost use Rattle.mm_statements.specs.Faults.{query_fault_of_change};
+
+    ghost from_gives = { λ why e. e ≡ query_fault_of_change why };
+
+    fn from(why: ChangeFault) -> QueryFault {
+        match why {
+            ChangeFault::Refused(why) => QueryFault::Refused(why),
+            ChangeFault::Shared => QueryFault::Shared,
         }
     }
 }

@@ -15,6 +15,7 @@
 //! - What is known of a statement's meaning is right by the tables as they are. Where their names or columns may have changed it is
 //!   forgotten, and worked out anew from the line when the statement is executed next.
 //! - What is declined changes nothing.
+//! - Several databases may share a session. Each reads its tables by statements of its own, and none changes them while another is there.
 #![tactic(auto)]
 
 mod columns;
@@ -24,7 +25,8 @@ pub mod laws;
 mod querying;
 mod reading;
 mod resolving;
+mod shared;
 
 pub use database::{Database, Executed, Numbered, PreparedLine};
-pub use faults::{ExecuteFault, PrepareFault, QueryFault};
+pub use faults::{ExecuteFault, PrepareFault, QueryFault, RequestFault, StreamFault};
 pub use mm_prepared::{Bound, Cell, Declined, Prepared, Statements, finish};

@@ -6,8 +6,8 @@ ghost use Rattle.mm_statements.specs.Querying.{IsMeaningOfLine, IsUnqueried, is_
 ghost use Rattle.mm_statements.specs.Resolving.{IsOfRows};
 
 use crate::reading::readable;
+use crate::shared::SharedSession;
 use mm_lang::{ParseRefusal, parse};
-use mm_session::Session;
 use plain_tables::{Command, Refusal, Resolved};
 use std::alloc::Global;
 
@@ -26,7 +26,11 @@ fn is_statement(command: &Command) -> bool
 
 /// The resolved command that a line spells, if that is an insert, an update, a delete or a select. A carriage return at the line's
 /// end is no part of it.
-pub fn command_of_line(alloc: Global, session: &Session, line: &[u8]) -> Result<Resolved, Refusal>
+pub fn command_of_line(
+    alloc: Global,
+    session: &SharedSession,
+    line: &[u8],
+) -> Result<Resolved, Refusal>
     ensures spelled { IfOk result (λ r. IsMeaningOfLine session.now.database (without_return line.now) (Ok r)) }
     ensures meant { IfOk result (λ r. IsMeant session.now.limits session.now.database r) }
     ensures rows { IfOk result IsOfRows }

@@ -12,15 +12,15 @@ ghost use Rattle.mm_statements.specs.declared.faults.ExecuteFault.TheVariants as
 
 use crate::faults::ExecuteFault;
 use crate::reading::meaning;
+use crate::shared::SharedSession;
 use mm_lang::Line;
 use mm_prepared::{Lent, Statements, lend};
-use mm_session::Session;
 use plain_statements::Resolution;
 use plain_tables::{Refusal, Resolved};
 
 // Works out what the statement of a number means of the tables.
 fn resolve_anew(
-    session: &Session,
+    session: &SharedSession,
     statements: &mut Statements,
     number: usize,
 ) -> Result<(), ExecuteFault>
@@ -44,7 +44,7 @@ fn resolve_anew(
 /// Works out what the statement of a number means of the tables, where that isn't known.
 #[inline]
 pub fn resolve(
-    session: &Session,
+    session: &SharedSession,
     statements: &mut Statements,
     number: usize,
 ) -> Result<(), ExecuteFault>

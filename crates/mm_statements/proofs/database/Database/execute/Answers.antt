@@ -8,7 +8,7 @@ use Rattle.mm_cells.specs.Values.{values_of}
 use Rattle.mm_statements.specs.Faults.{execute_fault_of}
 use Rattle.mm_statements.specs.Resolving.{IsFinished, IsOfRows}
 use Rattle.mm_statements.specs.declared.faults.ExecuteFault.TheVariants as fault
-use Rattle.mm_statements.proofs.ExecuteLemmas.{cells-declined, change-declined, changed-right, effect-of, full-cells, on-err, same-finished, same-unfinished, unchanged, unfinished-declined, unresolved-apart, unresolved-unfinished}
+use Rattle.mm_statements.proofs.ExecuteLemmas.{cells-declined, change-undone, changed-right, effect-of, full-cells, on-err, same-finished, same-unfinished, unchanged, unfinished-declined, unresolved-apart, unresolved-unfinished}
 use Rattle.mm_statements.proofs.FinishedLemmas.{rows-change}
 use Rattle.mm_statements.proofs.SeenLemmas.{same-seen, statement-none}
 use Rattle.mm_statements.proofs.database.Database.execute.Goals as goal
@@ -83,8 +83,8 @@ returns-in_err-insert-in-Insert-clause-declined c =
     rw c.in-Insert.is at (c.in_ok-lent.ensures.finished s.database c.resolve.ensures.right) in
     let e = err_from_is_err_and c.from_residual-in_err-insert-in-Insert.result c.from_residual-in_err-insert-in-Insert.ensures.1 in
     rw (← c.self.view_is, e.1, e.2)
-    (change-declined s c.insert.new.self old c.args.number command _
-    (same-finished s.database old c.resolve.new.statements c.args.number (Ok command) c.resolve.ensures.same finished) c.in_err-insert-in-Insert.ensures.refused)
+    (change-undone s c.insert.new.self old c.args.number command _
+    (same-finished s.database old c.resolve.new.statements c.args.number (Ok command) c.resolve.ensures.same finished) tt c.in_err-insert-in-Insert.ensures.refused)
 
 pub returns-in_err-insert-in-Insert-clause-unchanged : goal.returns-in_err-insert-in-Insert-clause-unchanged
 returns-in_err-insert-in-Insert-clause-unchanged c =
@@ -186,10 +186,12 @@ returns-in_err-count-clause-declined c =
     let command = c.in-Command.command.now in
     let finished : IsFinished s.database c.resolve.new.statements c.args.number (Ok command) =
     rw c.in-Command.is at (c.in_ok-lent.ensures.finished s.database c.resolve.ensures.right) in
+    let rows : IsOfRows command = rw c.in-Command.is at c.in_ok-lent.ensures.rows in
     let e = err_from_is_err_and c.from_residual-in_err-count.result c.from_residual-in_err-count.ensures.1 in
     rw (← c.self.view_is, e.1, e.2)
-    (change-declined s c.change.new.self old c.args.number command _
-    (same-finished s.database old c.resolve.new.statements c.args.number (Ok command) c.resolve.ensures.same finished) c.in_err-count.ensures.refused)
+    (change-undone s c.change.new.self old c.args.number command _
+    (same-finished s.database old c.resolve.new.statements c.args.number (Ok command) c.resolve.ensures.same finished)
+    (rows-change command rows c.in_default.not-Select) c.in_err-count.ensures.refused)
 
 pub returns-in_err-count-clause-unchanged : goal.returns-in_err-count-clause-unchanged
 returns-in_err-count-clause-unchanged c =

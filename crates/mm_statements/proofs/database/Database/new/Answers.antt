@@ -5,4 +5,4 @@ use Rattle.mm_statements.proofs.SeenLemmas.{statement-seen}
 use Rattle.mm_statements.proofs.database.Database.new.Goals as goal
 
 pub returns-clause-none : goal.returns-clause-none
-returns-clause-none c = λ number. statement-seen c.in_ok-with_limits.field-0 c.new.result number ∙ ap (option_map seen) (c.new.ensures number)
+returns-clause-none c = λ number. statement-seen c.in_ok-session.session c.new-2.result number ∙ ap (option_map seen) (c.new-2.ensures number)

@@ -9,7 +9,7 @@ use Rattle.mm_statements.specs.Querying.{IsMeaningOfLine}
 use Rattle.mm_statements.specs.declared.faults.QueryFault.TheVariants as fault
 use Rattle.mm_statements.proofs.ExecuteLemmas.{changed-right, on-err, unchanged}
 use Rattle.mm_statements.proofs.FinishedLemmas.{rows-change}
-use Rattle.mm_statements.proofs.QueryLemmas.{cells-unanswered, change-unqueried, effect-of-line, full-cells}
+use Rattle.mm_statements.proofs.QueryLemmas.{cells-unanswered, change-unanswered, effect-of-line, full-cells}
 use Rattle.mm_statements.proofs.database.Database.query.Goals as goal
 
 pub returns-in_err-command-clause-refused : goal.returns-in_err-command-clause-refused
@@ -42,7 +42,8 @@ pub returns-in_err-count-clause-refused : goal.returns-in_err-count-clause-refus
 returns-in_err-count-clause-refused c =
     let e = err_from_is_err_and c.from_residual-in_err-count.result c.from_residual-in_err-count.ensures.1 in
     rw (← c.self.view_is, e.1, e.2)
-    (change-unqueried c.self.inside.session c.change.new.self _ c.in_ok-command.command _ c.in_ok-command.ensures.spelled c.in_err-count.ensures.refused)
+    (change-unanswered c.self.inside.session c.change.new.self _ c.in_ok-command.command _ c.in_ok-command.ensures.spelled
+    (rows-change c.in_ok-command.command c.in_ok-command.ensures.rows c.in_default.not-Select) c.in_err-count.ensures.refused)
 
 pub returns-in_err-count-clause-unchanged : goal.returns-in_err-count-clause-unchanged
 returns-in_err-count-clause-unchanged c =

@@ -1,0 +1,27 @@
+-- Shared: what is said of a session that is the same as another.
+use Rattle.std.proofs.Common.{◌≡◌, ◌∙◌, ℕ, Bool, List, Option, refl, subst, sym, Err}
+use Rattle.std.specs.Result.{IsErrOf}
+use Rattle.plain_streams.specs.Requests.{Request}
+use Rattle.mm_session.specs.OneRequest.{GoesBetween}
+use Rattle.mm_session.specs.Sessions.{BreaksOff, Finishes, Gains, State}
+use Rattle.mm_session.specs.declared.fault.SessionFault.{SessionFault}
+use Rattle.mm_session.specs.declared.fault.SessionFault.TheVariants as session
+use Rattle.mm_statements.specs.Faults.{stream_fault_of}
+use Rattle.mm_statements.specs.declared.faults.StreamFault.{StreamFault}
+use Rattle.mm_statements.specs.declared.faults.StreamFault.TheVariants as streaming
+
+module _ (old same : State) (is : old ≡ same) where
+  pub goes-as : (new : State) (request : Request) (answer : List ℕ) → GoesBetween old new request answer → GoesBetween same new request answer
+  goes-as new request answer h = subst (λ (s : State). GoesBetween s new request answer) is h
+
+  pub finishes-as : (before after : Option (List ℕ)) (new : State) → Gains before after (Finishes old new) → Gains before after (Finishes same new)
+  finishes-as before after new h = subst (λ (s : State). Gains before after (Finishes s new)) is h
+
+  pub breaks-off-as : (before after : Option (List ℕ)) (new : State) (piece : List ℕ) (finished : Bool)
+      → Gains before after (BreaksOff old new piece finished) → Gains before after (BreaksOff same new piece finished)
+  breaks-off-as before after new piece finished h = subst (λ (s : State). Gains before after (BreaksOff s new piece finished)) is h
+
+-- a write fault of a stream is one of its session
+pub write-fault : {T : Type 0} (f : SessionFault) → IsErrOf {T = T} {E = StreamFault} (Err (stream_fault_of f)) streaming.Write → f ≡ session.Write
+write-fault session.Write is = refl
+write-fault session.Ended is = cc
