@@ -54,6 +54,17 @@ impl TransactionalCatalog {
         }
     }
 
+    /// The tables of a catalog, and no transaction. It takes no memory.
+    pub fn over(alloc: Global, catalog: Catalog) -> TransactionalCatalog
+        ensures catalog { result.catalog ≡ catalog }
+        ensures none { saved_of result ≡ [] }
+    {
+        TransactionalCatalog {
+            catalog,
+            log: UndoLog::new(alloc),
+        }
+    }
+
     /// The tables as they are, lent.
     pub fn catalog(&self) -> &Catalog
         ensures { result.now ≡ self.now.catalog }
