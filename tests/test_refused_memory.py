@@ -44,7 +44,8 @@ TESTED = re.compile(r"(?:[=!]= |matches!.*)$")
 CONVERTS = re.compile(r"^impl\b.*\bFrom<(?:NoMemory|AllocError|AllocFailed<T>)> for\b")
 
 # How many variants a file gives that are made of no other: of a call that a growth alone can be refused to, or of what another library says
-# of a growth. answered.rt and blocks.rt of language_tests name one beside others.
+# of a growth. execute.rt of mm_session refuses so what is not done in a transaction. answered.rt and blocks.rt of language_tests name one
+# beside others.
 PASSED_ON = {
     "language_tests/src/blocks.rt": 1,
     "mm_batch/src/fault.rt": 1,
@@ -56,6 +57,7 @@ PASSED_ON = {
     "mm_reason/src/reasons.rt": 1,
     "mm_relation/src/keyed.rt": 1,
     "mm_relation/src/relation.rt": 1,
+    "mm_session/src/execute.rt": 1,
     "mm_session/src/stream/pending_block.rt": 1,
     "mm_session/src/stream/whole_run.rt": 1,
     "mm_statements/src/columns.rt": 1,

@@ -192,6 +192,7 @@ pub feeds_nothing : (session : State) → session.ended ≡ false → Feeds sess
 feeds_nothing session going_on = record {
   going_on = going_on;
   limits = refl;
+  saved = refl;
   run = λ from stream answers st. rw (append-nil, append-nil) st;
 }
 
@@ -199,6 +200,7 @@ pub Feeds-append : (a b c : State) (x y g h : List ℕ) → Feeds a b x g → Fe
 Feeds-append a b c x y g h first second = record {
   going_on = second.going_on;
   limits = second.limits ∙ first.limits;
+  saved = second.saved ∙ first.saved;
   run = λ from stream answers st.
       rw (← append_assoc stream x y, ← append_assoc answers g h) (second.run from (stream ++ x) (answers ++ g) (first.run from stream answers st));
 }
@@ -206,10 +208,11 @@ Feeds-append a b c x y g h first second = record {
 -- bytes that complete a request, with its answer
 pub feeds_request : (old new : State) (bytes answer : List ℕ)
     → ((rest : List ℕ) → Keeps old.limits rest old.kept → (request : Request) × IsWhole request × (rest ++ bytes ≡ request_bytes request) × Answers old.limits old.database request answer new.database)
-    → new.kept ≡ nothing → new.ended ≡ false → new.limits ≡ old.limits → Feeds old new bytes answer
-feeds_request old new bytes answer completes kept going_on limits = record {
+    → new.kept ≡ nothing → new.ended ≡ false → new.limits ≡ old.limits → new.saved ≡ old.saved → Feeds old new bytes answer
+feeds_request old new bytes answer completes kept going_on limits saved = record {
   going_on = going_on;
   limits = limits;
+  saved = saved;
   run = λ from stream answers st.
       let s = standing old from stream answers st in
       let (request, whole, is, answered) = completes s.rest s.keeps in
@@ -221,10 +224,11 @@ feeds_request old new bytes answer completes kept going_on limits = record {
 
 -- bytes that complete no request
 pub feeds_rest : (old new : State) (bytes : List ℕ) → ((rest : List ℕ) → Keeps old.limits rest old.kept → Keeps old.limits (rest ++ bytes) new.kept)
-    → new.database ≡ old.database → new.ended ≡ false → new.limits ≡ old.limits → Feeds old new bytes []
-feeds_rest old new bytes keeps database going_on limits = record {
+    → new.database ≡ old.database → new.ended ≡ false → new.limits ≡ old.limits → new.saved ≡ old.saved → Feeds old new bytes []
+feeds_rest old new bytes keeps database going_on limits saved = record {
   going_on = going_on;
   limits = limits;
+  saved = saved;
   run = λ from stream answers st.
       let s = standing old from stream answers st in
       let kept = keeps s.rest s.keeps in

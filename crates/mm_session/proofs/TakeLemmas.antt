@@ -7,7 +7,7 @@ use Rattle.mm_session.specs.Responding.{Takes, GoesOn, Completes}
 module _ (before after : List ℕ → Type 0) (old new : Responder) (front : List ℕ) (first : (rest : List ℕ) → before rest → after (rest ++ front)) where
   goes_on-behind : (more : List ℕ) → GoesOn after old new more → GoesOn before old new (front ++ more)
   goes_on-behind more (same, keeps) =
-      (same, λ rest is. subst (λ r. Keeps old.executor.catalog.limits r new.kept) (append_assoc rest front more) (keeps (rest ++ front) (first rest is)))
+      (same, λ rest is. subst (λ r. Keeps old.executor.tables.catalog.limits r new.kept) (append_assoc rest front more) (keeps (rest ++ front) (first rest is)))
 
   completes-behind : (more : List ℕ) → Completes after old new more → Completes before old new (front ++ more)
   completes-behind more (none, ends) = (

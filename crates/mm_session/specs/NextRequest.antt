@@ -10,6 +10,7 @@ use Rattle.mm_session.specs.Sessions.{State}
 pub record AnswersNext (old new : State) (bytes answer : List ℕ) : Type 0 where
   pub going_on : new.ended ≡ false
   pub limits : new.limits ≡ old.limits
+  pub saved : new.saved ≡ old.saved
   pub kept : new.kept ≡ nothing
   pub answers : (rest : List ℕ) → Keeps old.limits rest old.kept
       → (request : Request) × IsWhole request × (rest ++ bytes ≡ request_bytes request) × Answers old.limits old.database request answer new.database
@@ -18,6 +19,7 @@ pub record AnswersNext (old new : State) (bytes answer : List ℕ) : Type 0 wher
 pub record KeepsMore (old new : State) (bytes : List ℕ) : Type 0 where
   pub going_on : new.ended ≡ false
   pub limits : new.limits ≡ old.limits
+  pub saved : new.saved ≡ old.saved
   pub database : new.database ≡ old.database
   pub keeps : (rest : List ℕ) → Keeps old.limits rest old.kept → Keeps old.limits (rest ++ bytes) new.kept
 

@@ -14,10 +14,17 @@ pub record AnswersOne (limits : Limits) (before : Database) (request : Request) 
   pub whole : IsWhole request
   pub answers : Answers limits before request answer after
 
--- Whatever became of its tables, the session is where it was in its stream: its limits are as before, whether it has ended, and
--- what it keeps of the request that has not.
+-- Whatever became of its tables and transactions, the session is where it was in its stream: its limits are as before, whether it has
+-- ended, and what it keeps of the request that has not.
+pub record IsAtSamePlace (old new : State) : Type 0 where
+  pub limits : new.limits ≡ old.limits
+  pub ended : new.ended ≡ old.ended
+  pub kept : new.kept ≡ old.kept
+
+-- Whatever became of its tables, the session is where it was in its stream, and the same transactions are open.
 pub record StaysInStream (old new : State) : Type 0 where
   pub limits : new.limits ≡ old.limits
+  pub saved : new.saved ≡ old.saved
   pub ended : new.ended ≡ old.ended
   pub kept : new.kept ≡ old.kept
 

@@ -1,7 +1,10 @@
 -- What is done to a catalog, and what is answered.
-use Rattle.std.specs.Prelude.{◌≡◌, ℕ, List}
+use Rattle.std.specs.Prelude.{◌≡◌, ℕ, List, []}
 use Rattle.plain_tables.specs.AnswerText.{answer_text}
+use Rattle.plain_tables.specs.Databases.{Database}
 use Rattle.plain_tables.specs.Effects.{Effect}
+use Rattle.plain_tables.specs.declared.resolved.Resolved.{Resolved}
+use Rattle.plain_tables.specs.declared.resolved.Resolved.TheVariants as resolved
 use Rattle.mm_catalog.specs.State.{CatalogState}
 use Rattle.mm_catalog.specs.Seen.{database_of}
 
@@ -10,3 +13,13 @@ pub record HasPerformed (old new : CatalogState) (effect : Effect) (answer : Lis
   pub database : database_of new ≡ effect.database
   pub limits : new.limits ≡ old.limits
   pub told : answer ≡ answer_text effect.outcome
+
+-- With these databases saved by open transactions the command can be done: inserts, loads and what only reads always, all others if
+-- none is open.
+abbrev pub CanBeDone : List Database → Resolved → Type 0
+CanBeDone saved (resolved.Insert n row) = Unit {0}
+CanBeDone saved (resolved.Load n rows) = Unit {0}
+CanBeDone saved (resolved.Select query) = Unit {0}
+CanBeDone saved (resolved.Dump n) = Unit {0}
+CanBeDone saved resolved.Tables = Unit {0}
+CanBeDone saved r = saved ≡ []

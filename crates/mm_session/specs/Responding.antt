@@ -13,17 +13,17 @@ use Rattle.mm_session.specs.declared.stream.responder.Responder.{Responder}
 -- That answers the request, from the tables before to those after.
 abbrev pub Responds : Responder → Responder → Request → Type 0
 Responds old new request =
-    Answers old.executor.catalog.limits (database_of old.executor.catalog) request new.answer (database_of new.executor.catalog)
+    Answers old.executor.tables.catalog.limits (database_of old.executor.tables.catalog) request new.answer (database_of new.executor.tables.catalog)
 
 -- ---- which rest there may be
 
 -- a rest of which the responder keeps what it does
 abbrev pub IsRest : Responder → List ℕ → Type 0
-IsRest r rest = Keeps r.executor.catalog.limits rest r.kept
+IsRest r rest = Keeps r.executor.tables.catalog.limits rest r.kept
 
 -- a rest that ends in a block of which that is kept
 abbrev pub IsRestWith : Responder → PendingBlock → List ℕ → Type 0
-IsRestWith r block rest = KeepsRequest r.executor.catalog.limits rest r.kept.line block
+IsRestWith r block rest = KeepsRequest r.executor.tables.catalog.limits rest r.kept.line block
 
 -- the line that is kept, with its line feed; it asks for a block of this many bytes
 abbrev pub IsLoadLine : Responder → ℕ → List ℕ → Type 0
@@ -39,8 +39,8 @@ IsLineWith r tail rest = (front : List ℕ) × KeepsLine front r.kept.line × (r
 -- The bytes complete no request. Whichever rest there was, with them it is the rest; and nothing was done.
 abbrev pub GoesOn : (List ℕ → Type 0) → Responder → Responder → List ℕ → Type 0
 GoesOn before old new bytes =
-    (database_of new.executor.catalog ≡ database_of old.executor.catalog)
-    × ((rest : List ℕ) → before rest → Keeps old.executor.catalog.limits (rest ++ bytes) new.kept)
+    (database_of new.executor.tables.catalog ≡ database_of old.executor.tables.catalog)
+    × ((rest : List ℕ) → before rest → Keeps old.executor.tables.catalog.limits (rest ++ bytes) new.kept)
 
 -- The bytes complete a request, and nothing is kept. Whichever rest there was, with them it is one whole request, which is
 -- answered so.

@@ -1,5 +1,5 @@
 -- What a session is seen as, and what its calls do to the run that it is in.
-use Rattle.std.specs.Prelude.{◌≡◌, ℕ, ◌≤◌, List, ◌++◌, length, Bool, true, false, Option, refl}
+use Rattle.std.specs.Prelude.{◌≡◌, ℕ, ◌≤◌, List, [], ◌++◌, length, Bool, true, false, Option, refl}
 use Rattle.std.specs.Coded.{Coded, code_by, coded×, coded_bool, coded_list, coded_ℕ}
 use Rattle.std.specs.Io.KnownBytes.{Appends}
 use Rattle.mm_session.specs.Kept.{Keeps, nothing}
@@ -7,6 +7,7 @@ use Rattle.mm_session.specs.declared.stream.kept.Kept.{Kept}
 use Rattle.mm_catalog.specs.State.{CatalogState}
 use Rattle.plain_tables.specs.Databases.{Database}
 use Rattle.plain_tables.specs.Tables.{Table}
+use Rattle.plain_tables.specs.Transactions.{Transactional}
 use Rattle.plain_tables.specs.declared.command.Limits.{Limits}
 use Rattle.plain_tables.specs.declared.schema.Column.{Column}
 use Rattle.plain_tables.specs.declared.schema.IndexKind.{IndexKind}
@@ -15,11 +16,12 @@ use Rattle.plain_streams.specs.Requests.{Request}
 use Rattle.plain_streams.specs.Division.{Divides, last_request}
 use Rattle.plain_streams.specs.Runs.{AnswersAll, RunOf}
 
--- A session is seen as its limits, its tables, the catalog that has them, whether it has ended, and what it keeps of the request that
--- has not.
+-- A session is seen as its limits, its tables, the databases that its open transactions began with, that of the innermost first, the
+-- catalog that has the tables, whether it has ended, and what it keeps of the request that has not.
 pub record State : Type 0 where
   pub limits : Limits
   pub database : Database
+  pub saved : List Database
   pub catalog : CatalogState
   pub ended : Bool
   pub kept : Kept
@@ -33,10 +35,14 @@ table_code column kind value =
 
 abbrev pub state_code : Coded Limits → Coded Table → Coded CatalogState → Coded Kept → Coded State
 state_code limits table catalog kept =
-    code_by (Limits × (Database × (CatalogState × (Bool × Kept))))
-    (coded× limits (coded× (coded_list table) (coded× catalog (coded× coded_bool kept))))
-    (λ s. (s.limits, (s.database, (s.catalog, (s.ended, s.kept)))))
-    (λ p. record { limits = p.0; database = p.1.0; catalog = p.1.1.0; ended = p.1.1.1.0; kept = p.1.1.1.1 }) (λ _. refl)
+    code_by (Limits × (Database × (List Database × (CatalogState × (Bool × Kept)))))
+    (coded× limits (coded× (coded_list table) (coded× (coded_list (coded_list table)) (coded× catalog (coded× coded_bool kept)))))
+    (λ s. (s.limits, (s.database, (s.saved, (s.catalog, (s.ended, s.kept))))))
+    (λ p. record { limits = p.0; database = p.1.0; saved = p.1.1.0; catalog = p.1.1.1.0; ended = p.1.1.1.1.0; kept = p.1.1.1.1.1 }) (λ _. refl)
+
+-- a session's tables, with those that its open transactions began with
+abbrev pub tables_of : State → Transactional
+tables_of s = record { database = s.database; saved = s.saved }
 
 -- This is kept of the stream: what is kept of the rest that it leaves behind its requests.
 abbrev pub KeepsOf : Limits → Kept → List ℕ → Type 0
@@ -52,10 +58,11 @@ abbrev pub Gains : Option (List ℕ) → Option (List ℕ) → (List ℕ → Typ
 Gains before after says = (gained : List ℕ) × Appends before after gained × says gained
 
 -- In whichever run the session stood, it stands in that run still, with the piece behind the stream and what was
--- gained behind the answers.
+-- gained behind the answers. The open transactions are as before.
 pub record Feeds (old new : State) (piece gained : List ℕ) : Type 0 where
   pub going_on : new.ended ≡ false
   pub limits : new.limits ≡ old.limits
+  pub saved : new.saved ≡ old.saved
   pub run : (from : Database) (stream answers : List ℕ) → StandsIn old from stream answers
       → StandsIn new from (stream ++ piece) (answers ++ gained)
 
@@ -94,6 +101,6 @@ BreaksOff old new piece finished gained =
     (from : Database) (stream answers : List ℕ) → StandsIn old from stream answers
     → IsBrokenOff old.limits from (stream ++ piece) finished (answers ++ gained) new.database
 
--- a session over these tables, which a catalog has, that has been fed nothing
+-- a session over these tables, which a catalog has, that has been fed nothing, and in which no transaction is open
 abbrev pub new_session : Limits → Database → CatalogState → State
-new_session limits tables catalog = record { limits = limits; database = tables; catalog = catalog; ended = false; kept = nothing }
+new_session limits tables catalog = record { limits = limits; database = tables; saved = []; catalog = catalog; ended = false; kept = nothing }

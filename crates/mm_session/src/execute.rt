@@ -19,6 +19,7 @@ mod sink;
 
 use crate::answer::Answer;
 use mm_catalog::Catalog;
+use mm_transactions::TransactionalCatalog;
 use plain_tables::{Command, Refusal, Resolved};
 use plan_chooser::Policy;
 use std::alloc::Global;
@@ -26,16 +27,23 @@ use std::alloc::Global;
 // The answer to a declaration.
 const OK: &[u8] = b"ok\n";
 
-/// What carries commands out: the tables, and how plans are picked.
+/// What carries commands out: the tables with their transactions, and how plans are picked.
 #[derive(Drop)]
 pub struct Executor {
     pub alloc: Global,
     policy: Policy,
-    pub catalog: Catalog,
+    pub tables: TransactionalCatalog,
+}
+
+/// What carries out the commands that only read a catalog: how plans are picked.
+#[derive(Clone, Copy)]
+pub struct ReadExecutor {
+    alloc: Global,
+    policy: Policy,
 }
 
 impl Executor {
-    ghost use Rattle.std.specs.Prelude.{◌≡◌, OnOk, IfErr};
+    ghost use Rattle.std.specs.Prelude.{◌≡◌, ◌≢◌, [], OnOk, OnErr, IfErr};
     ghost use Rattle.plain_tables.specs.Doing.{done};
     ghost use Rattle.plain_tables.specs.ResolvedLaws.{IsMeant};
     ghost use Rattle.plain_tables.specs.Spelling.{IsSpellable};
@@ -44,40 +52,70 @@ impl Executor {
     ghost use Rattle.mm_catalog.specs.Changes.{IsDeclinedFor};
     ghost use Rattle.plain_tables.specs.Commands.{effect_of};
     ghost use Rattle.mm_session.specs.Answered.{DoesAll, DoesNothing};
-    ghost use Rattle.mm_session.specs.Performed.{HasPerformed};
+    ghost use Rattle.plain_tables.specs.declared.refusal.Refusal.TheVariants as refusal;
+    ghost use Rattle.mm_transactions.specs.State.{saved_of};
+    ghost use Rattle.mm_session.specs.Performed.{CanBeDone, HasPerformed};
 
     /// An executor over the tables of a catalog.
     pub fn new(alloc: Global, policy: Policy, catalog: Catalog) -> Executor
-        ensures { result.catalog ≡ catalog }
+        ensures tables { result.tables.catalog ≡ catalog }
+        ensures none { saved_of result.tables ≡ [] }
     {
         Executor {
             alloc,
             policy,
-            catalog,
+            tables: TransactionalCatalog::over(alloc, catalog),
+        }
+    }
+
+    /// What carries out the commands that only read, by the same policy.
+    pub fn reading(&self) -> ReadExecutor {
+        ReadExecutor {
+            alloc: self.alloc,
+            policy: self.policy,
         }
     }
 
     /// The greatest number of bytes that a block may have.
     pub fn block_limit(&self) -> u64
-        ensures { result ≡ self.now.catalog.limits.block }
+        ensures { result ≡ self.now.tables.catalog.limits.block }
     {
-        u64::from(self.catalog.limits().block)
+        u64::from(self.tables.catalog().limits().block)
+    }
+
+    // Refuses a command that is done outside of transactions alone, while one is open.
+    fn check_outside(&self, command: &Resolved) -> Result<(), Refusal>
+        ensures ok { OnOk result (CanBeDone (saved_of self.now.tables) command.now) }
+        ensures refused { IfErr result (λ e. e ≡ refusal.NoMemory) }
+        ensures open { OnErr result (saved_of self.now.tables ≢ []) }
+    {
+        match command {
+            Resolved::Insert { .. }
+            | Resolved::Load { .. }
+            | Resolved::Select(_)
+            | Resolved::Dump { .. }
+            | Resolved::Tables => Ok(()),
+            _ if self.tables.transactions() > 0 => Err(Refusal::NoMemory),
+            _ => Ok(()),
+        }
     }
 
     // Does a resolved command, and makes its answer. What a change answers is told once it is done, which takes no memory.
     fn perform(&mut self, command: Resolved, answer: &mut Answer) -> Result<(), Refusal>
-        requires { IsMeant self.old.catalog.limits (database_of self.old.catalog) command }
-        ensures done { OnOk result (HasPerformed self.old.catalog self.new.catalog (done self.old.catalog.limits (database_of self.old.catalog) command) answer.new) }
-        ensures refused { IfErr result (IsDeclinedFor self.old.catalog self.new.catalog (done self.old.catalog.limits (database_of self.old.catalog) command)) }
+        requires meant { IsMeant self.old.tables.catalog.limits (database_of self.old.tables.catalog) command }
+        requires can { CanBeDone (saved_of self.old.tables) command }
+        ensures done { OnOk result (HasPerformed self.old.tables.catalog self.new.tables.catalog (done self.old.tables.catalog.limits (database_of self.old.tables.catalog) command) answer.new) }
+        ensures refused { IfErr result (IsDeclinedFor self.old.tables.catalog self.new.tables.catalog (done self.old.tables.catalog.limits (database_of self.old.tables.catalog) command)) }
+        ensures saved { saved_of self.new.tables ≡ saved_of self.old.tables }
     {
         answer.clear();
         match command {
             Resolved::Table { name, schema } => {
-                self.catalog.create(name, schema)?;
+                self.tables.outside().create(name, schema)?;
                 answer.set(OK);
             }
             Resolved::DropTable { table } => {
-                self.catalog.drop_table(table);
+                self.tables.outside().drop_table(table);
                 answer.set(OK);
             }
             Resolved::Index {
@@ -85,7 +123,7 @@ impl Executor {
                 column,
                 kind,
             } => {
-                self.catalog.add_index(table, column, kind)?;
+                self.tables.outside().add_index(table, column, kind)?;
                 answer.set(OK);
             }
             Resolved::DropIndex {
@@ -93,17 +131,19 @@ impl Executor {
                 column,
                 kind,
             } => {
-                self.catalog.drop_index(table, column, kind);
+                self.tables.outside().drop_index(table, column, kind);
                 answer.set(OK);
             }
             Resolved::Load { table, rows } => {
                 let count = rows.len();
-                self.catalog.load_rows(table, rows)?;
+                self.tables.load_rows(table, rows)?;
                 answer.tell_changed(count);
             }
-            Resolved::Select(query) => self.select(&query, answer)?,
-            Resolved::Dump { table } => self.dump(table, answer)?,
-            Resolved::Tables => self.list_tables(answer)?,
+            Resolved::Select(query) => self
+                .reading()
+                .select(self.tables.catalog(), &query, answer)?,
+            Resolved::Dump { table } => self.reading().dump(self.tables.catalog(), table, answer)?,
+            Resolved::Tables => self.reading().list_tables(self.tables.catalog(), answer)?,
             other => {
                 let count = self.change(&other)?;
                 answer.tell_changed(count);
@@ -122,11 +162,13 @@ impl Executor {
         answer: &mut Answer,
     ) -> Result<(), Refusal>
         requires { IsSpellable command }
-        ensures ok { OnOk result (DoesAll (effect_of (block_records block.now) self.old.catalog.limits (database_of self.old.catalog) command) (database_of self.new.catalog) answer.new) }
-        ensures err { IfErr result (DoesNothing (effect_of (block_records block.now) self.old.catalog.limits (database_of self.old.catalog) command) (database_of self.old.catalog) (database_of self.new.catalog)) }
-        ensures limits { self.new.catalog.limits ≡ self.old.catalog.limits }
+        ensures ok { OnOk result (DoesAll (effect_of (block_records block.now) self.old.tables.catalog.limits (database_of self.old.tables.catalog) command) (database_of self.new.tables.catalog) answer.new) }
+        ensures err { IfErr result (DoesNothing (effect_of (block_records block.now) self.old.tables.catalog.limits (database_of self.old.tables.catalog) command) (database_of self.old.tables.catalog) (database_of self.new.tables.catalog)) }
+        ensures limits { self.new.tables.catalog.limits ≡ self.old.tables.catalog.limits }
+        ensures saved { saved_of self.new.tables ≡ saved_of self.old.tables }
     {
-        let resolved = self.catalog.resolve(command, block)?;
+        let resolved = self.tables.catalog().resolve(command, block)?;
+        self.check_outside(&resolved)?;
         self.perform(resolved, answer)
     }
 }

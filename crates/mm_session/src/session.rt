@@ -9,6 +9,7 @@ use crate::stream::outlet::{Lent, Outlet};
 use crate::stream::responder::Responder;
 use mm_catalog::Catalog;
 use mm_cells::{CellFault, Cells};
+use mm_transactions::NoTransaction;
 use plain_tables::{Limits, NoMemory, Query, Refusal, Resolved, TableNumber, Value};
 use plan_chooser::Policy;
 use std::alloc::Global;
@@ -30,6 +31,7 @@ impl Model for Session {
     ghost use Rattle.plain_tables.specs.contracts.value.Value.{the_row as value_row};
     ghost use Rattle.mm_catalog.specs.Seen.{database_of};
     ghost use Rattle.mm_catalog.specs.contracts.catalog.Catalog.{the_row as catalog_row};
+    ghost use Rattle.mm_transactions.specs.State.{saved_of};
     ghost use Rattle.mm_session.specs.Sessions.{State, state_code, table_code};
     ghost use Rattle.mm_session.specs.contracts.stream.kept.Kept.{the_row as kept_row};
 
@@ -37,7 +39,7 @@ impl Model for Session {
 
     ghost coded = { state_code limits_row.coded (table_code column_row.coded kind_row.coded value_row.coded) catalog_row.coded kept_row.coded };
 
-    ghost view = { λ s. record { limits = s.responder.executor.catalog.limits; database = database_of s.responder.executor.catalog; catalog = s.responder.executor.catalog; ended = s.ended; kept = s.responder.kept } };
+    ghost view = { λ s. record { limits = s.responder.executor.tables.catalog.limits; database = database_of s.responder.executor.tables.catalog; saved = saved_of s.responder.executor.tables; catalog = s.responder.executor.tables.catalog; ended = s.ended; kept = s.responder.kept } };
 }
 
 impl Session {
@@ -47,15 +49,16 @@ impl Session {
     ghost use Rattle.plain_streams.specs.Division.{IsWhole};
     ghost use Rattle.mm_session.specs.NextRequest.{AnswersLast, AnswersNext, KeepsMore};
     ghost use Rattle.mm_session.specs.Responding.{waits};
-    ghost use Rattle.mm_session.specs.OneRequest.{AnswersOne, StaysInStream, GoesBetween};
+    ghost use Rattle.mm_session.specs.OneRequest.{AnswersOne, IsAtSamePlace, StaysInStream, GoesBetween};
     ghost use Rattle.mm_session.specs.IndexAnswers.{AnswersIndexes};
     ghost use Rattle.plain_tables.specs.Doing.{done};
+    ghost use Rattle.plain_tables.specs.Transactions.{begun, committed, rolled_back};
     ghost use Rattle.plain_tables.specs.ResolvedLaws.{IsMeant};
     ghost use Rattle.plain_tables.specs.declared.refusal.Refusal.TheVariants as refusal;
     ghost use Rattle.plain_tables.specs.declared.resolved.Resolved.TheVariants as resolved;
     ghost use Rattle.mm_session.specs.Changing.{HasChanged, HasDeclined, IsChange, IsDeleteByKey, ShowsValues};
     ghost use Rattle.mm_session.specs.Columns.{columns_told};
-    ghost use Rattle.mm_session.specs.Sessions.{State, Gains, Feeds, Finishes, BreaksOff, new_session};
+    ghost use Rattle.mm_session.specs.Sessions.{State, Gains, Feeds, Finishes, BreaksOff, new_session, tables_of};
 
     /// A session with no tables, under the standard limits.
     pub fn new(alloc: Global, policy: Policy) -> Result<Session, NoMemory>
@@ -88,7 +91,48 @@ impl Session {
         ensures tables { database_of result.now ≡ self.now.database }
         ensures limits { result.now.limits ≡ self.now.limits }
     {
-        &self.responder.executor.catalog
+        self.responder.executor.tables.catalog()
+    }
+
+    /// How many transactions are open.
+    pub fn transactions(&self) -> usize
+        ensures { result ≡ length self.now.saved }
+    {
+        self.responder.executor.tables.transactions()
+    }
+
+    /// Begins a transaction, in those that are open. The stream goes on as before.
+    pub fn begin(&mut self) -> Result<(), NoMemory>
+        ensures begun { OnOk result (tables_of self.new ≡ begun (tables_of self.old)) }
+        ensures catalog { self.new.catalog ≡ self.old.catalog }
+        ensures unchanged { OnErr result (self.new ≡ self.old) }
+        ensures stream { IsAtSamePlace self.old self.new }
+    {
+        self.responder.executor.tables.begin()
+    }
+
+    /// Ends the innermost transaction, and keeps what was done in it. The stream goes on as before.
+    pub fn commit(&mut self) -> Result<(), NoTransaction>
+        ensures open { OnOk result (self.old.saved ≢ []) }
+        ensures committed { OnOk result (tables_of self.new ≡ committed (tables_of self.old)) }
+        ensures catalog { self.new.catalog ≡ self.old.catalog }
+        ensures none { OnErr result (self.old.saved ≡ []) }
+        ensures unchanged { OnErr result (self.new ≡ self.old) }
+        ensures stream { IsAtSamePlace self.old self.new }
+    {
+        self.responder.executor.tables.commit()
+    }
+
+    /// Ends the innermost transaction, and undoes what was done in it: the tables are those that it began with. It takes no memory.
+    /// The stream goes on as before.
+    pub fn rollback(&mut self) -> Result<(), NoTransaction>
+        ensures open { OnOk result (self.old.saved ≢ []) }
+        ensures rolled_back { OnOk result (tables_of self.new ≡ rolled_back (tables_of self.old)) }
+        ensures none { OnErr result (self.old.saved ≡ []) }
+        ensures unchanged { OnErr result (self.new ≡ self.old) }
+        ensures stream { IsAtSamePlace self.old self.new }
+    {
+        self.responder.executor.tables.rollback()
     }
 
     /// Whether the session has ended.
@@ -143,6 +187,7 @@ impl Session {
         ensures answers { AnswersLast self.old self.new answer.new }
         ensures over { IsTrue self.new.ended }
         ensures limits { self.new.limits ≡ self.old.limits }
+        ensures saved { self.new.saved ≡ self.old.saved }
     {
         self.ended = true;
         if self.responder.kept.is_nothing() {
@@ -154,14 +199,14 @@ impl Session {
     }
 
     /// Does an insert, an update or a delete beside the stream, and tells how many rows it was about. The stream goes on as before. A
-    /// delete by the key needs no memory.
+    /// delete by the key needs no memory. In a transaction an update and a delete are refused, as out of memory.
     pub fn change(&mut self, command: &Resolved) -> Result<usize, Refusal>
         requires meant { IsMeant self.old.limits self.old.database command.now }
         requires change { IsChange command.now }
         ensures done { IfOk result (HasChanged self.new (done self.old.limits self.old.database command.now)) }
         ensures refused { IfErr result (HasDeclined self.old self.new (done self.old.limits self.old.database command.now)) }
         ensures unchanged { OnErr result (self.new ≡ self.old) }
-        ensures by_key { IsDeleteByKey command.now → result ≢ Err refusal.NoMemory }
+        ensures by_key { self.old.saved ≡ [] → IsDeleteByKey command.now → result ≢ Err refusal.NoMemory }
         ensures stream { StaysInStream self.old self.new }
     {
         self.responder.executor.change(command)
@@ -187,7 +232,10 @@ impl Session {
         ensures some { IfOk result (λ columns. 0 < columns) }
         ensures too_long { IsErrOf result CellFault.TooLong → AreFull (values_of cells.new) }
     {
-        self.responder.executor.select_values(query, cells)
+        let executor = &self.responder.executor;
+        executor
+            .reading()
+            .select_values(executor.tables.catalog(), query, cells)
     }
 
     /// Makes the cells the columns of what a select shows: of each its name, behind its table's, and then the number of the kind of
@@ -196,14 +244,20 @@ impl Session {
         requires { IsMeant self.now.limits self.now.database (resolved.Select query.now) }
         ensures { OnOk result (values_of cells.new ≡ columns_told self.now.database query.now) }
     {
-        self.responder.executor.columns(query, cells)
+        let executor = &self.responder.executor;
+        executor
+            .reading()
+            .columns(executor.tables.catalog(), query, cells)
     }
 
     /// Makes the answer how the indexes of the table of a name stand: that of its key, and the declared ones.
     pub fn tell_indexes(&self, name: &[u8], answer: &mut Answer)
         ensures { AnswersIndexes self.now.catalog name.now answer.new }
     {
-        self.responder.executor.tell_indexes(name, answer)
+        let executor = &self.responder.executor;
+        executor
+            .reading()
+            .tell_indexes(executor.tables.catalog(), name, answer)
     }
 
     /// Takes the next bytes of the stream, and answers each request that ends in them.
@@ -221,6 +275,7 @@ impl Session {
         ensures write { IsErrOf result SessionFault.Write → Gains (W.contents w.old) (W.contents w.new) (BreaksOff self.old self.new piece.now false) }
         ensures over { IsErrOf result SessionFault.Write → IsTrue self.new.ended }
         ensures limits { self.new.limits ≡ self.old.limits }
+        ensures saved { self.new.saved ≡ self.old.saved }
     {
         self.feed_into(
             piece,
@@ -243,6 +298,7 @@ impl Session {
         ensures write { IsErrOf result SessionFault.Write → Gains (O.contents outlet.old) (O.contents outlet.new) (BreaksOff self.old self.new piece.now false) }
         ensures over { IsErrOf result SessionFault.Write → IsTrue self.new.ended }
         ensures limits { self.new.limits ≡ self.old.limits }
+        ensures saved { self.new.saved ≡ self.old.saved }
         ensures name { O.name outlet.new ≡ O.name outlet.old }
     {
         if self.ended {
@@ -268,6 +324,7 @@ impl Session {
         ensures write { IsErrOf result SessionFault.Write → Gains (W.contents w.old) (W.contents w.new) (BreaksOff self.old self.new [] true) }
         ensures over { IsTrue self.new.ended }
         ensures limits { self.new.limits ≡ self.old.limits }
+        ensures saved { self.new.saved ≡ self.old.saved }
     {
         self.end_into(&mut Lent {
             writer: w,
@@ -283,6 +340,7 @@ impl Session {
         ensures write { IsErrOf result SessionFault.Write → Gains (O.contents outlet.old) (O.contents outlet.new) (BreaksOff self.old self.new [] true) }
         ensures over { IsTrue self.new.ended }
         ensures limits { self.new.limits ≡ self.old.limits }
+        ensures saved { self.new.saved ≡ self.old.saved }
         ensures name { O.name outlet.new ≡ O.name outlet.old }
     {
         if self.ended {

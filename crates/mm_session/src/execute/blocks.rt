@@ -18,7 +18,7 @@ ghost use Rattle.mm_catalog.specs.Picked.{seen_values};
 ghost use Rattle.mm_catalog.specs.Seen.{database_of};
 ghost use Rattle.mm_session.specs.Dumps.{IsWithin, IsPast, GoesOnWithin, GoesPast, IsGivenUp};
 
-use super::Executor;
+use super::ReadExecutor;
 use super::rows::push_whole;
 use super::sink::{Records, RowSink};
 use crate::answer::Answer;
@@ -111,11 +111,12 @@ fn insert_load_line(
     answer.insert(start, line.as_bytes())
 }
 
-impl Executor {
+impl ReadExecutor {
     // Each row as a record, in the order of their keys, behind a front of a block that is within the limit. The record that takes
     // the block past it is the last that is made.
     fn push_rows<'a>(
-        &'a self,
+        &self,
+        catalog: &'a Catalog,
         records: &mut Records<'a>,
         limit: usize,
         relation: &'a Relation,
@@ -123,33 +124,38 @@ impl Executor {
         requires within { IsWithin limit records.old.bytes }
         requires ended { records.old.part ≡ [] }
         requires some { 0 < length relation.now.schema.columns }
-        requires lent { (n : ℕ) × (slice_get self.now.catalog.relations n ≡ Some relation.now) }
-        ensures pushed { OnOk result (GoesOnWithin limit records.old.bytes records.new.bytes (flat_map row_record (map (seen_values self.now.catalog relation.now) (tree_list relation.now.by_key)))) }
-        ensures refused { IfErr result (λ e. (e ≡ refusal.NoMemory) ⊎ ((e ≡ refusal.DumpTooLong) × IsGivenUp limit records.old.bytes records.new.bytes (map (seen_values self.now.catalog relation.now) (tree_list relation.now.by_key)))) }
+        requires lent { (n : ℕ) × (slice_get catalog.now.relations n ≡ Some relation.now) }
+        ensures pushed { OnOk result (GoesOnWithin limit records.old.bytes records.new.bytes (flat_map row_record (map (seen_values catalog.now relation.now) (tree_list relation.now.by_key)))) }
+        ensures refused { IfErr result (λ e. (e ≡ refusal.NoMemory) ⊎ ((e ≡ refusal.DumpTooLong) × IsGivenUp limit records.old.bytes records.new.bytes (map (seen_values catalog.now relation.now) (tree_list relation.now.by_key)))) }
     {
         a_relation_is_kept(relation);
         for r in relation.walk() {
-            push_within(records, limit, &self.catalog, relation, r)?;
+            push_within(records, limit, catalog, relation, r)?;
         }
         Ok(())
     }
 
     // The page with the block of a table behind it: the names of its columns, and its rows. Where the block passes its limit, it is
     // given up on the way.
-    fn with_block_of(&self, page: Answer, table: TableNumber) -> Result<Answer, Refusal>
-        requires { table.0 < length (database_of self.now.catalog) }
-        ensures whole { IfOk result (λ whole. (t : Table) → slice_get (database_of self.now.catalog) table.0 ≡ Some t → (whole ≡ page ++ dump_block t) × (length (dump_block t) ≤ self.now.catalog.limits.block)) }
-        ensures refused { IfErr result (λ e. (e ≡ refusal.NoMemory) ⊎ ((e ≡ refusal.DumpTooLong) × ((t : Table) → slice_get (database_of self.now.catalog) table.0 ≡ Some t → self.now.catalog.limits.block < length (dump_block t)))) }
+    fn with_block_of(
+        &self,
+        catalog: &Catalog,
+        page: Answer,
+        table: TableNumber,
+    ) -> Result<Answer, Refusal>
+        requires { table.0 < length (database_of catalog.now) }
+        ensures whole { IfOk result (λ whole. (t : Table) → slice_get (database_of catalog.now) table.0 ≡ Some t → (whole ≡ page ++ dump_block t) × (length (dump_block t) ≤ catalog.now.limits.block)) }
+        ensures refused { IfErr result (λ e. (e ≡ refusal.NoMemory) ⊎ ((e ≡ refusal.DumpTooLong) × ((t : Table) → slice_get (database_of catalog.now) table.0 ≡ Some t → catalog.now.limits.block < length (dump_block t)))) }
     {
-        a_catalog_is_consistent(&self.catalog);
-        let relation = self.catalog.at(table);
-        let limit = page.len() + self.catalog.limits().block as usize;
+        a_catalog_is_consistent(catalog);
+        let relation = catalog.at(table);
+        let limit = page.len() + catalog.limits().block as usize;
         let names = names_of(self.alloc, relation.schema().columns.as_slice())?;
         let mut writer = RecordWriter::new(self.alloc, page);
         writer.push_names(&names)?;
         check_length(writer.get_ref(), limit)?;
         let mut records = Records::new(self.alloc, writer, names.len())?;
-        self.push_rows(&mut records, limit, relation)?;
+        self.push_rows(catalog, &mut records, limit, relation)?;
         let (whole, _) = records.finish()?;
         Ok(whole)
     }
@@ -158,15 +164,20 @@ impl Executor {
     /// answer is 64 in their place.
     ///
     /// The block is made where it goes, and the line, which has its length, is put in front of it.
-    pub fn dump(&self, table: TableNumber, answer: &mut Answer) -> Result<(), Refusal>
-        requires { table.0 < length (database_of self.now.catalog) }
-        ensures done { OnOk result (answer.new ≡ answer.old ++ answer_text (done self.now.catalog.limits (database_of self.now.catalog) (resolved.Dump table)).outcome) }
-        ensures refused { IfErr result (λ e. (e ≡ refusal.NoMemory) ⊎ ((done self.now.catalog.limits (database_of self.now.catalog) (resolved.Dump table)).outcome ≡ Refused e)) }
+    pub fn dump(
+        &self,
+        catalog: &Catalog,
+        table: TableNumber,
+        answer: &mut Answer,
+    ) -> Result<(), Refusal>
+        requires { table.0 < length (database_of catalog.now) }
+        ensures done { OnOk result (answer.new ≡ answer.old ++ answer_text (done catalog.now.limits (database_of catalog.now) (resolved.Dump table)).outcome) }
+        ensures refused { IfErr result (λ e. (e ≡ refusal.NoMemory) ⊎ ((done catalog.now.limits (database_of catalog.now) (resolved.Dump table)).outcome ≡ Refused e)) }
     {
         let start = answer.len();
         let page = mem::replace(answer, Answer::new(self.alloc)?);
-        *answer = self.with_block_of(page, table)?;
-        insert_load_line(self.alloc, self.catalog.table_name(table), start, answer)?;
+        *answer = self.with_block_of(catalog, page, table)?;
+        insert_load_line(self.alloc, catalog.table_name(table), start, answer)?;
         Ok(())
     }
 }

@@ -9,22 +9,28 @@ ghost use Rattle.mm_cells.specs.Reading.{AreFull};
 ghost use Rattle.mm_cells.specs.Values.{values_of};
 ghost use Rattle.mm_session.specs.Changing.{ShowsValues};
 
-use super::Executor;
+use super::ReadExecutor;
+use mm_catalog::Catalog;
 use mm_catalog::laws::a_catalog_is_consistent;
 use mm_cells::{CellFault, Cells};
 use plain_tables::Query;
 
-impl Executor {
+impl ReadExecutor {
     /// Makes the cells the values that a select shows, a row behind the other, and tells how many columns each row has. A failure
     /// may leave any cells there; `TooLong` comes only if their texts have 4 GiB or more then.
-    pub fn select_values(&self, query: &Query, cells: &mut Cells) -> Result<usize, CellFault>
-        requires { IsMeant self.now.catalog.limits (database_of self.now.catalog) (resolved.Select query.now) }
-        ensures shown { IfOk result (λ columns. ShowsValues (done self.now.catalog.limits (database_of self.now.catalog) (resolved.Select query.now)).outcome columns (values_of cells.new)) }
+    pub fn select_values(
+        &self,
+        catalog: &Catalog,
+        query: &Query,
+        cells: &mut Cells,
+    ) -> Result<usize, CellFault>
+        requires { IsMeant catalog.now.limits (database_of catalog.now) (resolved.Select query.now) }
+        ensures shown { IfOk result (λ columns. ShowsValues (done catalog.now.limits (database_of catalog.now) (resolved.Select query.now)).outcome columns (values_of cells.new)) }
         ensures some { IfOk result (λ columns. 0 < columns) }
         ensures too_long { IsErrOf result CellFault.TooLong → AreFull (values_of cells.new) }
     {
-        a_catalog_is_consistent(&self.catalog);
+        a_catalog_is_consistent(catalog);
         cells.clear();
-        self.push_select(query, cells)
+        self.push_select(catalog, query, cells)
     }
 }

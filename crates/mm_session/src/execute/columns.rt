@@ -11,7 +11,7 @@ ghost use Rattle.temp_list.specs.Lists.{HasPlace};
 ghost use Rattle.mm_session.specs.Columns.{kind_number, kind_at, column_told, columns_told};
 ghost use Rattle.mm_session.specs.Members.{tables_at};
 
-use super::Executor;
+use super::ReadExecutor;
 use super::batched::sources_of;
 use super::select::full_name;
 use mm_catalog::Catalog;
@@ -76,20 +76,25 @@ fn push_column(
     Ok(())
 }
 
-impl Executor {
+impl ReadExecutor {
     /// Makes the cells the columns of what a select shows: of each its name, behind its table's, and then the number of the kind of
     /// its values: 1 of integers, 2 of texts. A failure may leave any cells there.
-    pub fn columns(&self, query: &Query, cells: &mut Cells) -> Result<(), CellFault>
-        requires { IsMeant self.now.catalog.limits (database_of self.now.catalog) (resolved.Select query.now) }
-        ensures { OnOk result (values_of cells.new ≡ columns_told (database_of self.now.catalog) query.now) }
+    pub fn columns(
+        &self,
+        catalog: &Catalog,
+        query: &Query,
+        cells: &mut Cells,
+    ) -> Result<(), CellFault>
+        requires { IsMeant catalog.now.limits (database_of catalog.now) (resolved.Select query.now) }
+        ensures { OnOk result (values_of cells.new ≡ columns_told (database_of catalog.now) query.now) }
     {
-        a_catalog_is_consistent(&self.catalog);
+        a_catalog_is_consistent(catalog);
         let sources = sources_of(self.alloc, query)?;
-        let places = self.places_of(&sources, &query.shown)?;
+        let places = self.places_of(catalog, &sources, &query.shown)?;
         let mut text = String::new(self.alloc);
         cells.clear();
         for place in &places {
-            push_column(cells, &mut text, &self.catalog, &sources, *place)?;
+            push_column(cells, &mut text, catalog, &sources, *place)?;
         }
         Ok(())
     }

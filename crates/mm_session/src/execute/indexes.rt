@@ -8,7 +8,7 @@ ghost use Rattle.mm_catalog.specs.Indexes.{kind_of};
 ghost use Rattle.mm_catalog.specs.Seen.{database_of};
 ghost use Rattle.mm_session.specs.IndexAnswers.{column_name, fill_of, numbers_of, number_field, index_line, AddsRecords, AddsIndexes, TellsNothing, AnswersIndexes};
 
-use super::Executor;
+use super::ReadExecutor;
 use crate::answer::Answer;
 use crate::answer::records::push_count;
 use mm_catalog::{Catalog, IndexShape, TableIndex};
@@ -116,48 +116,53 @@ fn push_indexes(answer: &mut Answer, catalog: &Catalog, table: TableNumber) -> R
     Ok(())
 }
 
-impl Executor {
+impl ReadExecutor {
     // Adds how the indexes of a table stand.
-    fn list_indexes(&self, table: TableNumber, answer: &mut Answer) -> Result<(), NoMemory>
-        requires { table.0 < length (database_of self.now.catalog) }
-        ensures { OnOk result (AddsIndexes self.now.catalog table.0 answer.old answer.new) }
+    fn list_indexes(
+        &self,
+        catalog: &Catalog,
+        table: TableNumber,
+        answer: &mut Answer,
+    ) -> Result<(), NoMemory>
+        requires { table.0 < length (database_of catalog.now) }
+        ensures { OnOk result (AddsIndexes catalog.now table.0 answer.old answer.new) }
     {
-        push_count(answer, self.catalog.index_count(table))?;
+        push_count(answer, catalog.index_count(table))?;
         answer.push(HEADING)?;
-        push_indexes(answer, &self.catalog, table)
+        push_indexes(answer, catalog, table)
     }
 
     // The table of a name.
-    fn table_named(&self, name: &[u8]) -> Result<TableNumber, Refusal>
-        ensures found { IfOk result (λ table. position (is_named name.now) (database_of self.now.catalog) ≡ Some table.0) }
-        ensures refused { IfErr result (TellsNothing self.now.catalog name.now) }
+    fn table_named(&self, catalog: &Catalog, name: &[u8]) -> Result<TableNumber, Refusal>
+        ensures found { IfOk result (λ table. position (is_named name.now) (database_of catalog.now) ≡ Some table.0) }
+        ensures refused { IfErr result (TellsNothing catalog.now name.now) }
     {
         let Ok(text) = std::str::from_utf8(name) else {
             return Err(Refusal::NotUtf8);
         };
         let name = Text::from_str(self.alloc, text)?;
-        match self.catalog.table_number(&name) {
+        match catalog.table_number(&name) {
             Some(table) => Ok(table),
             None => Err(Refusal::NoSuchTable),
         }
     }
 
     // Adds how the indexes of the table of a name stand.
-    fn list_named(&self, name: &[u8], answer: &mut Answer) -> Result<(), Refusal>
-        ensures told { OnOk result ((table : ℕ) × (position (is_named name.now) (database_of self.now.catalog) ≡ Some table) × AddsIndexes self.now.catalog table answer.old answer.new) }
-        ensures refused { IfErr result (TellsNothing self.now.catalog name.now) }
+    fn list_named(&self, catalog: &Catalog, name: &[u8], answer: &mut Answer) -> Result<(), Refusal>
+        ensures told { OnOk result ((table : ℕ) × (position (is_named name.now) (database_of catalog.now) ≡ Some table) × AddsIndexes catalog.now table answer.old answer.new) }
+        ensures refused { IfErr result (TellsNothing catalog.now name.now) }
     {
-        let table = self.table_named(name)?;
-        self.list_indexes(table, answer)?;
+        let table = self.table_named(catalog, name)?;
+        self.list_indexes(catalog, table, answer)?;
         Ok(())
     }
 
     /// Makes the answer how the indexes of the table of a name stand.
-    pub fn tell_indexes(&self, name: &[u8], answer: &mut Answer)
-        ensures { AnswersIndexes self.now.catalog name.now answer.new }
+    pub fn tell_indexes(&self, catalog: &Catalog, name: &[u8], answer: &mut Answer)
+        ensures { AnswersIndexes catalog.now name.now answer.new }
     {
         answer.clear();
-        let Err(refusal) = self.list_named(name, answer) else {
+        let Err(refusal) = self.list_named(catalog, name, answer) else {
             return;
         };
         answer.refuse(refusal);

@@ -8,7 +8,7 @@ ghost use Rattle.plain_tables.specs.Tables.{Table};
 ghost use Rattle.mm_catalog.specs.Seen.{database_of};
 ghost use Rattle.mm_session.specs.Listing.{command_lines, index_commands};
 
-use super::Executor;
+use super::ReadExecutor;
 use crate::answer::Answer;
 use crate::answer::records::push_changed;
 use mm_catalog::Catalog;
@@ -49,14 +49,14 @@ fn push_table_lines(
     push_index_lines(answer, name, relation)
 }
 
-impl Executor {
+impl ReadExecutor {
     /// Adds what declares the tables to the answer, and how many there are.
-    pub fn list_tables(&self, answer: &mut Answer) -> Result<(), NoMemory>
-        ensures { OnOk result (answer.new ≡ answer.old ++ answer_text (Listed (database_of self.now.catalog))) }
+    pub fn list_tables(&self, catalog: &Catalog, answer: &mut Answer) -> Result<(), NoMemory>
+        ensures { OnOk result (answer.new ≡ answer.old ++ answer_text (Listed (database_of catalog.now))) }
     {
-        for number in 0..self.catalog.table_count() {
-            push_table_lines(answer, &self.catalog, TableNumber(number))?;
+        for number in 0..catalog.table_count() {
+            push_table_lines(answer, catalog, TableNumber(number))?;
         }
-        push_changed(answer, self.catalog.table_count())
+        push_changed(answer, catalog.table_count())
     }
 }

@@ -19,15 +19,17 @@ impl Executor {
     ghost use Rattle.plain_streams.specs.Requests.{Asks};
     ghost use Rattle.plain_streams.specs.Runs.{Answers, HasBlock};
     ghost use Rattle.mm_catalog.specs.Seen.{database_of};
+    ghost use Rattle.mm_transactions.specs.State.{saved_of};
     ghost use Rattle.mm_session.specs.Answered.{Obeys, Declines};
     ghost use Rattle.mm_session.specs.Judging.{IsJudged, AnswersIn};
 
     // Reads a line as a command, does what it says with the block behind it, and makes its answer.
     fn obey(&mut self, line: &Line<'_>, block: &[u8], answer: &mut Answer) -> Result<(), Refusal>
-        ensures ok { OnOk result (Obeys (block_records block.now) self.old.catalog.limits (database_of self.old.catalog) line.now (database_of self.new.catalog) answer.new) }
-        ensures err { IfErr result (Declines (block_records block.now) self.old.catalog.limits (database_of self.old.catalog) line.now) }
-        ensures unchanged { OnErr result (database_of self.new.catalog ≡ database_of self.old.catalog) }
-        ensures limits { self.new.catalog.limits ≡ self.old.catalog.limits }
+        ensures ok { OnOk result (Obeys (block_records block.now) self.old.tables.catalog.limits (database_of self.old.tables.catalog) line.now (database_of self.new.tables.catalog) answer.new) }
+        ensures err { IfErr result (Declines (block_records block.now) self.old.tables.catalog.limits (database_of self.old.tables.catalog) line.now) }
+        ensures unchanged { OnErr result (database_of self.new.tables.catalog ≡ database_of self.old.tables.catalog) }
+        ensures limits { self.new.tables.catalog.limits ≡ self.old.tables.catalog.limits }
+        ensures saved { saved_of self.new.tables ≡ saved_of self.old.tables }
     {
         let command = match parse(self.alloc, line) {
             Ok(command) => command,
@@ -39,9 +41,10 @@ impl Executor {
 
     /// Answers a line that has ended, and the block behind it. A silent line has the empty answer.
     pub fn respond(&mut self, line: &Judged<'_>, block: &[u8], answer: &mut Answer)
-        ensures answers { (bytes : List ℕ) → IsJudged bytes line.now → HasBlock self.old.catalog.limits (record { line = bytes; block = block.now })
-            → Answers self.old.catalog.limits (database_of self.old.catalog) (record { line = bytes; block = block.now }) answer.new (database_of self.new.catalog) }
-        ensures limits { self.new.catalog.limits ≡ self.old.catalog.limits }
+        ensures answers { (bytes : List ℕ) → IsJudged bytes line.now → HasBlock self.old.tables.catalog.limits (record { line = bytes; block = block.now })
+            → Answers self.old.tables.catalog.limits (database_of self.old.tables.catalog) (record { line = bytes; block = block.now }) answer.new (database_of self.new.tables.catalog) }
+        ensures limits { self.new.tables.catalog.limits ≡ self.old.tables.catalog.limits }
+        ensures saved { saved_of self.new.tables ≡ saved_of self.old.tables }
     {
         match line {
             Judged::TooLong => answer.set(LINE_TOO_LONG),
@@ -63,10 +66,11 @@ impl Executor {
         bytes: &'a [u8],
         answer: &mut Answer,
     ) -> Result<&'a [u8], u64>
-        ensures answered { IfOk result (λ others. AnswersIn self.old.catalog.limits (database_of self.old.catalog) line.now bytes.now others.now answer.new (database_of self.new.catalog)) }
+        ensures answered { IfOk result (λ others. AnswersIn self.old.tables.catalog.limits (database_of self.old.tables.catalog) line.now bytes.now others.now answer.new (database_of self.new.tables.catalog)) }
         ensures asks { IfErr result (λ n. (0 < n) × ((l : List ℕ) → IsJudged l line.now → Asks l n)) }
         ensures unchanged { OnErr result (self.new ≡ self.old) }
-        ensures limits { self.new.catalog.limits ≡ self.old.catalog.limits }
+        ensures limits { self.new.tables.catalog.limits ≡ self.old.tables.catalog.limits }
+        ensures saved { saved_of self.new.tables ≡ saved_of self.old.tables }
     {
         let Some(length) = line.asked() else {
             self.respond(line, &[], answer);

@@ -6,32 +6,34 @@ ghost use Rattle.mm_catalog.specs.Seen.{database_of};
 ghost use Rattle.mm_session.specs.Sinks.{PutsRows};
 ghost use Rattle.mm_session.specs.Walked.{IsScan, rows_shown};
 
-use super::Executor;
+use super::ReadExecutor;
 use super::rows::push_list;
 use super::sink::RowSink;
+use mm_catalog::Catalog;
 use mm_catalog::laws::a_catalog_is_consistent;
 use plain_tables::Query;
 use project_hash::distinct_of_table;
 
-impl Executor {
+impl ReadExecutor {
     /// Puts what a select shows of the rows of its one table that pass into a sink, each list of values once, and tells how many
     /// columns they have.
     pub fn push_scanned<'a, S: RowSink<'a>>(
-        &'a self,
+        &self,
+        catalog: &'a Catalog,
         query: &Query,
         sink: &mut S,
     ) -> Result<usize, S::Fault>
-        requires scan { IsScan self.now.catalog query.now }
-        ensures shown { OnOk result (PutsRows S.received sink.old sink.new (rows_shown self.now.catalog query.now)) }
+        requires scan { IsScan catalog.now query.now }
+        ensures shown { OnOk result (PutsRows S.received sink.old sink.new (rows_shown catalog.now query.now)) }
         ensures declined { IfErr result (S.declines sink.new) }
-        ensures columns { IfOk result (λ columns. columns ≡ length (headings (joined_tables (database_of self.now.catalog) query.now.source query.now.joins) query.now.shown)) }
+        ensures columns { IfOk result (λ columns. columns ≡ length (headings (joined_tables (database_of catalog.now) query.now.source query.now.joins) query.now.shown)) }
     {
-        a_catalog_is_consistent(&self.catalog);
+        a_catalog_is_consistent(catalog);
         let table = query.source.table;
         let tests = query.source.tests.as_slice();
-        let places = self.places_of(&[table], &query.shown)?;
-        let list = distinct_of_table(self.alloc, &self.catalog, table, tests, places)?;
-        push_list(sink, &self.catalog, &list, list.columns())?;
+        let places = self.places_of(catalog, &[table], &query.shown)?;
+        let list = distinct_of_table(self.alloc, catalog, table, tests, places)?;
+        push_list(sink, catalog, &list, list.columns())?;
         Ok(list.columns().len())
     }
 }

@@ -33,6 +33,7 @@ impl Responder {
     ghost use Rattle.plain_streams.specs.Division.{IsUnbroken, IsWhole};
     ghost use Rattle.plain_streams.specs.Runs.{Answers, HasBlock};
     ghost use Rattle.mm_catalog.specs.Seen.{database_of};
+    ghost use Rattle.mm_transactions.specs.State.{saved_of};
     ghost use Rattle.mm_session.specs.Buffers.{kept_of};
     ghost use Rattle.mm_session.specs.Kept.{KeepsBlock, nothing};
     ghost use Rattle.mm_session.specs.OneRequest.{AnswersOne};
@@ -40,7 +41,8 @@ impl Responder {
 
     /// A responder over the tables of a catalog, to which nothing has come.
     pub fn new(alloc: Global, policy: Policy, catalog: Catalog) -> Result<Responder, NoMemory>
-        ensures catalog { IfOk result (λ r. r.executor.catalog ≡ catalog) }
+        ensures catalog { IfOk result (λ r. r.executor.tables.catalog ≡ catalog) }
+        ensures none { IfOk result (λ r. saved_of r.executor.tables ≡ []) }
         ensures kept { IfOk result (λ r. r.kept ≡ nothing) }
     {
         Ok(Responder {
@@ -53,10 +55,11 @@ impl Responder {
 
     // Answers the request of the line that is kept and this block. Nothing of the line is kept then.
     fn respond_kept(&mut self, block: &[u8])
-        ensures answers { (line : List ℕ) → self.old.kept.line ≡ kept_of line → HasBlock self.old.executor.catalog.limits (record { line = line; block = block.now })
+        ensures answers { (line : List ℕ) → self.old.kept.line ≡ kept_of line → HasBlock self.old.executor.tables.catalog.limits (record { line = line; block = block.now })
             → Responds self.old self.new (record { line = line; block = block.now }) }
         ensures kept { self.new.kept ≡ record self.old.kept { line = kept_of [] } }
-        ensures limits { self.new.executor.catalog.limits ≡ self.old.executor.catalog.limits }
+        ensures limits { self.new.executor.tables.catalog.limits ≡ self.old.executor.tables.catalog.limits }
+        ensures saved { saved_of self.new.executor.tables ≡ saved_of self.old.executor.tables }
     {
         let line = self.kept.line.judged();
         self.executor.respond(&line, block, &mut self.answer);
@@ -67,10 +70,11 @@ impl Responder {
     fn end_block(&mut self, block: PendingBlock)
         requires { self.old.kept.block ≡ None }
         ensures answers { (line bytes : List ℕ) → self.old.kept.line ≡ kept_of line → Asks line (length bytes)
-            → KeepsBlock self.old.executor.catalog.limits.block (length bytes) bytes block
+            → KeepsBlock self.old.executor.tables.catalog.limits.block (length bytes) bytes block
             → Responds self.old self.new (record { line = line; block = bytes }) }
         ensures kept { self.new.kept ≡ nothing }
-        ensures limits { self.new.executor.catalog.limits ≡ self.old.executor.catalog.limits }
+        ensures limits { self.new.executor.tables.catalog.limits ≡ self.old.executor.tables.catalog.limits }
+        ensures saved { saved_of self.new.executor.tables ≡ saved_of self.old.executor.tables }
     {
         match block {
             PendingBlock::Storing(buffer) => self.respond_kept(buffer.as_slice()),
@@ -88,7 +92,8 @@ impl Responder {
     fn take_block<'a>(&mut self, mut block: PendingBlock, bytes: &'a [u8]) -> Option<&'a [u8]>
         requires { self.old.kept.block ≡ None }
         ensures takes { Takes (IsRestWith self.old block) self.old self.new bytes.now (option_copied result) }
-        ensures limits { self.new.executor.catalog.limits ≡ self.old.executor.catalog.limits }
+        ensures limits { self.new.executor.tables.catalog.limits ≡ self.old.executor.tables.catalog.limits }
+        ensures saved { saved_of self.new.executor.tables ≡ saved_of self.old.executor.tables }
     {
         let to_come = block.to_come();
         if (bytes.len() as u64) < to_come {
@@ -108,7 +113,8 @@ impl Responder {
         requires block { self.old.kept.block ≡ None }
         requires some { 0 < length }
         ensures takes { Takes (IsLoadLine self.old length) self.old self.new bytes.now (option_copied result) }
-        ensures limits { self.new.executor.catalog.limits ≡ self.old.executor.catalog.limits }
+        ensures limits { self.new.executor.tables.catalog.limits ≡ self.old.executor.tables.catalog.limits }
+        ensures saved { saved_of self.new.executor.tables ≡ saved_of self.old.executor.tables }
     {
         let block = PendingBlock::new(self.alloc, length, self.executor.block_limit());
         self.take_block(block, bytes)
@@ -120,7 +126,8 @@ impl Responder {
         requires block { self.old.kept.block ≡ None }
         requires unbroken { IsUnbroken tail.now }
         ensures takes { Takes (IsLineWith self.old tail.now) self.old self.new bytes.now (option_copied result) }
-        ensures limits { self.new.executor.catalog.limits ≡ self.old.executor.catalog.limits }
+        ensures limits { self.new.executor.tables.catalog.limits ≡ self.old.executor.tables.catalog.limits }
+        ensures saved { saved_of self.new.executor.tables ≡ saved_of self.old.executor.tables }
     {
         if self.kept.line.is_empty() {
             let line = judge(tail);
@@ -148,7 +155,8 @@ impl Responder {
     pub fn take<'a>(&mut self, bytes: &'a [u8]) -> Option<&'a [u8]>
         ensures takes { Takes (IsRest self.old) self.old self.new bytes.now (option_copied result) }
         ensures shorter { IfSome result (λ others. length others.now < length bytes.now + waits self.old.kept) }
-        ensures limits { self.new.executor.catalog.limits ≡ self.old.executor.catalog.limits }
+        ensures limits { self.new.executor.tables.catalog.limits ≡ self.old.executor.tables.catalog.limits }
+        ensures saved { saved_of self.new.executor.tables ≡ saved_of self.old.executor.tables }
     {
         if let Some(block) = self.kept.block.take() {
             return self.take_block(block, bytes);
@@ -176,7 +184,8 @@ impl Responder {
     // Answers a line that the stream ends in, behind which no line feed and no block is.
     fn finish_line(&mut self)
         ensures answers { (line : List ℕ) → self.old.kept.line ≡ kept_of line → Responds self.old self.new (record { line = line; block = [] }) }
-        ensures limits { self.new.executor.catalog.limits ≡ self.old.executor.catalog.limits }
+        ensures limits { self.new.executor.tables.catalog.limits ≡ self.old.executor.tables.catalog.limits }
+        ensures saved { saved_of self.new.executor.tables ≡ saved_of self.old.executor.tables }
     {
         let line = self.kept.line.judged();
         let length = line.asked().unwrap_or(0);
@@ -190,7 +199,8 @@ impl Responder {
     /// Makes the answer to the last request, where the stream has ended in one.
     pub fn finish(&mut self)
         ensures answers { Ends self.old self.new }
-        ensures limits { self.new.executor.catalog.limits ≡ self.old.executor.catalog.limits }
+        ensures limits { self.new.executor.tables.catalog.limits ≡ self.old.executor.tables.catalog.limits }
+        ensures saved { saved_of self.new.executor.tables ≡ saved_of self.old.executor.tables }
     {
         match self.kept.block.take() {
             Some(block) => {
@@ -208,11 +218,12 @@ impl Responder {
         block: &[u8],
         answer: &mut Answer,
     ) -> Result<(), NotOneRequest>
-        ensures ok { OnOk result (AnswersOne self.old.executor.catalog.limits (database_of self.old.executor.catalog) (record { line = line.now; block = block.now }) answer.new (database_of self.new.executor.catalog)) }
+        ensures ok { OnOk result (AnswersOne self.old.executor.tables.catalog.limits (database_of self.old.executor.tables.catalog) (record { line = line.now; block = block.now }) answer.new (database_of self.new.executor.tables.catalog)) }
         ensures err { OnErr result (¬ (IsWhole (record { line = line.now; block = block.now }))) }
         ensures unchanged { OnErr result ((self.new ≡ self.old) × (answer.new ≡ answer.old)) }
         ensures kept { self.new.kept ≡ self.old.kept }
-        ensures limits { self.new.executor.catalog.limits ≡ self.old.executor.catalog.limits }
+        ensures limits { self.new.executor.tables.catalog.limits ≡ self.old.executor.tables.catalog.limits }
+        ensures saved { saved_of self.new.executor.tables ≡ saved_of self.old.executor.tables }
     {
         let Some(judged) = judge_whole(line, block) else {
             return Err(NotOneRequest);

@@ -17,4 +17,4 @@ execute-requires c = spelled-spellable c.args.line.now c.in-Ok.command c.in-Ok.e
 
 pub returns-clause-err : goal.returns-clause-err
 returns-clause-err c =
-    declines (block_records c.args.block.now) c.args.self.now.catalog.limits (database_of c.args.self.now.catalog) (database_of c.execute.new.self.catalog) c.args.line.now c.in-Ok.command c.execute.result c.in-Ok.ensures.command c.execute.ensures.err
+    declines (block_records c.args.block.now) c.args.self.now.tables.catalog.limits (database_of c.args.self.now.tables.catalog) (database_of c.execute.new.self.tables.catalog) c.args.line.now c.in-Ok.command c.execute.result c.in-Ok.ensures.command c.execute.ensures.err

@@ -6,6 +6,6 @@ use Rattle.mm_session.proofs.execute.Executor.perform.Goals as goal
 
 pub dump-requires : goal.dump-requires
 dump-requires c =
-    let old = c.args.self.now.catalog in
-    let meant : IsMeant old.limits (database_of old) (resolved.Dump c.in-Dump.table) = rw c.in-Dump.is at c.requires in
-    slice_get_within (database_of old) c.in-Dump.table.0 meant.0 meant.1
+    let old = c.args.self.now.tables.catalog in
+    let meant : IsMeant old.limits (database_of old) (resolved.Dump c.in-Dump.table) = rw c.in-Dump.is at c.requires.meant in
+    rw c.catalog-in-Dump.ensures (slice_get_within (database_of old) c.in-Dump.table.0 meant.0 meant.1)

@@ -11,14 +11,14 @@ returns-in_default-clause-answered c = (
   refl,
   λ line is.
       let none = c.in_default.ensures line is in
-      (unasked none, c.respond.ensures.answers line is (has_block-unasked c.args.self.now.catalog.limits (record { line = line; block = [] }) none)),
+      (unasked none, c.respond.ensures.answers line is (has_block-unasked c.args.self.now.tables.catalog.limits (record { line = line; block = [] }) none)),
 )
 
 pub returns-clause-answered : goal.returns-clause-answered
 returns-clause-answered c =
     let bytes = c.args.bytes.now in
     let block = c.split_at.result.0.now in
-    let limits = c.args.self.now.catalog.limits in
+    let limits = c.args.self.now.tables.catalog.limits in
     let n = c.in-Some.length in
     let within : n ≤ limits.block = omega (arith, min-le_left c.block_limit.result (length bytes), c.block_limit.ensures) in (
       block,

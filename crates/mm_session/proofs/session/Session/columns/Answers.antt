@@ -8,7 +8,10 @@ use Rattle.mm_session.specs.Sessions.{State}
 use Rattle.mm_session.proofs.session.Session.columns.Goals as goal
 
 pub columns-requires : goal.columns-requires
-columns-requires c = subst (λ (s : State). IsMeant s.limits s.database (resolved.Select c.args.query.now)) (sym c.self.view_is) c.requires
+columns-requires c =
+    rw c.catalog.ensures (subst (λ (s : State). IsMeant s.limits s.database (resolved.Select c.args.query.now)) (sym c.self.view_is) c.requires)
 
 pub returns : goal.returns
-returns c = subst (λ (s : State). OnOk c.columns.result (values_of c.columns.new.cells ≡ columns_told s.database c.args.query.now)) c.self.view_is c.columns.ensures
+returns c =
+    subst (λ (s : State). OnOk c.columns.result (values_of c.columns.new.cells ≡ columns_told s.database c.args.query.now)) c.self.view_is
+    (rw c.catalog.ensures at c.columns.ensures)

@@ -1,5 +1,6 @@
 use Rattle.std.proofs.Common.{[], true, sym, refl, subst, ◌∙◌}
 use Rattle.mm_catalog.specs.Seen.{database_of}
+use Rattle.mm_transactions.specs.State.{saved_of}
 use Rattle.mm_session.specs.Sessions.{State, Finishes, BreaksOff}
 use Rattle.mm_session.specs.declared.stream.responder.Responder.{Responder}
 use Rattle.mm_session.proofs.ResultLemmas.{on_ok, on_error}
@@ -9,7 +10,7 @@ use Rattle.mm_session.proofs.session.Session.end_into.Goals as goal
 
 -- what a session that has ended is seen as
 abbrev ended : Responder → State
-ended r = record { limits = r.executor.catalog.limits; database = database_of r.executor.catalog; catalog = r.executor.catalog; ended = true; kept = r.kept }
+ended r = record { limits = r.executor.tables.catalog.limits; database = database_of r.executor.tables.catalog; saved = saved_of r.executor.tables; catalog = r.executor.tables.catalog; ended = true; kept = r.kept }
 
 pub returns-then-is_nothing-clause-ok : goal.returns-then-is_nothing-clause-ok
 returns-then-is_nothing-clause-ok g c = (

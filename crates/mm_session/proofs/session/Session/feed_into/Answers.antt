@@ -2,6 +2,7 @@ use Rattle.std.proofs.Common.{◌≡◌, ◌++◌, [], List, ℕ, Bool, ◌∙�
 use Rattle.mm_session.specs.Sessions.{State, Feeds}
 use Rattle.mm_session.specs.declared.stream.responder.Responder.{Responder}
 use Rattle.mm_catalog.specs.Seen.{database_of}
+use Rattle.mm_transactions.specs.State.{saved_of}
 use Rattle.mm_session.proofs.ResultLemmas.{on_ok, on_error}
 use Rattle.mm_session.proofs.RunLemmas.{feeds_nothing, Feeds-append, feeds_request, feeds_rest, breaks_off_request, breaks_off_later}
 use Rattle.mm_session.proofs.WritingLemmas.{Appends-append, Appends-nothing}
@@ -9,7 +10,7 @@ use Rattle.mm_session.proofs.session.Session.feed_into.Goals as goal
 
 -- what a session is seen as
 abbrev seen : Responder → Bool → State
-seen r ended = record { limits = r.executor.catalog.limits; database = database_of r.executor.catalog; catalog = r.executor.catalog; ended = ended; kept = r.kept }
+seen r ended = record { limits = r.executor.tables.catalog.limits; database = database_of r.executor.tables.catalog; saved = saved_of r.executor.tables; catalog = r.executor.tables.catalog; ended = ended; kept = r.kept }
 
 -- a piece of which something was done, and then a request and what follows it
 split : (piece done rest front others : List ℕ) → piece ≡ done ++ rest → rest ≡ front ++ others → piece ≡ done ++ (front ++ others)
@@ -53,7 +54,7 @@ loop-others-preserved g c =
       gained ++ answer,
       Appends-append _ _ _ gained answer grows (rw c.as_slice.ensures at went),
       Feeds-append c.args.self.now before after done front gained answer feeds
-          (feeds_request before after front answer completes.1 completes.0 feeds.going_on c.take.ensures.limits),
+          (feeds_request before after front answer completes.1 completes.0 feeds.going_on c.take.ensures.limits c.take.ensures.saved),
       split c.args.piece.now done c.loop-others.rest.now front c.in-Some.others.now is parts ∙ sym (append_assoc done front c.in-Some.others.now),
       c.put.ensures.name ∙ name,
     )
@@ -64,7 +65,7 @@ returns-clause-ok g c =
     let before = seen c.loop-others.self-inside.responder c.loop-others.self-inside.ended in
     let after = seen c.take.new.self c.loop-others.self-inside.ended in
     let rest = c.loop-others.rest.now in
-    let further = feeds_rest before after rest c.in_default.ensures.takes.1 c.in_default.ensures.takes.0 feeds.going_on c.take.ensures.limits in
+    let further = feeds_rest before after rest c.in_default.ensures.takes.1 c.in_default.ensures.takes.0 feeds.going_on c.take.ensures.limits c.take.ensures.saved in
     (gained, grows, rw is (rw append-nil at (Feeds-append c.args.self.now before after done rest gained [] feeds further)))
 
 pub returns-clause-name : goal.returns-clause-name

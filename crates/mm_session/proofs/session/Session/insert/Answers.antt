@@ -5,6 +5,7 @@ use Rattle.plain_tables.specs.Doing.{done}
 use Rattle.plain_tables.specs.ResolvedLaws.{IsMeant}
 use Rattle.plain_tables.specs.declared.resolved.Resolved.TheVariants as resolved
 use Rattle.mm_catalog.specs.Seen.{database_of}
+use Rattle.mm_transactions.specs.State.{saved_of}
 use Rattle.mm_session.specs.Changing.{HasDeclined}
 use Rattle.mm_session.specs.Sessions.{State}
 use Rattle.mm_session.proofs.PerformLemmas.{declined_unchanged}
@@ -17,8 +18,8 @@ insert-requires c =
 pub returns-clause-refused : goal.returns-clause-refused
 returns-clause-refused c =
     let before = c.self.inside.responder in
-    let after = c.insert.new.self.catalog in
-    let new : State = record { limits = after.limits; database = database_of after; catalog = after; ended = c.self.inside.ended; kept = before.kept } in
+    let after = c.insert.new.self.tables.catalog in
+    let new : State = record { limits = after.limits; database = database_of after; saved = saved_of c.insert.new.self.tables; catalog = after; ended = c.self.inside.ended; kept = before.kept } in
     let command = resolved.Insert c.args.table c.args.values.now in
     subst (λ (s : State). IfErr c.insert.result (HasDeclined s new (done s.limits s.database command))) c.self.view_is
-    (IfErr-weaker c.insert.result _ _ (declined_unchanged before.executor.catalog after command) c.insert.ensures.refused)
+    (IfErr-weaker c.insert.result _ _ (declined_unchanged before.executor.tables.catalog after command) c.insert.ensures.refused)

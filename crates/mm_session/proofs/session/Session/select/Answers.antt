@@ -9,9 +9,10 @@ use Rattle.mm_session.specs.Sessions.{State}
 use Rattle.mm_session.proofs.session.Session.select.Goals as goal
 
 pub select_values-requires : goal.select_values-requires
-select_values-requires c = subst (λ (s : State). IsMeant s.limits s.database (resolved.Select c.args.query.now)) (sym c.self.view_is) c.requires
+select_values-requires c =
+    rw c.catalog.ensures (subst (λ (s : State). IsMeant s.limits s.database (resolved.Select c.args.query.now)) (sym c.self.view_is) c.requires)
 
 pub returns-clause-shown : goal.returns-clause-shown
 returns-clause-shown c =
     subst (λ (s : State). IfOk c.select_values.result (λ columns. ShowsValues (done s.limits s.database (resolved.Select c.args.query.now)).outcome columns (values_of c.select_values.new.cells))) c.self.view_is
-    c.select_values.ensures.shown
+    (rw c.catalog.ensures at c.select_values.ensures.shown)

@@ -7,15 +7,15 @@ use Rattle.mm_session.proofs.stream.responder.Responder.answer_request.Goals as 
 
 pub returns-then-block-block_limit-clause-ok : goal.returns-then-block-block_limit-clause-ok
 returns-then-block-block_limit-clause-ok c =
-    let limits = c.args.self.now.executor.catalog.limits in
+    let limits = c.args.self.now.executor.tables.catalog.limits in
     let request : Request = record { line = c.args.line.now; block = c.args.block.now } in
     let whole : IsWhole request = c.in-Some.ensures.0 in
     let long : limits.block < length c.args.block.now = omega (arith, c.block_limit.ensures) in
-    record { whole = whole; answers = answers-whole_too_long limits (database_of c.args.self.now.executor.catalog) request c.set.new.self whole long c.set.ensures }
+    record { whole = whole; answers = answers-whole_too_long limits (database_of c.args.self.now.executor.tables.catalog) request c.set.new.self whole long c.set.ensures }
 
 pub returns-clause-ok : goal.returns-clause-ok
 returns-clause-ok c =
-    let limits = c.args.self.now.executor.catalog.limits in
+    let limits = c.args.self.now.executor.tables.catalog.limits in
     let request : Request = record { line = c.args.line.now; block = c.args.block.now } in
     let whole : IsWhole request = c.in-Some.ensures.0 in
     let within : length c.args.block.now ≤ limits.block = omega (arith, c.block_limit.ensures) in

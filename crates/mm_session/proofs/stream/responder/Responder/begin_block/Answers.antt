@@ -7,7 +7,7 @@ use Rattle.mm_session.proofs.stream.responder.Responder.begin_block.Goals as goa
 
 pub returns-clause-takes : goal.returns-clause-takes
 returns-clause-takes c =
-    let limits = c.args.self.now.executor.catalog.limits in
+    let limits = c.args.self.now.executor.tables.catalog.limits in
     takes-behind (IsLoadLine c.args.self.now c.args.length) (IsRestWith c.args.self.now c.new-block.result) c.args.self.now c.take_block.new.self []
     (λ rest (line, is, unbroken, asks, kept).
     keeps_request-begun limits (rest ++ []) line c.args.self.now.kept.line c.new-block.result c.args.length (append-nil rest ∙ is) unbroken asks c.requires.some kept

@@ -9,15 +9,15 @@ use Rattle.mm_session.proofs.stream.responder.Responder.end_block.Goals.{in-TooL
 
 pub returns-in-Storing-clause-answers : goal.returns-in-Storing-clause-answers
 returns-in-Storing-clause-answers c = λ line bytes is asks keeps.
-    let limits = c.args.self.now.executor.catalog.limits in
+    let limits = c.args.self.now.executor.tables.catalog.limits in
     let kept = subst (KeepsBlock limits.block (length bytes) bytes) c.in-Storing.is keeps in
     let same : c.as_slice.result.now ≡ bytes = c.as_slice.ensures ∙ kept.1 in
     (rw same at c.respond_kept.ensures.answers) line is (has_block-asked limits (record { line = line; block = bytes }) (length bytes) asks kept.0 refl)
 
 pub returns-after-why-clause-answers : goal.returns-after-why-clause-answers
 returns-after-why-clause-answers c = λ line bytes is asks keeps.
-    let limits = c.args.self.now.executor.catalog.limits in
-    let tables = database_of c.args.self.now.executor.catalog in
+    let limits = c.args.self.now.executor.tables.catalog.limits in
+    let tables = database_of c.args.self.now.executor.tables.catalog in
     let kept = subst (KeepsBlock limits.block (length bytes) bytes) c.in-Counting.is keeps in
     let request : Request = record { line = line; block = bytes } in
     elim c.match-why.branch [

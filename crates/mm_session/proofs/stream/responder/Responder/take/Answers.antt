@@ -10,5 +10,5 @@ returns-in-Some-split_line-clause-takes c =
     let line = c.in-Some-split_line.line.now in
     let others = c.in-Some-split_line.others.now in
     takes-behind (IsRest self) (IsLineWith self line) self c.end_line.new.self (line ++ 10 ∷ [])
-    (λ rest is. (rest, keeps-no_block self.executor.catalog.limits rest self.kept (sym c.take.ensures.value ∙ c.in_default.is) is, refl))
+    (λ rest is. (rest, keeps-no_block self.executor.tables.catalog.limits rest self.kept (sym c.take.ensures.value ∙ c.in_default.is) is, refl))
     c.args.bytes.now others _ (c.in-Some-split_line.ensures.1 ∙ sym (append_assoc line (10 ∷ []) others)) c.end_line.ensures.takes

@@ -7,7 +7,7 @@ use Rattle.mm_session.proofs.stream.responder.Responder.take_block.Goals as goal
 pub returns-then-bytes-to_come-clause-takes : goal.returns-then-bytes-to_come-clause-takes
 returns-then-bytes-to_come-clause-takes c = (
   refl,
-  λ rest keeps. rw c.extend.ensures (keeps_request-more c.args.self.now.executor.catalog.limits rest c.args.self.now.kept.line c.args.block keeps c.args.bytes.now (omega arith)),
+  λ rest keeps. rw c.extend.ensures (keeps_request-more c.args.self.now.executor.tables.catalog.limits rest c.args.self.now.kept.line c.args.block keeps c.args.bytes.now (omega arith)),
 )
 
 pub returns-clause-takes : goal.returns-clause-takes
@@ -20,7 +20,7 @@ returns-clause-takes c =
       (
         c.end_block.ensures.kept,
         λ rest keeps.
-            let (request, whole, joined, asks, line, kept) = request-whole c.args.self.now.executor.catalog.limits rest c.args.self.now.kept.line c.args.block keeps last all in
+            let (request, whole, joined, asks, line, kept) = request-whole c.args.self.now.executor.tables.catalog.limits rest c.args.self.now.kept.line c.args.block keeps last all in
             (request, whole, joined, c.end_block.ensures.answers request.line request.block line asks (rw c.extend-2.ensures kept)),
       ),
     )

@@ -1,6 +1,0 @@
-use Rattle.std.proofs.Common.{◌≡◌, ◌++◌, drop}
-use Rattle.mm_session.proofs.PlaceLemmas.{places_behind}
-use Rattle.mm_session.proofs.execute.Executor.all_places.Given as goal
-
-abbrev pub invariant-loop-source : goal.invariant-loop-source
-invariant-loop-source l = l.places.items ++ places_behind l.self.catalog l.source (drop l.source l.sources) ≡ places_behind l.self.catalog 0 l.sources

@@ -1,8 +1,0 @@
-use Rattle.std.proofs.Common.{◌∷◌, List, ap, sym, refl}
-use Rattle.plain_tables.specs.declared.resolved.Joined.{Joined}
-use Rattle.mm_session.specs.Members.{joined_numbers}
-use Rattle.mm_session.proofs.execute.Executor.push_few_or_walked.Goals as goal
-
-pub push_batches-requires : goal.push_batches-requires
-push_batches-requires g c =
-    λ κs. ((refl, tt), (c.requires.meant, (c.requires.ordered.0, ap (λ (js : List Joined). c.args.query.now.source.table.0 ∷ joined_numbers js) (sym c.requires.ordered.1))))
