@@ -2,6 +2,7 @@
 
 import io
 import os
+import random
 import signal
 import unittest
 import unittest.mock
@@ -10,8 +11,9 @@ from support import shells
 from support.binding import mmdb
 from support.shells import COMPANY
 
-from mmdb_shell import bars, reading, selecting
+from mmdb_shell import bars, boxes, modes, moving, reading, selecting
 
+SEED = 20261128
 CSV = "emp.id,emp.name,emp.dept\n1,Ann,10\n2,\"\",\n"
 
 
@@ -229,7 +231,7 @@ class ByRange(shells.InThisProcess):
 
     def test_the_rows_are_the_same(self):
         shell = self.filled(50)
-        with unittest.mock.patch.multiple(selecting, LEAST=10, _ROWS=7):
+        with unittest.mock.patch.object(selecting, "LEAST", 10), unittest.mock.patch.object(moving, "_RANGE", 7):
             for line in (
                 "select * from t",
                 " select s , id from t\t",
@@ -241,6 +243,7 @@ class ByRange(shells.InThisProcess):
                 with self.subTest(line):
                     found, expected = selecting.by_range(shell.db, line.encode()), shell.db.execute(line)
                     self.assertEqual((list(found), len(found), found.names, found.types), (expected, 50, expected.names, expected.types))
+                    self.assertGreater(len(found._lines), 2)
 
     def test_other_selects_are_read_at_once(self):
         shell = self.filled(50)
@@ -271,6 +274,49 @@ class ByRange(shells.InThisProcess):
         self.do(shell, "select nothing from t", refused="error 32 no such column: nothing is no column of t")
 
 
+class AsRecords(shells.InThisProcess):
+    """Rows as CSV are those of the select, whatever texts and nulls they have."""
+
+    TABLES = ["table u (k text, n int)", "table t (id int, a text, u ref u null, b text, c text)"]
+    LINES = ["select * from t", "select a from t", "select id, u from t", "select u, b from t", "select a, b, id, c, k from t join u on t.u = u.k"]
+    LINES += ["select id, a, c from t", "select b, c from t", "select a, c, b, id from t"]
+
+    def drawn(self, draw, texts):
+        """A shell with rows that are drawn of these texts."""
+        shell = self.shell(block=1 << 16)
+        self.do(shell, *self.TABLES)
+        for key in texts:
+            shell.db.execute("insert u (?, ?)", key, draw.randrange(9))
+        for at in range(30):
+            drawn = [draw.choice(texts) for _ in range(3)]
+            shell.db.execute("insert t (?, ?, ?, ?, ?)", at, drawn[0], draw.choice([None, *texts]), *drawn[1:])
+        return shell
+
+    def test_drawn_rows(self):
+        draw = random.Random(SEED)
+        look = boxes.look("utf-8")
+        for texts in (["a", "é,"], ["a", ""], ["", "\n", ",,", '"', "\n,\n"], ["a", "\n,", ",\n", "x,,y"]):
+            shell = self.drawn(draw, texts)
+            for line in self.LINES:
+                with self.subTest(texts=texts, line=line), unittest.mock.patch.multiple(moving, _RANGE=4, PIECE=16):
+                    rows = shell.db.execute(line)
+                    expected = "".join(modes.MODES["csv"](rows.names, rows, look))
+                    written = selecting.RowsAsRecords(shell.db, line.encode())
+                    self.assertEqual((written.names, len(written), list(written)), (rows.names, len(rows), rows))
+                    self.assertEqual("".join(modes.MODES["csv"](written.names, written, look)), expected)
+                    with unittest.mock.patch.object(selecting, "LEAST", 1):
+                        ranges = selecting.by_range(shell.db, line.encode())
+                    if " join " not in line:
+                        self.assertEqual("".join(modes.MODES["csv"](ranges.names, ranges, look)), expected)
+
+    def test_no_value_is_read_without_need(self):
+        for texts, lines in ((["a", "é,"], self.LINES), (["a", ""], [line for line in self.LINES if " u" not in line and "*" not in line])):
+            shell = self.drawn(random.Random(SEED), texts)
+            with unittest.mock.patch.object(shell.db, "select", side_effect=AssertionError):
+                for line in lines:
+                    self.do(shell, line, said=None)
+
+
 class Late(shells.InThisProcess):
     """Ctrl-C that comes while the library is at a line."""
 
@@ -282,7 +328,8 @@ class Late(shells.InThisProcess):
             execute = shell.db.answer
 
             def answer(line, block=None):
-                shell.interrupts.on_interrupt(signal.SIGINT, None)
+                if line.startswith(b"insert"):
+                    shell.interrupts.on_interrupt(signal.SIGINT, None)
                 return execute(line, block)
 
             with unittest.mock.patch.object(shell.db, "answer", answer):

@@ -9,7 +9,7 @@ import mmdb
 
 from . import helping
 from .dotted import dotted
-from .moving import all_keys, answer, keys_in
+from .moving import all_keys, answer, count_in, keys_in
 from .schema import Table, table_of, tables_of
 from .selecting import count_of
 from .trouble import Trouble
@@ -68,8 +68,7 @@ def _selected(shell: Shell, line: str) -> int:
     bound, values = shell.parameters.bind(line.encode())
     if values:
         return len(shell.db.select(bound.decode(), *values))
-    told = answer(shell.db, bound)
-    return int(told[len(b"rows ") : told.index(b"\n")])
+    return count_in(answer(shell.db, bound))
 
 
 @dotted(

@@ -8,14 +8,14 @@ from __future__ import annotations
 
 import re
 from itertools import chain, islice
-from typing import Callable, Dict, Iterable, Iterator, List, Sequence
+from typing import Callable, Dict, Iterable, Iterator, List, Sequence, Union
 
 import mmdb
 
 from . import boxes
 from .boxes import Cells, Look
 from .moving import spelled
-from .selecting import RowsByRange
+from .selecting import RowsAsRecords, RowsByRange
 from .showing import Names, Rows, cell
 
 #: A mode gives names and rows in pieces of text, the last of which ends a line.
@@ -66,6 +66,16 @@ def _line(names: Names, rows: Rows, _look: Look) -> Iterator[str]:
 
 def _csv(names: Names, rows: Rows, _look: Look) -> Iterator[str]:
     yield ",".join(names) + "\n"
+    parts: Iterable[Union[str, Rows]] = rows.parts() if isinstance(rows, (RowsAsRecords, RowsByRange)) else [rows]
+    for part in parts:
+        if isinstance(part, str):
+            yield part
+        else:
+            yield from _records(part)
+
+
+def _records(rows: Rows) -> Iterator[str]:
+    """Rows as records of a CSV."""
     rest = iter(rows)
     for several in iter(lambda: list(islice(rest, _AT_ONCE)), []):
         records = map(",".join, zip(*map(_fields, zip(*several))))

@@ -11,7 +11,7 @@ import mmdb
 
 from .cutting import Block, Endless, blocks, without_mark
 from .interrupts import Interrupts
-from .schema import Table
+from .schema import Column, Table
 from .trouble import Trouble
 
 Key = Union[int, str]
@@ -25,8 +25,8 @@ class Readable(Protocol):
 
 
 PIECE = 1 << 20
-# How many rows a select of a range has at least, and how many ranges there are at most.
-_LEAST_RANGE, _MOST_RANGES = 4096, 256
+# About how many rows a select of a range has.
+_RANGE = 10_000
 
 _TEXT_KEY = re.compile(rb'(?:"((?:[^"]|"")*)"|([^"\n]*))\n')
 _DIGITS = re.compile(r"\d+")
@@ -60,9 +60,20 @@ def numbered(why: mmdb.Refused) -> str:
     return f"error {why.number} {why.text}"
 
 
-def keys_in(selected: bytes, kind: str) -> Iterator[Key]:
-    """The keys that a select of them alone has answered, one after the other."""
-    start = selected.index(b"\n", selected.index(b"\n") + 1) + 1
+def count_in(selected: bytes) -> int:
+    """How many rows a select has answered."""
+    return int(selected[len(b"rows ") : selected.index(b"\n")])
+
+
+def records_at(told: bytes) -> int:
+    """Where the records of an answer begin, below the line that counts and that of the names."""
+    return told.index(b"\n", told.index(b"\n") + 1) + 1
+
+
+def keys_in(selected: bytes, kind: str, start: int = 0) -> Iterator[Key]:
+    """The keys that a select of them alone has answered, one after the other; those from a record on, if it is said where
+    that starts."""
+    start = start or records_at(selected)
     if kind == "int":
         lines = io.BytesIO(selected)
         lines.seek(start)
@@ -135,7 +146,7 @@ class Load:
                 raise
             raise _in_file(why, self.count) from why
         finally:
-            self.warnings.extend(_warned(each.message, self.count) for each in caught)
+            self.warnings.extend(_in_warning(each.message, self.count) for each in caught)
         self.count += count
 
     def _keys_before(self) -> bytes:
@@ -168,11 +179,16 @@ class Load:
             return None
 
 
-def _warned(warning: Union[str, Warning], before: int) -> str:
+def _in_warning(warning: Union[str, Warning], before: int) -> str:
     """A warning of a block, told of the file in which so many records stand before it."""
     told = str(warning)
     if isinstance(warning, mmdb.CsvWarning) and warning.record:
         told = told.replace(f"record {warning.record} ", f"record {warning.record + before} ", 1)
+    return warning_of(told)
+
+
+def warning_of(told: str) -> str:
+    """A warning of the module, as the shell says it."""
     return told.replace("mmdb: ", "warning: ", 1)
 
 
@@ -216,42 +232,51 @@ def _gaps(old: Iterator[Key], now: Optional[Iterator[Key]]) -> Iterator[Tuple[Op
 def records(db: mmdb.Database, table: Table) -> Iterator[bytes]:
     """The records of all rows of a table by rising keys, in pieces: of a dump, or where that is too long of selects."""
     try:
-        yield _below_two_lines(answer(db, f"dump {table.name}"))
+        yield _records_of(answer(db, f"dump {table.name}"))
     except mmdb.Refused as why:
         if why.number != 64:
             raise
-        yield from _records_by_ranges(db, table)
+        for where in ranges_in(answer(db, all_keys(table)), table.key):
+            yield _records_of(answer(db, f"select * from {table.name}{where}"))
 
 
-def _records_by_ranges(db: mmdb.Database, table: Table) -> Iterator[bytes]:
-    cuts: List[Optional[Key]] = [None, *_cuts(answer(db, all_keys(table)), table.key.kind), None]
-    for low, high in zip(cuts, cuts[1:]):
-        where = between(table.key.name, (">=", low), ("<", high))
-        yield _below_two_lines(answer(db, f"select * from {table.name}{where}"))
+def _records_of(told: bytes) -> bytes:
+    return told[records_at(told) :]
 
 
 def ranges(db: mmdb.Database, table: Table) -> Iterator[mmdb.Rows]:
     """All rows of a table by rising keys, in ranges of many rows."""
-    line, key = f"select * from {table.name}", table.key.name
-    cuts: List[Optional[Key]] = [None, *_cuts(answer(db, all_keys(table)), table.key.kind), None]
-    for low, high in zip(cuts, cuts[1:]):
-        yield db.select(line + between(key, (">=", low), ("<", high)))
+    for where in ranges_in(answer(db, all_keys(table)), table.key):
+        yield db.select(f"select * from {table.name}{where}")
 
 
-def _cuts(selected: bytes, kind: str) -> List[Key]:
-    """Keys that cut all those selected into ranges of many rows. A key that can't stand in a line is none."""
-    count = int(selected[len(b"rows ") : selected.index(b"\n")])
-    size = max(_LEAST_RANGE, count // _MOST_RANGES)
-    cuts: List[Key] = []
-    since = 0
-    for key in keys_in(selected, kind):
-        if since >= size and can_stand_in_a_line(key):
-            cuts.append(key)
-            since = 0
-        since += 1
-    return cuts
+def ranges_in(selected: bytes, key: Column) -> List[str]:
+    """Ranges of many rows, into which the keys that were selected are cut: the conditions of each, by rising keys."""
+    cuts: List[Optional[Key]] = [None, *_cuts(selected, key.kind), None]
+    return [between(key.name, (">=", low), ("<", high)) for low, high in zip(cuts, cuts[1:])]
 
 
-def _below_two_lines(told: bytes) -> bytes:
-    """The records of an answer, below the line that counts and that of the names."""
-    return told[told.index(b"\n", told.index(b"\n") + 1) + 1 :]
+def _cuts(selected: bytes, kind: str) -> Iterator[Key]:
+    """Each key with which a range begins, but for the first. A key that can't stand in a line is none."""
+    at = records_at(selected)
+    step = ahead = (len(selected) - at) * _RANGE // max(count_in(selected), 1)
+    while True:
+        at = record_behind(selected, at, at + ahead)
+        if at == len(selected):
+            return
+        key, ahead = next(keys_in(selected, kind, at)), 0
+        if can_stand_in_a_line(key):
+            ahead = step
+            yield key
+
+
+def record_behind(text: bytes, record: int, at: int) -> int:
+    """Where the first record begins behind a place, before which one begins at `record`."""
+    quotes = 0
+    while True:
+        end = text.find(b"\n", at) + 1 or len(text)
+        quotes += text.count(b'"', record, end)
+        # (a line feed inside a field stands between quote marks)
+        if quotes % 2 == 0 or end == len(text):
+            return end
+        record = at = end

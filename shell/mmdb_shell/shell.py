@@ -21,12 +21,12 @@ from .output import Output, Pager, Stopped, pager_command
 from .parameters import Parameters
 from .reading import Source, block_length
 from .requests import Attempt, Request, Requests
-from .selecting import RowsByRange, by_range
+from .selecting import RowsAsRecords, RowsByRange, by_range
 from .showing import Names, Rows, count, refusal
 from .trouble import NAME, Bailed, Trouble, Unreadable
 
 #: What a line is answered: rows, or a text.
-Answer = Union[mmdb.Rows, RowsByRange, str]
+Answer = Union[mmdb.Rows, RowsByRange, RowsAsRecords, str]
 
 # How deep files may read files.
 _DEEPEST = 16
@@ -206,6 +206,8 @@ class Shell:
         ranges = None if values or self.has_timer else by_range(self.db, line)
         if ranges is not None:
             return ranges
+        if self.mode == "csv" and not values:
+            return RowsAsRecords(self.db, line)
         try:
             found = self.db.execute(line.decode(), *values)
         except ValueError as why:
