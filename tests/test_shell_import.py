@@ -6,12 +6,17 @@ import io
 import os
 import random
 import threading
+import unittest.mock
 
 from support import shells, sizes
+from support.binding import mmdb
 from support.shells import COMPANY
+
+from mmdb_shell import importing
 
 SEED = 20261127
 FILES = sizes.size(60, 2_000)
+TEXTS = sizes.size(2_000, 100_000)
 
 
 class Imports(shells.InThisProcess):
@@ -94,6 +99,45 @@ class Imports(shells.InThisProcess):
                 self.assertEqual(shell.db.execute("tables"), "".join(f"{line}\n" for line in lines))
                 if lines:
                     self.assertEqual(shell.db.execute("select * from t"), [])
+
+    def test_odd_quotes_are_warned_of(self):
+        behind = "a field with text behind its closing quote mark, which is read as a part of it"
+        held = "a field whose quote mark is never closed, and which holds all that follows"
+        for lines, content, options, record, odd, rows in (
+            ((), 'id,s\n1,"x"y\n2,"a""b"\n', "", 1, behind, [(1, "xy"), (2, 'a"b')]),
+            (["table t (id int, s text)"], 'id,s\n1,a\n2,"x"y\n', "", 2, behind, [(1, "a"), (2, "xy")]),
+            (["table t (id int, s text)"], 's,id\n"x"y,1\n\n"x"y,2\n', "", 1, behind, [(1, "xy"), (2, "xy")]),
+            (["table t (id int, s text)"], 'id;s\n1;"a;b"\n2;"x"y;\n', "--separator ';' --columns id,s,-", None, "", None),
+            (["table t (id int, s text)"], '"odd"\n1;"a;b"\n2;"x"y\n', "--separator ';' --columns id,s --skip 1", 2, behind, [(1, "a;b"), (2, "xy")]),
+            (["table t (id int, s text)"], '"o"dd\ns,id\n,1\n', "--skip 1", None, "", [(1, "")]),
+            (["table t (id int, s text)"], 's,id,"n"o\na,1,\n', "", 0, behind, [(1, "a")]),
+            (["table t (s text)"], 'S,more\na\n"b\nc,d\n', "--columns -,s --skip 2", None, "", None),
+            (["table t (s text)"], 'S\na\n"b\nc,d\n', "", 2, held, [("a",), ("b\nc,d\n",)]),
+            (["table t (s text)"], 'S\na\n"b\nc', "", 2, held, [("a",), ("b\nc",)]),
+        ):
+            with self.subTest(content=content, options=options):
+                shell = self.shell()
+                self.do(shell, *lines)
+                shell.run(shells.reading.Stream(io.BytesIO(f".import {self.file('f.csv', content)} t {options}\n".encode()), ""))
+                warning = f"mmdb-shell: warning: {f'record {record}' if record else 'the record of names'} of the CSV has {odd}\n"
+                if rows is None:
+                    self.assertRegex(shell._err.getvalue(), r"record \d has \d fields?, and the file \d fields?")
+                else:
+                    self.assertEqual(shell._err.getvalue(), "" if record is None else warning)
+                    self.assertEqual(shell.db.execute("select * from t"), rows)
+
+    def test_odd_quotes_are_those_of_a_load(self):
+        draw = random.Random(SEED)
+        odd = 0
+        for _ in range(TEXTS):
+            text = "".join(draw.choice(['"', '"', ",", "a", "x", "\n", "\r\n"]) for _ in range(draw.randrange(14)))
+            with self.subTest(text), unittest.mock.patch.object(importing, "_PIECE", draw.choice([1, 3, 1 << 16])):
+                parsed = importing._Parsed(io.StringIO(text, newline=""), ",", True)
+                self.assertEqual(list(parsed.records), list(filter(None, csv.reader(io.StringIO(text, newline="")))))
+                expected = mmdb.quotes.first_odd(text.encode())
+                self.assertEqual(parsed.odd[:1], [expected] if expected else [])
+                odd += expected is not None
+        self.assertGreater(odd, TEXTS // 4)
 
     def test_a_pipe(self):
         os.mkfifo(self.room / "pipe")

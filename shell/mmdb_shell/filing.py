@@ -60,9 +60,13 @@ def _import(shell: Shell, path: str, name: str, *options: str) -> None:
     # (it loads the module csv, which most runs need none of)
     from . import importing
 
-    told = importing.options_of(options)
-    with opened(path, shell.interrupts) as file, told_of(path), shell.bar(size_of(file), "bytes") as bar:
-        count, left_out = importing.Import(shell, name, told).run(file, path, bar)
+    work = importing.Import(shell, name, importing.options_of(options))
+    try:
+        with opened(path, shell.interrupts) as file, told_of(path), shell.bar(size_of(file), "bytes") as bar:
+            count, left_out = work.run(file, path, bar)
+    finally:
+        for warning in work.warnings:
+            shell.tell(warning)
     shell.note(f"{count} rows of {path} are in {name}")
     if left_out:
         shell.note(f"{name} has no column for {', '.join(left_out)}")

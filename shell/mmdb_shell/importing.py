@@ -5,15 +5,17 @@ from __future__ import annotations
 import csv
 import io
 import re
+from contextlib import contextmanager
 from io import BufferedReader
-from itertools import islice
-from typing import TYPE_CHECKING, Dict, Iterator, List, NamedTuple, Optional, Sequence, TextIO, Tuple
+from itertools import chain, islice
+from typing import TYPE_CHECKING, Dict, Iterable, Iterator, List, NamedTuple, Optional, Sequence, TextIO, Tuple
 
 import mmdb
+from mmdb.quotes import BEHIND, OPEN, Odd
 
 from .bars import Bar, Read
 from .cutting import MARK
-from .moving import Load, Readable, answer, numbered
+from .moving import Load, Readable, answer, numbered, warning_of
 from .schema import Table, table_of, tables_of
 from .trouble import Trouble
 from .words import RESERVED
@@ -28,8 +30,8 @@ _INTEGER = re.compile(r"0|-?[1-9][0-9]{0,18}").fullmatch
 # Integers of fewer characters have at most 64 bits.
 _SURELY_SHORT = 19
 _LEAST, _GREATEST = -(1 << 63), (1 << 63) - 1
-# How many records are written into one piece of a load.
-_RECORDS = 4096
+# How many records are written into one piece of a load, and about how many characters are read at once.
+_RECORDS, _PIECE = 4096, 1 << 16
 _LEFT_OUT = "-"
 
 
@@ -76,6 +78,8 @@ class Import:
         self._shell = shell
         self._name = name
         self._options = options
+        #: What is odd in the file, each in a sentence.
+        self.warnings: List[str] = []
 
     def run(self, file: BufferedReader, path: str, bar: Bar) -> Tuple[int, List[str]]:
         """Puts in the rows, and gives how many they are, and the columns of the file that the table has no place for.
@@ -95,38 +99,45 @@ class Import:
     def _loaded(self, table: Table, file: BufferedReader, path: str, bar: Bar) -> Tuple[int, List[str]]:
         if self._options == Options() and _is_of(table, file):
             return self._put(table, Read(file, bar), path), []
-        names, records = self._records(file, bar)
+        names, parsed = self._parsed(file, bar, is_looked_at=True)
         order = [_place(column.name, names) for column in table.columns]
         missing = [column.name for column, at in zip(table.columns, order) if at is None and not column.takes_null]
         if missing:
             raise Trouble(f"{path} has no column for {', '.join(missing)} of {table.name}; it has {', '.join(names)}")
-        count = self._put(table, _Pieces(table.header, records, len(names), order), path)
+        try:
+            count = self._put(table, _Pieces(table.header, parsed.records, len(names), order), path)
+        finally:
+            self.warnings.extend(warning_of(odd.told()) for odd in parsed.odd[:1])
         return count, [name for at, name in enumerate(names) if at not in order and name != _LEFT_OUT]
 
     def _put(self, table: Table, file: Readable, path: str) -> int:
         """Loads what is in the form of a load."""
+        load = Load(self._shell.db, table, self._shell.interrupts)
         try:
-            return Load(self._shell.db, table, self._shell.interrupts).run(file, self._shell.settings.block)
+            return load.run(file, self._shell.settings.block)
         except mmdb.Refused as why:
             raise Trouble(f"{numbered(why)}; no row of {path} went in", why.reason) from why
+        finally:
+            self.warnings.extend(load.warnings)
 
-    def _records(self, file: BufferedReader, bar: Bar) -> Tuple[List[str], Iterator[List[str]]]:
+    def _parsed(self, file: BufferedReader, bar: Bar, is_looked_at: bool) -> Tuple[List[str], _Parsed]:
         """The names of the file's columns, and its records behind them."""
         text = io.TextIOWrapper(_Raw(Read(file, bar)), "utf-8-sig", "surrogateescape", newline="")
-        records = _parsed(text, self._options.separator)
+        parsed = _Parsed(text, self._options.separator, is_looked_at)
         for _ in range(self._options.skip):
-            next(records, None)
-        given = list(self._options.columns) or [name.strip() for name in next(records, [])]
+            next(parsed.records, None)
+        parsed.start(1 if self._options.columns else 0)
+        given = list(self._options.columns) or [name.strip() for name in next(parsed.records, [])]
         if not given:
             raise Trouble("the file is empty: its first record has the names of its columns")
-        return _names_of(given), records
+        return _names_of(given), parsed
 
     def _made(self, file: BufferedReader, bar: Bar) -> Table:
         """The table that is made for the file, after a look at all its fields."""
         if not file.seekable():
             raise Trouble(f"{self._name} is no table, and to make it the file is read twice, which a pipe can't be")
-        names, records = self._records(file, bar)
-        kinds = _kinds(names, records, self._shell)
+        names, parsed = self._parsed(file, bar, is_looked_at=False)
+        kinds = _kinds(names, parsed.records, self._shell)
         file.seek(0)
         bar.again()
         key = self._options.key or next(name for name in names if name != _LEFT_OUT)
@@ -145,13 +156,76 @@ def _is_of(table: Table, file: BufferedReader) -> bool:
     return front.startswith((table.header, table.header[:-1] + b"\r\n"))
 
 
-def _parsed(text: TextIO, separator: str) -> Iterator[List[str]]:
-    """The records of a CSV, without empty lines."""
-    reader = csv.reader(text, delimiter=separator)
-    try:
-        yield from filter(None, reader)
-    except csv.Error as why:
-        raise Trouble(f"line {reader.line_num} of the file is no CSV: {why}") from why
+class _Parsed:
+    """The records of a CSV, without empty lines, and if it is looked for them, the fields whose quote marks are odd."""
+
+    def __init__(self, text: TextIO, separator: str, is_looked_at: bool) -> None:
+        self._text = text
+        self._separator = separator
+        self._is_looked_at = is_looked_at
+        #: The number of the record that comes next, and that of the last line.
+        self._next = self._line = 0
+        self._is_at_end = False
+        #: The fields with odd quote marks.
+        self.odd: List[Odd] = []
+        self.records = self._all()
+
+    def start(self, number: int) -> None:
+        """Says which number the record has that comes next; 0 is that of the names."""
+        self._next = number
+        self.odd.clear()
+
+    def _all(self) -> Iterator[List[str]]:
+        for lines in iter(lambda: self._text.readlines(_PIECE), []):
+            if '"' in "".join(lines):
+                rest = chain(lines, self._text)
+                yield from self._looked_at(rest) if self._is_looked_at else self._read(rest)
+                return
+            yield from self._read(lines)
+
+    def _read(self, lines: Iterable[str]) -> Iterator[List[str]]:
+        """The records of lines."""
+        with self._reader(lines) as reader:
+            for record in filter(None, reader):
+                self._next += 1
+                yield record
+
+    def _looked_at(self, lines: Iterator[str]) -> Iterator[List[str]]:
+        """The records of lines that have quote marks. One with an odd field is read once more, as a load reads it."""
+        held: List[str] = []
+        while not self._is_at_end:
+            strict = csv.reader(self._held(lines, held), delimiter=self._separator, strict=True)
+            try:
+                for record in strict:
+                    held.clear()
+                    if record:
+                        self._next += 1
+                        yield record
+            except csv.Error:
+                self.odd.append(Odd(self._next, OPEN if self._is_at_end else BEHIND))
+                self._line += strict.line_num - len(held)
+                with self._reader(chain(held, lines)) as reader:
+                    record = next(reader)
+                held.clear()
+                self._next += 1
+                yield record
+
+    def _held(self, lines: Iterator[str], held: List[str]) -> Iterator[str]:
+        """Lines, which are held too."""
+        for line in lines:
+            held.append(line)
+            yield line
+        self._is_at_end = True
+
+    @contextmanager
+    def _reader(self, lines: Iterable[str]) -> Iterator[Iterator[List[str]]]:
+        """What reads the next lines, whatever quote marks they have."""
+        reader = csv.reader(lines, delimiter=self._separator)
+        try:
+            yield reader
+        except csv.Error as why:
+            raise Trouble(f"line {self._line + reader.line_num} of the file is no CSV: {why}") from why
+        self._line += reader.line_num
 
 
 def _place(name: str, names: List[str]) -> Optional[int]:

@@ -16,8 +16,8 @@ _MANY = re.compile(rb'(?:[^"]*(?<![^,\r\n])"[^"]*(?:""[^"]*)*"(?![^,\r\n])){1,50
 _ENDS = re.compile(rb"[\r\n]+")
 _MARK = b"\xef\xbb\xbf"
 
-_OPEN = "a field whose quote mark is never closed, and which holds all that follows"
-_BEHIND = "a field with text behind its closing quote mark, which is read as a part of it"
+OPEN = "a field whose quote mark is never closed, and which holds all that follows"
+BEHIND = "a field with text behind its closing quote mark, which is read as a part of it"
 
 
 class Odd(NamedTuple):
@@ -38,7 +38,7 @@ def first_odd(block: bytes) -> Optional[Odd]:
         return None
     content = block[len(_MARK) :] if block.startswith(_MARK) else block
     found = odd_field(content)
-    return None if found is None else Odd(_record_at(content, found[0]), _OPEN if found[1] else _BEHIND)
+    return None if found is None else Odd(_record_at(content, found[0]), OPEN if found[1] else BEHIND)
 
 
 def _odd_field(content: bytes) -> Optional[Tuple[int, bool]]:
