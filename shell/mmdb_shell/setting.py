@@ -2,7 +2,7 @@
 
 from __future__ import annotations
 
-from typing import TYPE_CHECKING
+from typing import TYPE_CHECKING, Callable
 
 from .dotted import dotted
 from .modes import MODES
@@ -92,35 +92,29 @@ def _parameter(shell: Shell, what: str = "list", place: str = "", value: str = "
         raise Trouble("it is written .parameter set PLACE VALUE, unset PLACE, clear or list")
 
 
-@dotted(".bail on|off", "stops a script at the first refused line")
-def _bail(shell: Shell, word: str) -> None:
-    shell.bails = _is_on(word)
+# The switches: what each does when it is on, and where the shell keeps it.
+_SWITCHES = (
+    (".bail", "stops a script at the first refused line", "bails"),
+    (".changes", "shows how many rows each change affected", "tells_changes"),
+    (".explain", "explains why a line is refused", "explains"),
+    (".pager", "shows long answers with the command in $PAGER", "has_pager"),
+    (".timer", "shows how long each line took", "has_timer"),
+)
 
 
-@dotted(".changes on|off", "shows how many rows each change affected")
-def _changes(shell: Shell, word: str) -> None:
-    shell.tells_changes = _is_on(word)
+def _switch(kept: str) -> Callable[[Shell, str], None]:
+    """What turns a switch, which the shell keeps under that name."""
+
+    def turn(shell: Shell, word: str) -> None:
+        if word not in ("on", "off"):
+            raise Trouble(f"it is on or off, not {word}")
+        setattr(shell, kept, word == "on")
+
+    return turn
 
 
-@dotted(".timer on|off", "shows how long each line took")
-def _timer(shell: Shell, word: str) -> None:
-    shell.has_timer = _is_on(word)
-
-
-@dotted(".explain on|off", "explains why a line is refused")
-def _explain(shell: Shell, word: str) -> None:
-    shell.explains = _is_on(word)
-
-
-@dotted(".pager on|off", "shows long answers with the command in $PAGER")
-def _pager(shell: Shell, word: str) -> None:
-    shell.has_pager = _is_on(word)
-
-
-def _is_on(word: str) -> bool:
-    if word not in ("on", "off"):
-        raise Trouble(f"it is on or off, not {word}")
-    return word == "on"
+for _name, _does, _kept in _SWITCHES:
+    dotted(f"{_name} on|off", _does)(_switch(_kept))
 
 
 @dotted(".exit [STATUS]", "leaves, with an exit status")
