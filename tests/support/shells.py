@@ -74,7 +74,8 @@ class Typed:
             for number in (signal.SIGINT, signal.SIGHUP):
                 signal.signal(number, signal.SIG_DFL)
             os.execve(RUN[0], [*RUN, *said], environment)
-        self.decoder = codecs.getincrementaldecoder("utf-8")()
+        # (at Ctrl-C the terminal drops what it hasn't shown yet, from the middle of a character on too)
+        self.decoder = codecs.getincrementaldecoder("utf-8")("replace")
         self.seen = ""
 
     def read(self):
