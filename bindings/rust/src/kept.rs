@@ -325,8 +325,9 @@ impl DerefMut for InUse<'_> {
 impl Drop for InUse<'_> {
     #[inline]
     fn drop(&mut self) {
-        let Some(mut kept) = self.kept.take() else {
-            return;
+        let mut kept = match self.kept.take() {
+            Some(kept) => kept,
+            None => return,
         };
         match self.lines.0.borrow_mut().slots.get_mut(self.at) {
             Some(slot) if Arc::ptr_eq(&slot.line, &kept.written.line) => slot.kept = Some(kept),

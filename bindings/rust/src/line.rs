@@ -134,8 +134,9 @@ pub(crate) fn pointed(line: &str, places: &[Place], reason: String) -> String {
     if places.iter().all(|place| place.is_nameless) {
         return reason;
     }
-    let Some((column, words)) = column_of(&reason) else {
-        return reason;
+    let (column, words) = match column_of(&reason) {
+        Some(found) => found,
+        None => return reason,
     };
     let (mut wider, mut found) = (0, "?");
     for place in places {

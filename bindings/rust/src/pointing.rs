@@ -9,8 +9,9 @@ const BEHIND: usize = 30;
 /// Writes the line with a caret below the column that its reason begins with, each in a line of its own. It writes nothing if
 /// the reason names no column.
 pub(crate) fn fmt_pointed(to: &mut fmt::Formatter<'_>, line: &str, reason: &str) -> fmt::Result {
-    let Some(column) = column_of(reason).filter(|_| !line.is_empty()) else {
-        return Ok(());
+    let column = match column_of(reason) {
+        Some(column) if !line.is_empty() => column,
+        _ => return Ok(()),
     };
     let (front, behind): (Vec<char>, Vec<char>) = (
         line.chars().take(column - 1).collect(),
