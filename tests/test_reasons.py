@@ -103,6 +103,26 @@ class Program(unittest.TestCase):
         told = TOLD.findall(harness.run_whole(stream, ["--explain"]).err)
         self.assertEqual([(number, refusal) for number, _, refusal, _ in told], [(b"2", b"41"), (b"7", b"20"), (b"10", b"20")])
 
+    def test_what_is_seen_badly(self):
+        """Empty fields, blanks, characters that are not seen or turn a line's direction, and quote marks in texts."""
+        none = "and that is no integer of 64 bits"
+        for line, block, words in (
+            ("load t 7", ",s\n1,x\n", "field 1 of the header is empty, and column 1 is id"),
+            ("load t 9", "id, s\n1,x", 'field 2 of the header is " s", and column 2 is s'),
+            ("load t 7", "id,s\n,x", f"the field of id is empty, {none}"),
+            ("load t 9", "id,s\n1 ,x", f'the field of id is "1 ", {none}'),
+            ("load t 10", "id,s\n\u202e,x", f"the field of id is <U+202E>, {none}"),
+            ("insert t ('O''Hara\u2067', 'x')", "", "column id of t has integers, and 'O''Hara<U+2067>' is a text"),
+            ("insert t (1, 'x\t\u2029)", "", "column 14: the text 'x<U+0009><U+2029>) has no quote mark at its end"),
+            ("\ufefftables", "", "column 1: <U+FEFF> is no command: a byte order mark is allowed at the front of a block only"),
+            ("tables\u00a0", "", "column 7: wanted the end of the line, found \u00a0 (U+00A0): a blank is a space or a tab"),
+            (".tables", "", "column 1: . is no command: commands that begin with a dot are for mmdb-shell"),
+        ):
+            with self.subTest(line=line):
+                stream = f"table t (id int, s text)\n{line}\n{block}"
+                told = TOLD.findall(harness.run_whole(stream.encode(), ["--explain"]).err)
+                self.assertEqual([why.decode() for *_, why in told], [words])
+
     def test_a_stream_that_ends_inside_a_block(self):
         for end in (b"", b"\n", b"\nid\n"):
             told = TOLD.findall(harness.run_whole(b"load t 9" + end, ["--explain"]).err)
@@ -184,6 +204,13 @@ class Library(unittest.TestCase):
         for _, limits, stream, _ in harness.limited_rows():
             numbers |= {number for number, _ in self.reasons(stream, limits)}
         self.assertEqual(numbers | {13, 90}, set(model.TEXTS) | {13, 90})
+
+    def test_a_load_of_too_many_rows(self):
+        """It is told with the rows that are there, and the records before the one that is refused."""
+        stream = b"table t (id int)\ninsert t (1)\nload t 9\nid\n2\n3\n4\ninsert t (2)\ninsert t (3)\ninsert t (4)\n"
+        told = [words.decode() for _, words in self.reasons(stream, model.Limits(rows=3, block=100))]
+        records = "t has 1 rows, 2 records come before this one, and a table has at most 3 rows"
+        self.assertEqual(told, [records, "t has 3 rows, and there can be no more"])
 
     def test_reasons_are_those_of_the_program(self):
         told = [line.split(": ", 1)[1] for line in hand.TOLD]

@@ -57,7 +57,7 @@ class ThroughAPipe(shells.Piped):
             "line 1: error 10 line too long: a line has at most 8192 bytes",
             "line 2: error 11 not UTF-8: at byte 1 no character begins",
             "line 4: error 20 not a command: column 1: wanted table, drop, index, insert, update, delete, select, load, dump "
-            "or tables, found \ufffd",
+            "or tables, found <U+0000>",
         ]
         self.check(b"# " + b"x" * 99_999 + b"\n\xff\ntables\r\n\0", [], refused)
 

@@ -123,7 +123,7 @@ class Parametrised(shells.Piped):
         ]
         refused = [
             "line 10: no value is set for ?3: .parameter set ?3 VALUE sets one",
-            "line 13: error 20 not a command: column 28: wanted a value, found ?",
+            "line 13: error 20 not a command: column 28: wanted a value, found ?: a ? is allowed in prepared statements only",
         ]
         self.check(said, ["t.s", "it's", "? :least", "place,value", "?1,7", "?2,it's", ":least,7"], refused)
 

@@ -9,7 +9,7 @@ use crate::{declaring, joins};
 use mm_catalog::{Catalog, MOST_CONDITIONS, MOST_ITEMS, MOST_JOINS};
 use mm_resolver::Culprit;
 use no_memory::NoMemory;
-use plain_tables::{Place, Refusal};
+use plain_tables::{Join, Place, Refusal};
 use std::alloc::Global;
 
 /// A refusal of a command of these parts with the block behind its line, and the tables as they were then.
@@ -52,7 +52,7 @@ impl<'a> Blamed<'a> {
 
     fn of_column(&self, number: usize) -> Reason {
         match self.parts.columns.get(number) {
-            Some(column) => declaring::column(self.alloc, column, self.refusal),
+            Some(column) => declaring::column(self.alloc, self.catalog, column, self.refusal),
             None => Ok(None),
         }
     }
@@ -149,8 +149,14 @@ impl<'a> Blamed<'a> {
         match self.refusal {
             Refusal::NoSuchTable => no_table(self.alloc, self.catalog, &join.table),
             Refusal::TableNamedTwice => joins::repeated(self.alloc, join),
-            _ => joins::unjoined(self.alloc, self.catalog, self.parts.table, before, join),
+            _ => self.unjoined(before, join),
         }
+    }
+
+    // Why a join behind these names no two columns.
+    fn unjoined(&self, before: &[Join], join: &Join) -> Reason {
+        let (catalog, table) = (self.catalog, self.parts.table);
+        joins::unjoined(self.alloc, catalog, &self.tables()?, table, before, join)
     }
 
     fn too_many(&self, count: usize, things: &str, most: usize) -> Reason {

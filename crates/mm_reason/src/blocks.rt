@@ -43,7 +43,7 @@ fn misnamed_field(alloc: Global, columns: &[Column], fields: &ByteRecord) -> Rea
     for (place, column) in columns.iter().enumerate() {
         let field = fields.get(place).unwrap_or(b"");
         if field != column.name.as_bytes() {
-            let (field, name) = (Cut(text_of(field)), column.name.as_str());
+            let (field, name) = (Cut::field(text_of(field)), column.name.as_str());
             let number = place.saturating_add(1);
             return tell(format!(in alloc;
                 "field {number} of the header is {field}, and column {number} is {name}"
@@ -86,7 +86,7 @@ fn why_no_value(alloc: Global, column: &Column, kind: BaseKind, field: &[u8]) ->
     let Ok(text) = str::from_utf8(field) else {
         return tell(format!(in alloc; "the field of {name} is not UTF-8"));
     };
-    let shown = Cut(text);
+    let shown = Cut::field(text);
     match kind {
         BaseKind::Int if text.starts_with('+') || text.parse::<i64>().is_err() => {
             tell(format!(in alloc;

@@ -1,7 +1,7 @@
 //! Tables and indexes that are not declared, and not dropped.
 
 use crate::parts::IndexPart;
-use crate::tables::{Seen, table_at};
+use crate::tables::{Seen, nearest_table, table_at};
 use crate::told::{Reason, tell};
 use mm_catalog::{Catalog, MOST_COLUMNS, MOST_TABLES};
 use mm_resolver::referred;
@@ -9,15 +9,22 @@ use plain_tables::{Column, IndexKind, Refusal, TableNumber, Text};
 use std::alloc::Global;
 
 /// Why a column is not declared: it refers to no table, or its name stands twice.
-pub fn column(alloc: Global, column: &Column, refusal: Refusal) -> Reason {
+pub fn column(alloc: Global, catalog: &Catalog, column: &Column, refusal: Refusal) -> Reason {
     let name = column.name.as_str();
     match (refusal, referred(column)) {
         (Refusal::ColumnNamedTwice, _) => tell(format!(in alloc; "two columns are called {name}")),
-        (_, Some(table)) => {
-            let table = table.as_str();
-            tell(format!(in alloc; "{table}, which column {name} refers to, is no table"))
-        }
+        (_, Some(table)) => unreferred(alloc, catalog, name, table.as_str()),
         (_, None) => Ok(None),
+    }
+}
+
+// That a column refers to what is no table.
+fn unreferred(alloc: Global, catalog: &Catalog, name: &str, table: &str) -> Reason {
+    match nearest_table(alloc, catalog, table)? {
+        Some(near) => tell(format!(in alloc;
+            "{table}, which column {name} refers to, is no table: is {near} meant?"
+        )),
+        None => { tell(format!(in alloc; "{table}, which column {name} refers to, is no table")) }
     }
 }
 

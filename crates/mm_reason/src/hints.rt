@@ -1,122 +1,239 @@
-//! What is said to those who write as other databases want it.
+//! What is said to those who write as other databases want it: symbols that stand where they may not, and what is to be known.
 
 use mm_lang::{Place, Wanted};
 
-// Symbols that stand where they may not, or any where none is named; where that is, if it matters; and what is to be known.
-type Hint = (&'static [&'static str], Option<Place>, &'static str);
+// Where a hint is for, by what may stand there.
+#[derive(Clone, Copy, PartialEq, Eq)]
+enum Spot {
+    // The first word of a line.
+    Command,
+    Type,
+    // Behind a column or a value in parentheses.
+    Listed,
+    // Behind an item of a select.
+    Item,
+    Operator,
+    Value,
+    // Where the line may end.
+    End,
+    Other,
+}
 
-static HINTS: [Hint; 35] = [
+// The spot, or any; symbols, in capitals or not; and what is to be known.
+type Hint = (Option<Spot>, &'static [&'static str], &'static str);
+
+const COMMAND: Option<Spot> = Some(Spot::Command);
+
+const TYPE: Option<Spot> = Some(Spot::Type);
+
+const LISTED: Option<Spot> = Some(Spot::Listed);
+
+const OPERATOR: Option<Spot> = Some(Spot::Operator);
+
+const VALUE: Option<Spot> = Some(Spot::Value);
+
+const ITEM: Option<Spot> = Some(Spot::Item);
+
+const END: Option<Spot> = Some(Spot::End);
+
+const OPERATORS: &str = "the operators are =, <>, <, <=, > and >=";
+
+static HINTS: [Hint; 54] = [
     (
+        COMMAND,
         &["create"],
-        None,
         "table T (id int) declares a table, and index T id hash an index",
     ),
     (
+        COMMAND,
         &["alter"],
-        None,
         "the columns of a table stay as they were declared",
     ),
     (
-        &["begin", "commit", "rollback"],
-        None,
+        COMMAND,
+        &["begin", "start", "commit", "rollback", "savepoint"],
         "each command is done whole or not at all, and several make no transaction",
     ),
-    (&["truncate"], None, "delete T takes out all rows of T"),
-    (&["show", "describe"], None, "tables tells of all tables"),
-    (&["quit", "exit"], None, "a session ends with its input"),
+    (COMMAND, &["truncate"], "delete T takes out all rows of T"),
     (
-        &["("],
-        Some(Place::IndexedColumn),
-        "an index is index T c tree",
+        COMMAND,
+        &["show", "describe", "desc", "\\"],
+        "tables shows how each table is declared",
+    ),
+    (COMMAND, &["quit", "exit"], "a session ends with its input"),
+    (
+        COMMAND,
+        &["replace", "upsert", "merge"],
+        "insert adds a row, and update changes rows",
     ),
     (
-        &[],
-        Some(Place::Set),
-        "an update is update T set c = 1 where id = 1",
-    ),
-    (
-        &[],
-        Some(Place::Count),
+        COMMAND,
+        &["copy", "import"],
         "a load is load T 20, with 20 bytes behind the line",
     ),
-    (&[], Some(Place::Values), "an insert is insert T (1, 'x')"),
     (
-        &["from"],
-        Some(Place::DeletedTable),
-        "a delete is delete T where id = 1",
+        COMMAND,
+        &["."],
+        "commands that begin with a dot are for mmdb-shell",
     ),
     (
-        &["exists"],
-        None,
+        TYPE,
+        &[
+            "integer", "bigint", "smallint", "tinyint", "number", "serial",
+        ],
+        "the types are int, text and ref T, and int has 64 bits",
+    ),
+    (
+        TYPE,
+        &["varchar", "char", "character", "string", "uuid", "json"],
+        "the types are int, text and ref T, and text has no length",
+    ),
+    (
+        TYPE,
+        &["bool", "boolean", "bit"],
+        "the types are int, text and ref T, and int can hold 1 and 0",
+    ),
+    (
+        TYPE,
+        &["float", "double", "real", "decimal", "numeric", "money"],
+        "the types are int, text and ref T, and there are no fractions",
+    ),
+    (
+        TYPE,
+        &["date", "time", "datetime", "timestamp"],
+        "the types are int, text and ref T, and a date can be a text, as '2024-01-31'",
+    ),
+    (
+        TYPE,
+        &["blob", "bytea", "binary"],
+        "the types are int, text and ref T, and a text is UTF-8",
+    ),
+    (
+        TYPE,
+        &["key"],
+        "the first column is the key, and a reference is dept ref dept",
+    ),
+    (LISTED, &["primary"], "the first column is the key"),
+    (
+        LISTED,
+        &["not"],
+        "a column takes nulls only where ref T null says so",
+    ),
+    (
+        LISTED,
+        &["unique"],
+        "only the key, the first column, is unique",
+    ),
+    (
+        LISTED,
+        &["default", "auto_increment", "autoincrement"],
+        "an insert has a value for each column",
+    ),
+    (
+        LISTED,
+        &["check", "constraint", "collate", "comment"],
+        "a column has a name and a type alone",
+    ),
+    (None, &["references"], "a reference is dept ref dept"),
+    (OPERATOR, &["!"], "the operator is <>"),
+    (OPERATOR, &["is"], "the condition is = null or <> null"),
+    (
+        OPERATOR,
+        &["like", "ilike", "glob", "regexp"],
+        "a text is compared as a whole",
+    ),
+    (OPERATOR, &["between"], "the conditions are >= and <="),
+    (OPERATOR, &["in"], "a condition has one value"),
+    (
+        OPERATOR,
+        &["not"],
+        "there is no not: the operators are =, <>, <, <=, > and >=",
+    ),
+    (OPERATOR, &["("], "there are no functions"),
+    (VALUE, &["="], "the operator is ="),
+    (VALUE, &["<", ">"], OPERATORS),
+    (
+        VALUE,
+        &["true", "false"],
+        "values are integers, texts and null",
+    ),
+    (VALUE, &["default"], "an insert has a value for each column"),
+    (
+        VALUE,
+        &["?", ":", "$", "@"],
+        "a ? is allowed in prepared statements only",
+    ),
+    (VALUE, &["+"], "a number has no + before it"),
+    (
+        VALUE,
+        &["-"],
+        "a - stands directly before the digits of a number",
+    ),
+    (VALUE, &["."], "there are no fractions"),
+    (ITEM, &["("], "there are no functions"),
+    (
+        END,
+        &["limit", "offset", "fetch"],
+        "a command applies to all rows that meet its conditions",
+    ),
+    (END, &["order"], "rows come in the order of their keys"),
+    (END, &["group", "having"], "there are no groups"),
+    (END, &["inner"], "a join is join U on T.a = U.b"),
+    (
+        END,
+        &["left", "right", "full", "cross", "natural"],
+        "there are inner joins only, as join U on T.a = U.b",
+    ),
+    (
+        END,
+        &["exists", "cascade"],
         "a table is dropped by drop table T alone",
     ),
     (
-        &["limit", "offset"],
+        END,
+        &["union", "except", "intersect"],
+        "a line is one command",
+    ),
+    (END, &["or", "|"], "conditions are joined by and alone"),
+    (END, &["&"], "conditions are joined by and"),
+    (
         None,
-        "a select answers all of its rows",
+        &["if", "exists"],
+        "table T (id int) declares a table, and is refused where T exists",
     ),
-    (&["order"], None, "rows come in the order of their keys"),
-    (&["group"], None, "there are no groups"),
-    (&["as"], None, "nothing gets another name"),
+    (None, &["as"], "there are no aliases"),
+    (END, &[")"], "no parenthesis is open"),
+    (None, &["("], "only table and insert have parentheses"),
     (
-        &["inner", "left", "right", "cross"],
         None,
-        "a join is join U on T.a = U.b",
+        &["+", "-", "*", "/", "%", "|"],
+        "there is no arithmetic",
     ),
     (
-        &[","],
-        Some(Place::BehindTable),
-        "a join is join U on T.a = U.b",
-    ),
-    (
-        &["="],
-        Some(Place::Dot),
-        "a join names each column with its table",
-    ),
-    (&["="], Some(Place::ComparedValue), "the operator is ="),
-    (&["!"], None, "the operator is <>"),
-    (&["or"], None, "conditions are joined by and alone"),
-    (&["is"], None, "the condition is = null or <> null"),
-    (&["like"], None, "a text is compared as a whole"),
-    (&["between"], None, "the conditions are >= and <="),
-    (&["in"], None, "a condition has one value"),
-    (
-        &["not"],
         None,
-        "a column takes nulls only where ref T null says so",
-    ),
-    (&["primary"], None, "the first column is the key"),
-    (&["references"], None, "a reference is dept ref dept"),
-    (
-        &["integer", "bigint", "varchar", "char", "string"],
-        None,
-        "the types are int, text and ref T",
-    ),
-    (
-        &["true", "false"],
-        None,
-        "values are integers, texts and null",
-    ),
-    (
         &["\"", "`"],
-        None,
         "texts stand between single quote marks, and names between none",
     ),
-    (&[";"], None, "a line needs no sign at its end"),
-    (
-        &["("],
-        Some(Place::BehindItemName),
-        "there are no functions",
-    ),
-    (
-        &["-"],
-        None,
-        "a comment begins with #, and a - stands only before digits",
-    ),
+    (None, &[";"], "a line needs no sign at its end"),
 ];
 
-// Whether a symbol is one of these, in capitals or not.
-fn is_one_of(symbol: &str, symbols: &[&str]) -> bool {
+// The spot of a place.
+fn spot_of(place: Place) -> Spot {
+    match place {
+        Place::Command | Place::Statement => Spot::Command,
+        Place::ColumnType => Spot::Type,
+        Place::BehindReference | Place::BehindListed => Spot::Listed,
+        Place::BehindItemName | Place::BehindItem | Place::From => Spot::Item,
+        Place::BehindConditionName | Place::Operator => Spot::Operator,
+        Place::Value | Place::ComparedValue => Spot::Value,
+        Place::BehindSetting | Place::BehindDeletedTable | Place::BehindTable => Spot::End,
+        Place::BehindCondition | Place::End => Spot::End,
+        _ => Spot::Other,
+    }
+}
+
+/// Whether a symbol is one of these, in capitals or not.
+pub fn is_one_of(symbol: &str, symbols: &[&str]) -> bool {
     symbols
         .iter()
         .any(|known| known.eq_ignore_ascii_case(symbol))
@@ -142,9 +259,10 @@ pub fn hint(place: Place, symbol: &str) -> Option<&'static str> {
     if may_end(place) && begins_command(symbol) {
         return Some("a line is one command");
     }
+    let spot = Some(spot_of(place));
     let found = HINTS.iter().find(|hint| {
-        let is_here = hint.1.is_none() || hint.1 == Some(place);
-        is_here && (hint.0.is_empty() || is_one_of(symbol, hint.0))
+        let is_here = hint.0.is_none() || hint.0 == spot;
+        is_here && is_one_of(symbol, hint.1)
     })?;
     Some(found.2)
 }

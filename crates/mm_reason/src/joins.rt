@@ -1,7 +1,7 @@
 //! Joins that join nothing.
 
 use crate::parts::Name;
-use crate::tables::{Seen, column_at, table_named, tables_of, why_no_column};
+use crate::tables::{Seen, column_at, table_named, tables_of, unnamed_table, why_no_column};
 use crate::told::{Reason, Told, tell};
 use mm_catalog::Catalog;
 use plain_tables::{BaseKind, Column, Join, JoinSide, Place, Text};
@@ -14,6 +14,17 @@ fn missing_side(alloc: Global, tables: &[Seen<'_>], side: &JoinSide) -> Reason {
         if table.name == side.table.as_str() && table.column(&side.column).is_none() {
             let words = why_no_column(alloc, from_ref(table), Name::bare(&side.column))?;
             return Ok(Some(Told::of(words)));
+        }
+    }
+    Ok(None)
+}
+
+// The side of a join that names none of the tables of its command, if one does.
+fn unnamed_side(alloc: Global, tables: &[Seen<'_>], join: &Join) -> Reason {
+    for side in [&join.left, &join.right] {
+        let (table, column) = (side.table.as_str(), side.column.as_str());
+        if !tables.iter().any(|seen| seen.name == table) {
+            return Ok(Some(Told::of(unnamed_table(alloc, tables, table, column)?)));
         }
     }
     Ok(None)
@@ -41,10 +52,11 @@ pub fn at(joins: &[Join], number: usize) -> Option<(&[Join], &Join)> {
     Some((before, rest.first()?))
 }
 
-/// Why a join behind these of a table names no two columns.
+/// Why a join behind these of a table names no two columns, in a command with all of these tables.
 pub fn unjoined(
     alloc: Global,
     catalog: &Catalog,
+    all: &[Seen<'_>],
     table: &Text,
     before: &[Join],
     join: &Join,
@@ -52,6 +64,9 @@ pub fn unjoined(
     let Some(own) = table_named(catalog, &join.table) else {
         return Ok(None);
     };
+    if let Some(told) = unnamed_side(alloc, all, join)? {
+        return Ok(Some(told));
+    }
     let tables = tables_of(alloc, catalog, table, before)?;
     why_unjoined(alloc, &tables, &own, join)
 }

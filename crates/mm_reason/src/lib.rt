@@ -2,7 +2,8 @@
 //! value, row or limit it was of one that is.
 //!
 //! ```text
-//!  line that is no command ──▶ syntax: the symbol where the parser stops, what may stand there, and hints
+//!  line that is no command ──▶ syntax: the symbol where the parser stops, and what may stand there
+//!                          ──▶ advice: what may help, by hints, beside and nearest
 //!  command                 ──▶ mm_resolver tells what is to blame ──▶ blamed, by declaring, joins, values and blocks
 //!  rows                    ──▶ rows: which key, which reference; referrers: who names the row
 //!  statement with values   ──▶ filled: the command that it is ──▶ as above ──▶ statements: the column of the value's question mark
@@ -16,7 +17,9 @@
 //! - Texts are cut where they are shown.
 #![tactic(auto)]
 
+mod advice;
 mod answered;
+mod beside;
 mod blamed;
 mod blocks;
 mod columns;
@@ -35,6 +38,7 @@ mod statements;
 mod syntax;
 mod tables;
 mod told;
+mod unfit;
 mod values;
 
 pub use answered::refusal_of;

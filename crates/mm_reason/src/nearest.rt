@@ -15,13 +15,13 @@ pub struct Nearest<'a, 'b> {
     found: Option<&'b str>,
 }
 
-// From how many edits on one word is too far from another: at most half of it may be wrong.
+// From how many edits on one word is too far from another: at most half of it may be wrong, and of four characters one.
 fn too_far(known: &str) -> usize {
-    known
-        .chars()
-        .count()
-        .div_ceil(2)
-        .min(MOST_EDITS.saturating_add(1))
+    match known.chars().count() {
+        0 | 1 => 1,
+        2..=4 => 2,
+        _ => MOST_EDITS.saturating_add(1),
+    }
 }
 
 impl<'a, 'b> Nearest<'a, 'b> {

@@ -82,8 +82,13 @@ fn full(alloc: Global, catalog: &Catalog, table: &Seen<'_>, before: usize) -> Re
     if rows < most {
         return Ok(None);
     }
-    let name = table.name;
-    tell(format!(in alloc; "{name} has {most} rows, and there can be no more"))
+    let (name, held) = (table.name, table.relation.len());
+    if before == 0 {
+        return tell(format!(in alloc; "{name} has {held} rows, and there can be no more"));
+    }
+    tell(format!(in alloc;
+        "{name} has {held} rows, {before} records come before this one, and a table has at most {most} rows"
+    ))
 }
 
 // Why a row is not put into a table behind these.

@@ -105,8 +105,8 @@ fn having<'a>(
     Ok(having)
 }
 
-// The name of a table that is near to a word, if one is.
-fn nearest_table<'a>(
+/// The name of a table that is near to a word, if one is.
+pub fn nearest_table<'a>(
     alloc: Global,
     catalog: &'a Catalog,
     word: &str,
@@ -172,8 +172,27 @@ pub fn why_no_column(
     if let Some(seen) = tables.iter().find(|seen| seen.name == table.as_str()) {
         return missing_everywhere(alloc, from_ref(seen), name.column.as_str());
     }
-    let (table, column) = (table.as_str(), name.column.as_str());
-    Ok(format!(in alloc; "{table} of {table}.{column} is no table of this command")?)
+    unnamed_table(alloc, tables, table.as_str(), name.column.as_str())
+}
+
+/// That the table before the name of a column is none of these.
+pub fn unnamed_table(
+    alloc: Global,
+    tables: &[Seen<'_>],
+    table: &str,
+    column: &str,
+) -> Result<String, NoMemory> {
+    let mut nearest = Nearest::of(table);
+    for seen in tables {
+        nearest.look_at(alloc, seen.name)?;
+    }
+    let words = match nearest.found() {
+        Some(near) => format!(in alloc;
+            "{table} of {table}.{column} is no table of this command: is {near} meant?"
+        )?,
+        None => format!(in alloc; "{table} of {table}.{column} is no table of this command")?,
+    };
+    Ok(words)
 }
 
 /// That there is no table of that name.

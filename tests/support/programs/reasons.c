@@ -234,7 +234,7 @@ static void a_query_has_its_reason(mmdb *db)
     mmdb_bytes reason;
     GIVES(mmdb_query(db, "insert emp (?, 5)", 17, NULL), MMDB_REFUSED);
     GIVES(mmdb_reason(db, "insert emp (?, 5)", 17, NULL, 0, &reason), MMDB_DONE);
-    CHECK(reads(reason, "column 13: wanted a value, found ?"));
+    CHECK(reads(reason, "column 13: wanted a value, found ?: a ? is allowed in prepared statements only"));
     GIVES(mmdb_query(db, "tables", 6, NULL), MMDB_REFUSED);
     GIVES(mmdb_prepare_reason(db, "tables", 6, &reason), MMDB_DONE);
     CHECK(reads(reason, "column 1: wanted insert, update, delete or select, found tables"));
