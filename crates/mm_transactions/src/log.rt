@@ -16,7 +16,7 @@ pub struct Step {
     start: usize,
 }
 
-// So many steps and references a log keeps room for when no transaction is open.
+// The most steps, and the most references, that a log keeps memory for when no transaction is open.
 const KEPT: usize = 256;
 
 /// The steps of the open transactions.
@@ -94,7 +94,7 @@ impl UndoLog {
         self.marks.pop()
     }
 
-    /// Where no transaction is open, forgets the steps, and gives memory back where they took much.
+    /// If no transaction is open, forgets the steps, and frees the memory that they took if it is much.
     pub fn settle(&mut self)
         ensures marks { self.new.marks ≡ self.old.marks }
         ensures inside { self.old.marks ≢ [] → self.new ≡ self.old }
@@ -192,7 +192,7 @@ fn make_room(steps: &mut Vec<Step>, refs: &mut Vec<TupleRef>) -> Result<(), NoMe
     Ok(())
 }
 
-// Empties a list, and gives its memory back where that is much.
+// Empties a list, and frees its memory if that is more than is kept.
 fn empty_list<T: Drop>(list: &mut Vec<T>)
     ensures { list.new.items ≡ [] }
 {
