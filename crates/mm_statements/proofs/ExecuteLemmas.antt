@@ -23,7 +23,6 @@ use Rattle.plain_statements.specs.StatementSpelling.{SpellsStatement}
 use Rattle.mm_cells.specs.declared.fault.CellFault.{CellFault}
 use Rattle.mm_cells.specs.declared.fault.CellFault.TheVariants as cells
 use Rattle.mm_session.specs.Changing.{HasChanged, HasDeclined, IsChange}
-use Rattle.mm_session.specs.OneRequest.{StaysInStream}
 use Rattle.mm_session.specs.Sessions.{State}
 use Rattle.mm_prepared.specs.Kept.{KeptStatement}
 use Rattle.mm_statements.specs.Databases.{DatabaseState, IsUnchanged}

@@ -1,5 +1,5 @@
 -- The columns that are told of a statement are the heading of the rows that it shows.
-use Rattle.std.proofs.Common.{◌≡◌, ◌≢◌, ◌∙◌, ℕ, Bool, true, false, cond, List, [], ◌∷◌, ◌++◌, Option, Some, None, Ok, Err, Result, length, map, refl, sym, ap, subst}
+use Rattle.std.proofs.Common.{◌≡◌, ◌≢◌, ◌∙◌, ℕ, true, false, cond, List, [], ◌∷◌, ◌++◌, Option, Some, None, Ok, Err, Result, length, map, refl, sym, ap, subst}
 use Rattle.std.specs.Prelude.{IfOk, slice_get, zip}
 use Rattle.std.specs.List.{flat_map}
 use Rattle.std.specs.Option.{option_map_or}
@@ -8,7 +8,7 @@ use Rattle.std.proofs.lemmas.Option.{same_Some}
 use Rattle.plain_tables.specs.Commands.{effect_of_resolved}
 use Rattle.plain_tables.specs.Databases.{Database}
 use Rattle.plain_tables.specs.Doing.{delete_checks, done, dump_checks, insert_checks, load_effect, loaded, on_table, update_checks}
-use Rattle.plain_tables.specs.Effects.{Changed, Check, Done, Dumped, Effect, Listed, Outcome, Refused, Rows, checked, refused}
+use Rattle.plain_tables.specs.Effects.{Check, Effect, Outcome, Rows, checked, refused}
 use Rattle.plain_tables.specs.Queries.{JoinedColumn}
 use Rattle.plain_tables.specs.References.{type_of}
 use Rattle.plain_tables.specs.declared.refusal.Refusal.TheVariants.{NoSuchTable}

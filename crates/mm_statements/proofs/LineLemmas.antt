@@ -1,5 +1,5 @@
 -- Requests whose lines spell statements with values.
-use Rattle.std.proofs.Common.{◌≡◌, ℕ, List, [], refl, sym, ap, ◌∙◌, subst, arith}
+use Rattle.std.proofs.Common.{◌≡◌, ℕ, List, refl, sym, ap, ◌∙◌, subst, arith}
 use Rattle.std.proofs.lemmas.Bool.{false≢true}
 use Rattle.plain_tables.specs.AnswerText.{answer_text}
 use Rattle.plain_tables.specs.CsvReading.{Record}

@@ -1,5 +1,5 @@
 -- Shared: what is said of a session that is the same as another.
-use Rattle.std.proofs.Common.{◌≡◌, ◌∙◌, ℕ, Bool, List, Option, refl, subst, sym, Err}
+use Rattle.std.proofs.Common.{◌≡◌, ℕ, Bool, List, Option, refl, subst, Err}
 use Rattle.std.specs.Result.{IsErrOf}
 use Rattle.plain_streams.specs.Requests.{Request}
 use Rattle.mm_session.specs.OneRequest.{GoesBetween}
