@@ -3,6 +3,8 @@ use Rattle.std.specs.Prelude.{IfOk}
 use Rattle.plain_tables.specs.Doing.{done}
 use Rattle.plain_tables.specs.ResolvedLaws.{IsMeant}
 use Rattle.plain_tables.specs.declared.resolved.Resolved.TheVariants as resolved
+use Rattle.mm_catalog.specs.Seen.{database_of}
+use Rattle.mm_catalog.specs.State.{CatalogState}
 use Rattle.mm_cells.specs.Values.{values_of}
 use Rattle.mm_session.specs.Changing.{ShowsValues}
 use Rattle.mm_session.specs.Sessions.{State}
@@ -10,9 +12,11 @@ use Rattle.mm_session.proofs.session.Session.select.Goals as goal
 
 pub select_values-requires : goal.select_values-requires
 select_values-requires c =
-    rw c.catalog.ensures (subst (λ (s : State). IsMeant s.limits s.database (resolved.Select c.args.query.now)) (sym c.self.view_is) c.requires)
+    subst (λ (k : CatalogState). IsMeant k.limits (database_of k) (resolved.Select c.args.query.now)) (sym c.catalog.ensures)
+    (subst (λ (s : State). IsMeant s.limits s.database (resolved.Select c.args.query.now)) (sym c.self.view_is) c.requires)
 
 pub returns-clause-shown : goal.returns-clause-shown
 returns-clause-shown c =
     subst (λ (s : State). IfOk c.select_values.result (λ columns. ShowsValues (done s.limits s.database (resolved.Select c.args.query.now)).outcome columns (values_of c.select_values.new.cells))) c.self.view_is
-    (rw c.catalog.ensures at c.select_values.ensures.shown)
+    (subst (λ (k : CatalogState). IfOk c.select_values.result (λ columns. ShowsValues (done k.limits (database_of k) (resolved.Select c.args.query.now)).outcome columns (values_of c.select_values.new.cells))) c.catalog.ensures
+    c.select_values.ensures.shown)
