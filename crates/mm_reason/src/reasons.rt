@@ -9,25 +9,21 @@ use crate::syntax::why_stopped;
 use crate::told::{Reason, Told, tell};
 use mm_catalog::Catalog;
 use mm_lang::{Line, Stopped, parse_or_stop};
-use mm_resolver::command_culprit;
+use mm_resolver::{Culprit, command_culprit};
 use mm_session::{Judged, LONGEST_LINE, judge_line, split_line};
 use plain_tables::{Command, Refusal};
 use std::alloc::Global;
 
-// Why a command is refused by the resolver, which resolves it again and tells what of it is to blame.
-fn of_names(
+/// Why a command is refused so, where this of it is to blame.
+pub fn blame(
     alloc: Global,
     catalog: &Catalog,
     command: &Command,
-    again: Command,
     block: &[u8],
+    culprit: Culprit,
     refusal: Refusal,
 ) -> Reason {
     let Some(parts) = Parts::of(alloc, command)? else {
-        return Ok(None);
-    };
-    let Some(Some(culprit)) = unless_refused(command_culprit(catalog, again, block, refusal))?
-    else {
         return Ok(None);
     };
     Blamed {
@@ -40,6 +36,37 @@ fn of_names(
     .reason(culprit)
 }
 
+// Why a command is refused by the resolver, which resolves it again and tells what of it is to blame.
+fn of_names(
+    alloc: Global,
+    catalog: &Catalog,
+    command: &Command,
+    again: Command,
+    block: &[u8],
+    refusal: Refusal,
+) -> Reason {
+    match unless_refused(command_culprit(catalog, again, block, refusal))? {
+        Some(Some(culprit)) => blame(alloc, catalog, command, block, culprit, refusal),
+        _ => Ok(None),
+    }
+}
+
+// That a block or a dump is too long, or that a block is cut short.
+fn of_length(
+    alloc: Global,
+    catalog: &Catalog,
+    command: &Command,
+    block: &[u8],
+    refusal: Refusal,
+) -> Reason {
+    match (command, refusal) {
+        (Command::Load { bytes, .. }, Refusal::BlockTooLong) => too_long(alloc, catalog, *bytes),
+        (Command::Load { bytes, .. }, Refusal::BlockCutShort) => cut_short(alloc, *bytes, block),
+        (Command::Dump { table }, Refusal::DumpTooLong) => too_long_dump(alloc, catalog, table),
+        _ => Ok(None),
+    }
+}
+
 /// Why a command is refused. It is passed twice: one is described, and the other is resolved again.
 pub fn of_command(
     alloc: Global,
@@ -49,14 +76,14 @@ pub fn of_command(
     block: &[u8],
     refusal: Refusal,
 ) -> Reason {
-    match (command, refusal) {
-        (Command::Load { bytes, .. }, Refusal::BlockTooLong) => too_long(alloc, catalog, *bytes),
-        (Command::Load { bytes, .. }, Refusal::BlockCutShort) => cut_short(alloc, *bytes, block),
-        (Command::Dump { table }, Refusal::DumpTooLong) => too_long_dump(alloc, catalog, table),
-        (_, Refusal::KeyExists { .. })
-        | (_, Refusal::NoReferencedRow { .. })
-        | (_, Refusal::TableFull { .. })
-        | (_, Refusal::RowIsReferenced) => refused_by_rows(alloc, catalog, again, block, refusal),
+    match refusal {
+        Refusal::BlockTooLong | Refusal::BlockCutShort | Refusal::DumpTooLong => {
+            of_length(alloc, catalog, command, block, refusal)
+        }
+        Refusal::KeyExists { .. }
+        | Refusal::NoReferencedRow { .. }
+        | Refusal::TableFull { .. }
+        | Refusal::RowIsReferenced => refused_by_rows(alloc, catalog, again, block, refusal),
         _ => of_names(alloc, catalog, command, again, block, refusal),
     }
 }
@@ -72,6 +99,21 @@ pub fn of_stop(alloc: Global, line: &str, stopped: Stopped, refusal: Refusal) ->
     Ok(Some(Told::of(why_stopped(alloc, line, stop)?)))
 }
 
+// Why the command that a line spells is refused, with the block behind it.
+fn of_spelled(
+    alloc: Global,
+    catalog: &Catalog,
+    line: &Line<'_>,
+    command: &Command,
+    block: &[u8],
+    refusal: Refusal,
+) -> Reason {
+    match parse_or_stop(alloc, line) {
+        Ok(again) => of_command(alloc, catalog, command, again, block, refusal),
+        Err(stopped) => of_stop(alloc, line.as_str(), stopped, refusal),
+    }
+}
+
 // Why a line that can be read is refused, with the block behind it.
 fn of_text(
     alloc: Global,
@@ -80,12 +122,8 @@ fn of_text(
     block: &[u8],
     refusal: Refusal,
 ) -> Reason {
-    let command = match parse_or_stop(alloc, line) {
-        Ok(command) => command,
-        Err(stopped) => return of_stop(alloc, line.as_str(), stopped, refusal),
-    };
     match parse_or_stop(alloc, line) {
-        Ok(again) => of_command(alloc, catalog, &command, again, block, refusal),
+        Ok(command) => of_spelled(alloc, catalog, line, &command, block, refusal),
         Err(stopped) => of_stop(alloc, line.as_str(), stopped, refusal),
     }
 }

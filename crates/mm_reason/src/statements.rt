@@ -1,19 +1,17 @@
 //! Why a line is kept as no statement, and why a statement is not done.
 
-use crate::blamed::Blamed;
 use crate::columns::column_of_hole;
 use crate::fault::{ReasonFault, unless_refused};
 use crate::filled::Filling;
-use crate::parts::Parts;
-use crate::reasons::{of_command, of_no_memory, of_stop, of_too_long, of_utf8};
+use crate::reasons::{blame, of_command, of_no_memory, of_stop, of_too_long, of_utf8};
 use crate::told::{Reason, Told, tell};
 use mm_catalog::Catalog;
 use mm_lang::{Line, ParseRefusal, parse_statement, parse_statement_or_stop};
-use mm_resolver::statement_culprit;
+use mm_resolver::{Culprit, statement_culprit};
 use mm_session::{Judged, LONGEST_LINE, judge_line};
 use no_memory::NoMemory;
 use plain_statements::{Slot, SlotCond, SlotSetting, Statement};
-use plain_tables::{Refusal, Value};
+use plain_tables::{Command, Refusal, Value};
 use std::alloc::Global;
 
 // The statement that a line spells, if it spells one.
@@ -25,30 +23,59 @@ fn statement_of(alloc: Global, line: &Line<'_>) -> Result<Option<Statement>, Rea
     }
 }
 
+// What of a statement is to blame whatever its values are, if it is refused so then.
+fn culprit_of(
+    alloc: Global,
+    catalog: &Catalog,
+    line: &Line<'_>,
+    refusal: Refusal,
+) -> Result<Option<Culprit>, ReasonFault> {
+    match statement_of(alloc, line)? {
+        Some(statement) => {
+            Ok(unless_refused(statement_culprit(catalog, statement, refusal))?.flatten())
+        }
+        None => Ok(None),
+    }
+}
+
+// The command that a line spells with these values, if it spells one.
+fn filled(
+    alloc: Global,
+    line: &Line<'_>,
+    values: &[Value],
+) -> Result<Option<Command>, ReasonFault> {
+    match statement_of(alloc, line)? {
+        Some(statement) => Ok(Some(Filling::of(alloc, values).command(statement)?)),
+        None => Ok(None),
+    }
+}
+
 // Why a line spells no statement, or one that is refused so whatever its values are.
 fn of_statement(alloc: Global, catalog: &Catalog, line: &Line<'_>, refusal: Refusal) -> Reason {
-    let statement = match parse_statement_or_stop(alloc, line) {
-        Ok(statement) => statement,
-        Err(stopped) => return of_stop(alloc, line.as_str(), stopped, refusal),
-    };
-    let Some(again) = statement_of(alloc, line)? else {
-        return Ok(None);
-    };
-    let Some(Some(culprit)) = unless_refused(statement_culprit(catalog, again, refusal))? else {
-        return Ok(None);
-    };
-    let command = Filling::of(alloc, &[]).command(statement)?;
-    let Some(parts) = Parts::of(alloc, &command)? else {
-        return Ok(None);
-    };
-    Blamed {
-        alloc,
-        catalog,
-        parts,
-        block: &[],
-        refusal,
+    if let Err(stopped) = parse_statement_or_stop(alloc, line) {
+        return of_stop(alloc, line.as_str(), stopped, refusal);
     }
-    .reason(culprit)
+    let Some(culprit) = culprit_of(alloc, catalog, line, refusal)? else {
+        return Ok(None);
+    };
+    match filled(alloc, line, &[])? {
+        Some(command) => blame(alloc, catalog, &command, &[], culprit, refusal),
+        None => Ok(None),
+    }
+}
+
+// Why the command that a line spells with these values is refused so.
+fn of_filled(
+    alloc: Global,
+    catalog: &Catalog,
+    command: &Command,
+    again: Option<Command>,
+    refusal: Refusal,
+) -> Reason {
+    match again {
+        Some(again) => of_command(alloc, catalog, command, again, &[], refusal),
+        None => Ok(None),
+    }
 }
 
 // Why the statement that a line spells is refused so with these values.
@@ -59,14 +86,18 @@ fn of_values(
     values: &[Value],
     refusal: Refusal,
 ) -> Reason {
-    let filling = Filling::of(alloc, values);
-    let (Some(statement), Some(again)) = (statement_of(alloc, line)?, statement_of(alloc, line)?)
-    else {
-        return Ok(None);
-    };
-    let command = filling.command(statement)?;
-    let again = filling.command(again)?;
-    of_command(alloc, catalog, &command, again, &[], refusal)
+    match filled(alloc, line, values)? {
+        Some(command) => {
+            of_filled(
+                alloc,
+                catalog,
+                &command,
+                filled(alloc, line, values)?,
+                refusal,
+            )
+        }
+        None => Ok(None),
+    }
 }
 
 // The slot of the value of a number in conditions.
@@ -101,23 +132,34 @@ fn slot_at(statement: &Statement, number: usize) -> Option<&Slot> {
     }
 }
 
+// The column of the question mark of the value of a number, where it has one.
+fn column_of_value(
+    alloc: Global,
+    line: &Line<'_>,
+    number: usize,
+) -> Result<Option<usize>, ReasonFault> {
+    let Some(statement) = statement_of(alloc, line)? else {
+        return Ok(None);
+    };
+    match slot_at(&statement, number) {
+        Some(Slot::Hole(hole)) => Ok(column_of_hole(line.as_str(), *hole)),
+        _ => Ok(None),
+    }
+}
+
 // The words of a reason, and the column of the question mark of the value that they are about, where it has one.
 fn pointed(alloc: Global, line: &Line<'_>, told: Told) -> Result<String, ReasonFault> {
     let Told { words, value } = told;
     let Some(number) = value else {
         return Ok(words);
     };
-    let Some(statement) = statement_of(alloc, line)? else {
-        return Ok(words);
-    };
-    let Some(Slot::Hole(hole)) = slot_at(&statement, number) else {
-        return Ok(words);
-    };
-    let Some(column) = column_of_hole(line.as_str(), *hole) else {
-        return Ok(words);
-    };
-    let pointed = format!(in alloc; "column {column}: {words}");
-    Ok(pointed.map_err(NoMemory::from)?)
+    match column_of_value(alloc, line, number)? {
+        Some(column) => {
+            let pointed = format!(in alloc; "column {column}: {words}");
+            Ok(pointed.map_err(NoMemory::from)?)
+        }
+        None => Ok(words),
+    }
 }
 
 // Why a line is kept as no statement.
