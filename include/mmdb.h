@@ -8,8 +8,10 @@
        mmdb_close(&db);
 
    A handle is one pointer, which is the library's. Make it MMDB_CLOSED before its first use; each call takes its
-   address. The calls on one handle come one after another; each thread may have handles of its own, which share
-   nothing. Nothing here is to be called from a signal handler.
+   address. Each handle is for one call at a time, whichever thread makes it, also where it is the second handle of a
+   call. A lock, or a thread's start or end, orders the calls on a handle. Calls on two handles may run at the same time.
+   Handles share no tables unless mmdb_share says so: then each of them reads the tables, and none changes them. To write,
+   have every other handle leave first. Nothing here is to be called from a signal handler.
 
    Nothing is kept on disk, and no call reads or writes a file or a socket. No call ends the process: one that runs out
    of memory gives MMDB_NO_MEMORY or `error 90`. Only mmdb_close frees what a handle holds.
@@ -109,16 +111,19 @@ typedef enum mmdb_status {
     MMDB_NO_LINE = 5,            /* a line that is null or has no bytes; a block, a piece or a name that is null and has
                                     some */
     MMDB_NOT_ONE_REQUEST = 6,    /* a line feed in a line; a line that asks for a block of another length than given */
-    MMDB_NO_MEMORY = 7,          /* mmdb_open, mmdb_prepare, mmdb_bind_text of more than 14 bytes, and the calls that tell
-                                    a reason: none was found. mmdb_feed: none for the answers; the stream is over */
+    MMDB_NO_MEMORY = 7,          /* mmdb_open, mmdb_share, mmdb_leave, mmdb_prepare, mmdb_bind_text of more than 14 bytes,
+                                    and the calls that tell a reason: none was found. mmdb_feed: none for the answers;
+                                    the stream is over */
     MMDB_ENDED = 8,              /* mmdb_feed of a stream that is over; the other calls go on */
     MMDB_NO_SUCH_STATEMENT = 9,  /* the number names no statement, or one that was finalised */
     MMDB_NO_SUCH_PLACE = 10,     /* the statement has no place of that number */
     MMDB_NOT_UTF8 = 11,          /* mmdb_bind_text of bytes that are not UTF-8 */
     MMDB_REFUSED = 12,           /* mmdb_prepare, mmdb_execute, mmdb_columns, mmdb_query: refused. mmdb_answer and
                                     mmdb_refusal tell why, as `error 41 key exists` and a line feed; nothing changed */
-    MMDB_TOO_LARGE = 13          /* mmdb_execute, mmdb_query: the texts of the rows are more than 4 GiB together;
+    MMDB_TOO_LARGE = 13,         /* mmdb_execute, mmdb_query: the texts of the rows are more than 4 GiB together;
                                     mmdb_prepare: the database has 4294967296 statements. Nothing changed */
+    MMDB_SHARED = 14             /* mmdb_execute and mmdb_query of a change; mmdb_command, mmdb_load, mmdb_feed: another
+                                    handle shares the tables. Nothing changed */
 } mmdb_status;
 
 /* How plans are chosen. No policy changes an answer, only what it costs. MMDB_AUTO is the one to take. */
@@ -144,7 +149,8 @@ uint32_t mmdb_open(mmdb *db, uint32_t policy, uint32_t rows, uint32_t block);
 /* Answers one line, which has no line feed. One carriage return at its end is dropped, so the line may be what stands
    before a line feed in any file. A line that asks for a block, as `load T 20` does, goes to mmdb_load.
    Gives MMDB_DONE and the answer, which is good until the next call on this handle: the bytes that the program mmdb
-   writes for the line, none for blanks and comments. Or gives MMDB_NOT_OPEN, MMDB_NO_LINE or MMDB_NOT_ONE_REQUEST. */
+   writes for the line, none for blanks and comments. Or gives MMDB_NOT_OPEN or MMDB_NO_LINE; or MMDB_SHARED, whatever
+   line it is; or MMDB_NOT_ONE_REQUEST. */
 uint32_t mmdb_command(mmdb *db, const void *line, size_t length, mmdb_bytes *answer);
 
 /* Answers one line with the block that it asks for: `load T 20` with 20 bytes. Answer and statuses are as those of
@@ -176,7 +182,8 @@ uint32_t mmdb_bind_null(mmdb *db, uint32_t statement, uint32_t place);
    Gives MMDB_DONE: and of a select its rows, which are good until this statement is executed again or finalised, or the
    handle is closed; of the others `changed`, and no rows. Or gives MMDB_REFUSED as the line with these values would be,
    in the same order, and by 90 when out of memory; MMDB_TOO_LARGE where the texts of its rows are more than 4 GiB
-   together; or MMDB_NOT_OPEN or MMDB_NO_SUCH_STATEMENT. */
+   together; MMDB_SHARED where it is no select, its names and values are right, and another handle shares the tables; or
+   MMDB_NOT_OPEN or MMDB_NO_SUCH_STATEMENT. */
 uint32_t mmdb_execute(mmdb *db, uint32_t statement, mmdb_rows *rows);
 
 /* The columns that the rows of a select have, whatever values are bound: a row for each, of two cells, its name as T.c
@@ -198,14 +205,16 @@ uint32_t mmdb_finalize(mmdb *db, uint32_t statement);
    whatever other calls there are; of the others `changed`, and no rows. Or gives MMDB_NOT_OPEN or MMDB_NO_LINE; or
    MMDB_REFUSED as mmdb_command would be answered, in the same order, and by 90 when out of memory. A line feed, a ? in
    no text, blanks, comments and all other commands are 20, once the line is neither too long (10) nor other than UTF-8
-   (11). Or gives MMDB_TOO_LARGE where the texts of the rows are more than 4 GiB together. */
+   (11). Or gives MMDB_TOO_LARGE where the texts of the rows are more than 4 GiB together; or MMDB_SHARED as mmdb_execute
+   does. */
 uint32_t mmdb_query(mmdb *db, const void *line, size_t length, mmdb_rows *rows);
 
 /* Takes the next bytes of a stream of lines and blocks, cut wherever it may be, and answers each request that ends in
    them, at its line feed or with the last byte of its block; mmdb_answer gives these answers. A request whose end is
    yet to come waits for the next piece. mmdb_command and mmdb_load stand beside the stream and leave what waits.
    Gives MMDB_DONE; MMDB_NOT_OPEN; MMDB_NO_LINE; MMDB_NO_MEMORY where the answers found no room, and then the stream is
-   over, and requests of this piece may have been done; or MMDB_ENDED where it was over before. */
+   over, and requests of this piece may have been done; MMDB_ENDED where it was over before; or MMDB_SHARED, and then the
+   piece was not taken, and the last answers have no bytes. */
 uint32_t mmdb_feed(mmdb *db, const void *piece, size_t length);
 
 /* Tells how the indexes of a table stand, by its name, beside the stream; it changes nothing. The answer is as that of a
@@ -254,8 +263,22 @@ uint32_t mmdb_prepare_reason(mmdb *db, const void *line, size_t length, mmdb_byt
    where none was found for the words. */
 uint32_t mmdb_statement_reason(mmdb *db, uint32_t statement, mmdb_bytes *reason);
 
-/* Closes a handle and frees all that it holds; its answers are no longer valid. It is MMDB_CLOSED then, and may be
-   opened again. Of a closed handle and of null nothing is done. */
+/* Has a second handle share the tables of a first, and its stream, in the place of its own. A closed reader is open then,
+   without statements. Where it was open, its statements with their values, its rows and its answers stay. All is as it
+   was of db. While two handles share tables, each reads them by mmdb_execute and mmdb_query of a select, and neither
+   changes them (MMDB_SHARED). Both are in a call here.
+   Gives MMDB_DONE; or MMDB_NOT_OPEN where db is closed or a handle is null, or MMDB_NO_MEMORY, and then reader is as it
+   was. */
+uint32_t mmdb_share(mmdb *db, mmdb *reader);
+
+/* Has a handle leave its tables, which are freed where no other handle shares them. It has none then, and a new stream.
+   Its statements with their values, its rows and its answers stay: a statement is refused by 30 until the handle shares
+   or declares its tables again.
+   Gives MMDB_DONE; or MMDB_NOT_OPEN or MMDB_NO_MEMORY, and then it is as it was. */
+uint32_t mmdb_leave(mmdb *reader);
+
+/* Closes a handle and frees all that it holds; its answers are no longer valid. Tables that another handle shares stay.
+   It is MMDB_CLOSED then, and may be opened again. Of a closed handle and of null nothing is done. */
 void mmdb_close(mmdb *db);
 
 /* The cell of a row and a column, both numbered from 0. Neither is past the last: that isn't checked. */
@@ -303,6 +326,8 @@ static inline const char *mmdb_status_text(uint32_t status)
         return "refused, as the answer tells";
     case MMDB_TOO_LARGE:
         return "more than 4 GiB of texts, or 4294967296 statements";
+    case MMDB_SHARED:
+        return "another handle shares the tables";
     default:
         return "no such status";
     }
@@ -518,6 +543,18 @@ static inline mmdb_status mmdb_checked_statement_reason(mmdb *db, uint32_t state
     return mmdb_checked_is_closed(db) ? MMDB_NOT_OPEN : mmdb_checked_status(mmdb_statement_reason(db, statement, to));
 }
 
+static inline mmdb_status mmdb_checked_share(mmdb *db, mmdb *reader)
+{
+    if (mmdb_checked_is_closed(db) || !reader)
+        return MMDB_NOT_OPEN;
+    return db == reader ? MMDB_DONE : mmdb_checked_status(mmdb_share(db, reader));
+}
+
+static inline mmdb_status mmdb_checked_leave(mmdb *reader)
+{
+    return mmdb_checked_is_closed(reader) ? MMDB_NOT_OPEN : mmdb_checked_status(mmdb_leave(reader));
+}
+
 static inline void mmdb_checked_close(mmdb *db)
 {
     if (!mmdb_checked_is_closed(db))
@@ -542,6 +579,8 @@ static inline void mmdb_checked_close(mmdb *db)
 #define mmdb_reason mmdb_checked_reason
 #define mmdb_prepare_reason mmdb_checked_prepare_reason
 #define mmdb_statement_reason mmdb_checked_statement_reason
+#define mmdb_share mmdb_checked_share
+#define mmdb_leave mmdb_checked_leave
 #define mmdb_close mmdb_checked_close
 
 #ifdef __cplusplus

@@ -2,10 +2,13 @@
 
 ghost use Rattle.std.specs.Prelude.{◌≡◌, ◌≤◌, ◌↔◌, IsTrue, IsErrOf, IfOk, OnOk, OnErr};
 ghost use Rattle.plain_streams.specs.Division.{IsWhole};
+ghost use Rattle.mm_statements.specs.declared.faults.RequestFault.TheVariants as request_fault;
+ghost use Rattle.mm_statements.specs.declared.faults.StreamFault.TheVariants as stream_fault;
 
 use mm_cells::Cells;
 use mm_reason::{ReasonFault, reason, refusal_of};
-use mm_session::{Answer, NotOneRequest, SessionFault};
+use mm_session::Answer;
+use mm_statements::{RequestFault, StreamFault};
 use plain_tables::{Limits, NoMemory};
 use plan_chooser::Policy;
 use std::alloc::Global;
@@ -24,6 +27,7 @@ pub struct Database {
 
 impl Database {
     ghost use Rattle.mmdb_c.specs.Calls.{request, IsNew, AnswersRequest, TellsIndexes, TakesPiece, LosesStream, IsAsBefore};
+    ghost use Rattle.mmdb_c.specs.Sharing.{LosesAnswer};
 
     /// A database with no tables and no statements, an empty answer and an empty reason.
     pub fn new(alloc: Global, policy: Policy, limits: Limits) -> Result<Database, NoMemory>
@@ -41,9 +45,9 @@ impl Database {
     }
 
     /// Answers the request of a line and a block, beside the stream.
-    pub fn answer_request(&mut self, line: &[u8], block: &[u8]) -> Result<(), NotOneRequest>
+    pub fn answer_request(&mut self, line: &[u8], block: &[u8]) -> Result<(), RequestFault>
         ensures ok { OnOk result (AnswersRequest (request line.now block.now) self.old self.new) }
-        ensures err { OnErr result (¬ (IsWhole (request line.now block.now))) }
+        ensures err { IsErrOf result request_fault.NotOneRequest → ¬ (IsWhole (request line.now block.now)) }
         ensures unchanged { OnErr result (self.new ≡ self.old) }
     {
         self.inner.answer_request(line, block, &mut self.answer)
@@ -57,14 +61,15 @@ impl Database {
     }
 
     /// Takes the next bytes of the stream, and keeps the answers of the requests that end in them.
-    pub fn feed(&mut self, piece: &[u8]) -> Result<(), SessionFault>
+    pub fn feed(&mut self, piece: &[u8]) -> Result<(), StreamFault>
         ensures ok { OnOk result (TakesPiece piece.now self.old self.new) }
-        ensures write { IsErrOf result SessionFault.Write → LosesStream piece.now self.old self.new }
-        ensures ended { IsErrOf result SessionFault.Ended ↔ IsTrue self.old.inner.session.ended }
-        ensures unchanged { IsErrOf result SessionFault.Ended → self.new ≡ self.old }
+        ensures write { IsErrOf result stream_fault.Write → LosesStream piece.now self.old self.new }
+        ensures ended { IsErrOf result stream_fault.Ended ↔ IsTrue self.old.inner.session.ended }
+        ensures unchanged { IsErrOf result stream_fault.Ended → self.new ≡ self.old }
+        ensures shared { IsErrOf result stream_fault.Shared → LosesAnswer self.old self.new }
     {
         if self.inner.session().has_ended() {
-            return Err(SessionFault::Ended);
+            return Err(StreamFault::Ended);
         }
         self.answer.clear();
         self.inner.feed(piece, &mut self.answer)

@@ -4,6 +4,8 @@
 //! the database out of the handle, does what the call of the session or the statements does, and puts it back. The header that C reads is `include/mmdb.h`.
 //!
 //! - A handle that is closed owns nothing, and a call on it does nothing.
+//! - Several handles may share a session. Each has statements, answers and rows of its own. While they share it none of them changes its
+//!   tables.
 //! - After each status but `DONE` the tables are as they were, unless a piece found no room for its answers.
 #![tactic(auto)]
 
@@ -12,18 +14,21 @@ ghost use Rattle.std.specs.Vec.{vec_ptr, vec_len};
 ghost use Rattle.plain_streams.specs.Division.{IsWhole};
 ghost use Rattle.mm_session.specs.Refused.{TellsRefusal};
 ghost use Rattle.mmdb_c.specs.Calls.{AreLimits, IsNew, request, Becomes, AnswersRequest, TellsIndexes, TakesPiece, LosesStream, IsAsBefore};
+ghost use Rattle.mmdb_c.specs.Sharing.{LosesAnswer};
 
 mod database;
 mod handle;
 pub mod reason_calls;
 mod reasons;
 mod rows;
+mod sharing;
+pub mod sharing_calls;
 pub mod statement_calls;
 mod statements;
 
 use crate::database::Database;
 use crate::handle::Handle;
-use mm_session::SessionFault;
+use mm_statements::{RequestFault, StreamFault};
 use no_memory::NoMemory;
 use plain_tables::{LONGEST_BLOCK, Limits, MOST_ROWS};
 use plan_chooser::Policy;
@@ -56,6 +61,8 @@ const NOT_UTF8: u32 = 11;
 const REFUSED: u32 = 12;
 
 const TOO_LARGE: u32 = 13;
+
+const SHARED: u32 = 14;
 
 /// The bytes of an answer.
 #[repr(C)]
@@ -125,8 +132,9 @@ fn answer_request(
 ) -> u32
     ensures not_open { (result ≡ NOT_OPEN) ↔ IsNone handle.old.database }
     ensures no_line { (result ≡ NO_LINE) ↔ (IsSome handle.old.database × (line.now ≡ [])) }
-    ensures not_one_request { (result ≡ NOT_ONE_REQUEST) ↔ (IsSome handle.old.database × (line.now ≢ []) × ¬ (IsWhole (request line.now block.now))) }
-    ensures one_request { IsSome handle.old.database × (line.now ≢ []) × IsWhole (request line.now block.now) → result ≡ DONE }
+    ensures not_one_request { result ≡ NOT_ONE_REQUEST → IsSome handle.old.database × (line.now ≢ []) × ¬ (IsWhole (request line.now block.now)) }
+    ensures one_request { IsSome handle.old.database × (line.now ≢ []) × IsWhole (request line.now block.now) → (result ≡ DONE) ⊎ (result ≡ SHARED) }
+    ensures judged { IsSome handle.old.database × (line.now ≢ []) → (result ≡ DONE) ⊎ ((result ≡ NOT_ONE_REQUEST) ⊎ (result ≡ SHARED)) }
     ensures done { result ≡ DONE → Becomes handle.old.database handle.new.database (AnswersRequest (request line.now block.now)) }
     ensures told { result ≡ DONE → IsSomeAnd handle.new.database (λ d. answer.new.length ≡ length d.answer) }
     ensures unchanged { result ≢ DONE → (handle.new.database ≡ handle.old.database) × (answer.new ≡ answer.old) }
@@ -138,13 +146,16 @@ fn answer_request(
         handle.put(alloc, database);
         return NO_LINE;
     }
-    if database.answer_request(line, block).is_err() {
-        handle.put(alloc, database);
-        return NOT_ONE_REQUEST;
+    let answered = database.answer_request(line, block);
+    if answered.is_ok() {
+        tell(database.answer.as_vec(), answer);
     }
-    tell(database.answer.as_vec(), answer);
     handle.put(alloc, database);
-    DONE
+    match answered {
+        Ok(()) => DONE,
+        Err(RequestFault::NotOneRequest) => NOT_ONE_REQUEST,
+        Err(RequestFault::Shared) => SHARED,
+    }
 }
 
 /// Answers one command line, given without its line feed, beside the stream.
@@ -157,8 +168,9 @@ pub extern "C" fn mmdb_command(
 ) -> u32
     ensures not_open { (result ≡ NOT_OPEN) ↔ IsNone handle.old.database }
     ensures no_line { (result ≡ NO_LINE) ↔ (IsSome handle.old.database × (line.now ≡ [])) }
-    ensures not_one_request { (result ≡ NOT_ONE_REQUEST) ↔ (IsSome handle.old.database × (line.now ≢ []) × ¬ (IsWhole (request line.now []))) }
-    ensures one_request { IsSome handle.old.database × (line.now ≢ []) × IsWhole (request line.now []) → result ≡ DONE }
+    ensures not_one_request { result ≡ NOT_ONE_REQUEST → IsSome handle.old.database × (line.now ≢ []) × ¬ (IsWhole (request line.now [])) }
+    ensures one_request { IsSome handle.old.database × (line.now ≢ []) × IsWhole (request line.now []) → (result ≡ DONE) ⊎ (result ≡ SHARED) }
+    ensures judged { IsSome handle.old.database × (line.now ≢ []) → (result ≡ DONE) ⊎ ((result ≡ NOT_ONE_REQUEST) ⊎ (result ≡ SHARED)) }
     ensures done { result ≡ DONE → Becomes handle.old.database handle.new.database (AnswersRequest (request line.now [])) }
     ensures told { result ≡ DONE → IsSomeAnd handle.new.database (λ d. answer.new.length ≡ length d.answer) }
     ensures unchanged { result ≢ DONE → (handle.new.database ≡ handle.old.database) × (answer.new ≡ answer.old) }
@@ -177,8 +189,9 @@ pub extern "C" fn mmdb_load(
 ) -> u32
     ensures not_open { (result ≡ NOT_OPEN) ↔ IsNone handle.old.database }
     ensures no_line { (result ≡ NO_LINE) ↔ (IsSome handle.old.database × (line.now ≡ [])) }
-    ensures not_one_request { (result ≡ NOT_ONE_REQUEST) ↔ (IsSome handle.old.database × (line.now ≢ []) × ¬ (IsWhole (request line.now block.now))) }
-    ensures one_request { IsSome handle.old.database × (line.now ≢ []) × IsWhole (request line.now block.now) → result ≡ DONE }
+    ensures not_one_request { result ≡ NOT_ONE_REQUEST → IsSome handle.old.database × (line.now ≢ []) × ¬ (IsWhole (request line.now block.now)) }
+    ensures one_request { IsSome handle.old.database × (line.now ≢ []) × IsWhole (request line.now block.now) → (result ≡ DONE) ⊎ (result ≡ SHARED) }
+    ensures judged { IsSome handle.old.database × (line.now ≢ []) → (result ≡ DONE) ⊎ ((result ≡ NOT_ONE_REQUEST) ⊎ (result ≡ SHARED)) }
     ensures done { result ≡ DONE → Becomes handle.old.database handle.new.database (AnswersRequest (request line.now block.now)) }
     ensures told { result ≡ DONE → IsSomeAnd handle.new.database (λ d. answer.new.length ≡ length d.answer) }
     ensures unchanged { result ≢ DONE → (handle.new.database ≡ handle.old.database) × (answer.new ≡ answer.old) }
@@ -214,9 +227,10 @@ pub extern "C" fn mmdb_indexes(
 pub extern "C" fn mmdb_feed(alloc: Global, handle: &mut Handle, piece: &[u8]) -> u32
     ensures not_open { (result ≡ NOT_OPEN) ↔ IsNone handle.old.database }
     ensures ended { (result ≡ ENDED) ↔ IsSomeAnd handle.old.database (λ d. IsTrue d.inner.session.ended) }
-    ensures goes_on { IsSomeAnd handle.old.database (λ d. d.inner.session.ended ≡ false) → (result ≡ DONE) ⊎ (result ≡ NO_MEMORY) }
+    ensures goes_on { IsSomeAnd handle.old.database (λ d. d.inner.session.ended ≡ false) → (result ≡ DONE) ⊎ ((result ≡ NO_MEMORY) ⊎ (result ≡ SHARED)) }
     ensures done { result ≡ DONE → Becomes handle.old.database handle.new.database (TakesPiece piece.now) }
     ensures no_memory { result ≡ NO_MEMORY → Becomes handle.old.database handle.new.database (LosesStream piece.now) }
+    ensures shared { result ≡ SHARED → Becomes handle.old.database handle.new.database LosesAnswer }
     ensures unchanged { (result ≡ NOT_OPEN) ⊎ (result ≡ ENDED) → handle.new.database ≡ handle.old.database }
 {
     let Some(mut database) = handle.take(alloc) else {
@@ -226,8 +240,9 @@ pub extern "C" fn mmdb_feed(alloc: Global, handle: &mut Handle, piece: &[u8]) ->
     handle.put(alloc, database);
     match fed {
         Ok(()) => DONE,
-        Err(SessionFault::Write) => NO_MEMORY,
-        Err(SessionFault::Ended) => ENDED,
+        Err(StreamFault::Write) => NO_MEMORY,
+        Err(StreamFault::Ended) => ENDED,
+        Err(StreamFault::Shared) => SHARED,
     }
 }
 
@@ -298,7 +313,7 @@ pub extern "C" fn mmdb_reason(
     DONE
 }
 
-/// Closes the handle, and frees its database where it was open.
+/// Closes the handle, and frees its database where it was open. The tables go with the last handle that shares them.
 #[unsafe(no_mangle)]
 pub extern "C" fn mmdb_close(alloc: Global, handle: &mut Handle)
     ensures { handle.new.database ≡ None }

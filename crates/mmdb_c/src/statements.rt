@@ -40,6 +40,8 @@ pub enum Unexecuted {
     Refused,
     /// Cells have no numbers for the texts that it shows.
     TooLong,
+    /// It changes the tables, which another handle shares.
+    Shared,
 }
 
 // Makes sure of cells for the values that the statement of a number shows.
@@ -59,6 +61,7 @@ impl Database {
     ghost use Rattle.mm_cells.specs.Reading.{AreFull};
     ghost use Rattle.mm_cells.specs.Values.{values_of};
     ghost use Rattle.mm_statements.specs.Executing.{IsDeclined};
+    ghost use Rattle.mmdb_c.specs.Sharing.{IsKeptOff, IsLineKeptOff};
 
     /// Keeps the statement that a line spells; the answer is empty then. Where it is refused, that is the answer, and at another fault
     /// the answer stays.
@@ -139,6 +142,7 @@ impl Database {
         ensures none { result ≡ Err unexecuted.NoSuchStatement → IsMissing number self.old × (self.new ≡ self.old) }
         ensures refused { IsErrOf result unexecuted.Refused → IsUnexecuted number self.old self.new }
         ensures too_long { result ≡ Err unexecuted.TooLong → AreFull (shown_by self.new number) }
+        ensures shared { IsErrOf result unexecuted.Shared → IsKeptOff number self.old self.new }
         ensures unchanged { OnErr result (KeepsAll self.old self.new) }
         ensures others { KeepsOthers number self.old self.new }
         ensures untold { OnErr result (rows.new ≡ rows.old) }
@@ -160,6 +164,7 @@ impl Database {
                 Err(Unexecuted::Refused)
             }
             Err(ExecuteFault::TooLong) => Err(Unexecuted::TooLong),
+            Err(ExecuteFault::Shared) => Err(Unexecuted::Shared),
         }
     }
 
@@ -173,6 +178,7 @@ impl Database {
         ensures fits { result ≢ Err unexecuted.TooLong }
         ensures unchanged { KeepsAll self.old self.new }
         ensures shown { KeepsShown self.old self.new }
+        ensures reads { ¬ (IsErrOf result unexecuted.Shared) }
     {
         let number = number as usize;
         if !self.inner.has(number) {
@@ -187,6 +193,8 @@ impl Database {
                 Err(Unexecuted::Refused)
             }
             Err(ExecuteFault::TooLong) => Err(Unexecuted::TooLong),
+            // It changes no tables.
+            Err(ExecuteFault::Shared) => unreachable!(),
         }
     }
 
@@ -194,8 +202,9 @@ impl Database {
     /// kept; where it is refused, that is the answer, and else the answer is empty.
     pub fn query(&mut self, alloc: Global, line: &[u8], rows: &mut Rows) -> Result<(), QueryFault>
         ensures done { OnOk result (Queries line.now self.old self.new rows.new) }
-        ensures refused { IfErr result (λ e. e ≢ querying.TooLong → IsUnqueried line.now self.old self.new) }
+        ensures refused { IfErr result (λ e. e ≢ querying.TooLong → e ≢ querying.Shared → IsUnqueried line.now self.old self.new) }
         ensures too_long { result ≡ Err querying.TooLong → AreFull (values_of self.new.queried) }
+        ensures shared { IsErrOf result querying.Shared → IsLineKeptOff line.now self.old self.new }
         ensures unchanged { OnErr result (KeepsAll self.old self.new) }
         ensures statements { KeepsStatements self.old self.new }
         ensures untold { OnErr result (rows.new ≡ rows.old) }
@@ -211,6 +220,7 @@ impl Database {
                 Err(QueryFault::Refused(why))
             }
             Err(QueryFault::TooLong) => Err(QueryFault::TooLong),
+            Err(QueryFault::Shared) => Err(QueryFault::Shared),
         }
     }
 }

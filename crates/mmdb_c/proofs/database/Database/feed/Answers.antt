@@ -16,3 +16,12 @@ returns-clause-write c is = record {
   statements = c.feed.ensures.statements;
   rows = record { shown = refl; queried = refl; columns = refl };
 }
+
+pub returns-clause-shared : goal.returns-clause-shared
+returns-clause-shared c is =
+    let same = c.feed.ensures.shared is in
+    record {
+      inner = record { session = same.0; statements = c.feed.ensures.statements };
+      rows = record { shown = refl; queried = refl; columns = refl };
+      answer = same.1 ∙ c.clear.ensures;
+    }
