@@ -12,6 +12,7 @@ use crate::limits::{Limits, Policy};
 use crate::line::{first_word, has_places, is_change, is_select};
 use crate::outcome::{count_of, Outcome};
 use crate::params::{Params, Values};
+use crate::readers::Readers;
 use crate::row::Row;
 use crate::rows::{MappedRows, Rows, RowsRef};
 use crate::session::Session;
@@ -38,12 +39,53 @@ impl Database {
     /// It is refused with the number 90 when out of memory, and by [`Error::OutOfRange`] if the limits are out of
     /// range.
     pub fn open(policy: Policy, limits: Limits) -> Result<Database> {
-        let handle = Handle::open(policy as u32, limits.rows, limits.block)?;
-        Ok(Database {
-            session: Session::over(handle),
-            known: Known::default(),
-            lines: Lines::default(),
-        })
+        Handle::open(policy as u32, limits.rows, limits.block).map(Database::over)
+    }
+
+    /// Lends the database to readers, each for a thread of its own. While it is lent a change of it doesn't compile.
+    ///
+    /// ```
+    /// let mut db = mmdb::Database::open_in_memory()?;
+    /// db.execute("table t (id int, s text)", [])?;
+    /// db.execute("insert t (1, 'a')", [])?;
+    /// let readers = db.readers();
+    /// std::thread::scope(|threads| {
+    ///     for _ in 0..4 {
+    ///         threads.spawn(|| {
+    ///             let reader = readers.reader().unwrap();
+    ///             let mut find = reader.prepare("select s from t where id = ?").unwrap();
+    ///             let text: String = find.query_row([1], |row| row.get(0)).unwrap();
+    ///             assert_eq!(text, "a");
+    ///         });
+    ///     }
+    /// });
+    /// db.execute("insert t (2, 'b')", [])?;
+    /// # Ok::<(), mmdb::Error>(())
+    /// ```
+    ///
+    /// No change is made while there are readers:
+    ///
+    /// ```compile_fail,E0502
+    /// let mut db = mmdb::Database::open_in_memory()?;
+    /// let readers = db.readers();
+    /// db.execute("table t (id int)", [])?;
+    /// readers.reader()?;
+    /// # Ok::<(), mmdb::Error>(())
+    /// ```
+    ///
+    /// And no reader is there once they end:
+    ///
+    /// ```compile_fail,E0597
+    /// let mut db = mmdb::Database::open_in_memory()?;
+    /// let reader = {
+    ///     let readers = db.readers();
+    ///     readers.reader()?
+    /// };
+    /// reader.query("select * from t", [])?;
+    /// # Ok::<(), mmdb::Error>(())
+    /// ```
+    pub fn readers(&mut self) -> Readers<'_> {
+        Readers::of(self)
     }
 
     /// Prepares an insert, an update, a delete or a select, to be executed more than once. [`Error::NotAStatement`]
@@ -298,6 +340,19 @@ impl Database {
             line,
             reason: None,
         })
+    }
+
+    fn over(handle: Handle) -> Database {
+        Database {
+            session: Session::over(handle),
+            known: Known::default(),
+            lines: Lines::default(),
+        }
+    }
+
+    /// Another database that shares the tables.
+    pub(crate) fn reader(&self) -> Result<Database> {
+        self.handle().share().map(Database::over)
     }
 
     pub(crate) fn handle(&self) -> &Handle {

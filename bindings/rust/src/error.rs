@@ -122,6 +122,8 @@ pub enum Error {
     Other(String),
     /// The texts of the rows that a select gives are more than 4 GiB together, or the database has 4294967296 statements.
     TooLarge,
+    /// A reader of the tables was forgotten and never dropped ([`std::mem::forget`]), so that nobody may change them.
+    Shared,
     /// The library answered with a status that has no place there.
     Status(u32),
 }
@@ -211,6 +213,7 @@ impl fmt::Display for Error {
                 to,
                 "the texts of the rows are more than 4 GiB, or there are 4294967296 statements"
             ),
+            Error::Shared => write!(to, "a reader that was forgotten shares the tables"),
             Error::Status(status) => write!(to, "the library answers {status}"),
             other => other.fmt_of_values(to),
         }

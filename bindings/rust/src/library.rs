@@ -15,6 +15,7 @@ const NOT_ONE_REQUEST: u32 = 6;
 const NO_MEMORY: u32 = 7;
 const REFUSED: u32 = 12;
 const TOO_LARGE: u32 = 13;
+const SHARED: u32 = 14;
 
 /// The `mmdb` of mmdb.h.
 #[repr(C)]
@@ -119,6 +120,7 @@ extern "C" {
     ) -> u32;
     fn mmdb_prepare_reason(db: *mut Inside, line: *const u8, length: usize, reason: *mut Told) -> u32;
     fn mmdb_statement_reason(db: *mut Inside, statement: u32, reason: *mut Told) -> u32;
+    fn mmdb_share(db: *mut Inside, reader: *mut Inside) -> u32;
     fn mmdb_close(db: *mut Inside);
 }
 
@@ -146,6 +148,8 @@ pub(crate) enum Declined {
     NoMemory,
     /// The texts of its rows are more than 4 GiB, or there are too many statements.
     TooLarge,
+    /// It is a change, and a reader shares the tables.
+    Shared,
     /// The library gave another status.
     Status(u32),
 }
@@ -157,9 +161,9 @@ pub(crate) struct Handle {
     told: Changing<Told>,
 }
 
-// SAFETY: what the pointers lead to belongs to this handle alone, and is reached by no other. The library keeps nothing
-// that is a thread's own, and asks only that the calls on one handle come one after another. They do, as the handle isn't
-// `Sync`, and no call is made out of another.
+// SAFETY: what the pointers lead to belongs to this handle alone, but for tables that handles share, which none of them changes
+// then. That both may go to another thread is proved of the library. It asks only that the calls on one handle come one after
+// another. They do, as the handle isn't `Sync`, and no call is made out of another.
 unsafe impl Send for Handle {}
 
 impl Handle {
@@ -169,13 +173,30 @@ impl Handle {
         };
         // SAFETY: the handle is closed, as null says.
         match unsafe { mmdb_open(&mut inside, policy, rows, block) } {
-            IS_DONE => Ok(Handle {
-                inside: UnsafeCell::new(inside),
-                told: Changing::new(Told::NOTHING),
-            }),
+            IS_DONE => Ok(Handle::over(inside)),
             LIMIT_OUT_OF_RANGE => Err(Error::OutOfRange),
             NO_MEMORY => Err(Error::no_memory(String::new(), String::new())),
             status => Err(Error::Status(status)),
+        }
+    }
+
+    /// Another handle that shares the tables.
+    pub(crate) fn share(&self) -> Result<Handle, Error> {
+        let mut reader = Inside {
+            inside: ptr::null_mut(),
+        };
+        // SAFETY: this handle is open, and the other, which is another, is closed, as null says.
+        match unsafe { mmdb_share(self.inside.get(), &mut reader) } {
+            IS_DONE => Ok(Handle::over(reader)),
+            NO_MEMORY => Err(Error::no_memory(String::new(), String::new())),
+            status => Err(Error::Status(status)),
+        }
+    }
+
+    fn over(inside: Inside) -> Handle {
+        Handle {
+            inside: UnsafeCell::new(inside),
+            told: Changing::new(Told::NOTHING),
         }
     }
 
@@ -333,6 +354,7 @@ fn done(status: u32) -> Result<(), Declined> {
         NO_MEMORY => Err(Declined::NoMemory),
         REFUSED => Err(Declined::Refused),
         TOO_LARGE => Err(Declined::TooLarge),
+        SHARED => Err(Declined::Shared),
         status => Err(Declined::Status(status)),
     }
 }
@@ -342,6 +364,7 @@ fn answered(status: u32) -> Result<(), Error> {
     match status {
         IS_DONE | NO_LINE => Ok(()),
         NOT_ONE_REQUEST => Err(Error::NotOneRequest),
+        SHARED => Err(Error::Shared),
         status => Err(Error::Status(status)),
     }
 }

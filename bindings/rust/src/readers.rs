@@ -1,0 +1,97 @@
+//! Readers: each reads the tables of one database in a thread of its own.
+
+use std::fmt;
+use std::marker::PhantomData;
+use std::sync::{Mutex, PoisonError};
+
+use crate::database::Database;
+use crate::error::{Error, Result};
+use crate::index::Index;
+use crate::line::is_select;
+use crate::params::Params;
+use crate::row::Row;
+use crate::rows::{MappedRows, Rows};
+use crate::statement::Statement;
+
+/// What makes the readers of a database, by [`Database::readers`]. The database is lent meanwhile, so that nobody changes it.
+pub struct Readers<'db> {
+    /// Readers are made one after another.
+    database: Mutex<&'db mut Database>,
+}
+
+impl<'db> Readers<'db> {
+    pub(crate) fn of(database: &'db mut Database) -> Readers<'db> {
+        Readers {
+            database: Mutex::new(database),
+        }
+    }
+
+    /// A reader of the tables, for a thread of its own.
+    ///
+    /// It is refused with the number 90 when out of memory.
+    pub fn reader(&self) -> Result<Reader<'_>> {
+        let database = self.database.lock().unwrap_or_else(PoisonError::into_inner);
+        Ok(Reader {
+            database: database.reader()?,
+            lent: PhantomData,
+        })
+    }
+}
+
+/// A reader of the tables of a database, with statements and rows of its own. It can be sent to another thread, and reads while
+/// other readers do. Its calls are those of [`Database`] for selects; [`Error::NotASelect`] says that a line is another command.
+pub struct Reader<'r> {
+    database: Database,
+    /// It ends before what made it.
+    lent: PhantomData<&'r ()>,
+}
+
+impl Reader<'_> {
+    /// Prepares a select, to be executed more than once.
+    pub fn prepare(&self, line: &str) -> Result<Statement<'_>> {
+        match is_select(line) {
+            true => self.database.prepare(line),
+            false => Err(Error::NotASelect),
+        }
+    }
+
+    /// The rows of a select.
+    pub fn query<P: Params>(&self, line: &str, params: P) -> Result<Rows> {
+        self.database.query(line, params)
+    }
+
+    /// What a function makes of each row of a select, in order.
+    pub fn query_map<T, P, F>(&self, line: &str, params: P, map: F) -> Result<MappedRows<F>>
+    where
+        P: Params,
+        F: FnMut(&Row<'_>) -> Result<T>,
+    {
+        self.database.query_map(line, params, map)
+    }
+
+    /// What a function makes of the first row of a select. [`Error::NoRows`] says that there is none.
+    pub fn query_row<T, P, F>(&self, line: &str, params: P, read: F) -> Result<T>
+    where
+        P: Params,
+        F: FnOnce(&Row<'_>) -> Result<T>,
+    {
+        self.database.query_row(line, params, read)
+    }
+
+    /// The state of the indexes of a table.
+    pub fn indexes(&self, table: &str) -> Result<Vec<Index>> {
+        self.database.indexes(table)
+    }
+}
+
+impl fmt::Debug for Readers<'_> {
+    fn fmt(&self, to: &mut fmt::Formatter<'_>) -> fmt::Result {
+        to.debug_struct("Readers").finish_non_exhaustive()
+    }
+}
+
+impl fmt::Debug for Reader<'_> {
+    fn fmt(&self, to: &mut fmt::Formatter<'_>) -> fmt::Result {
+        to.debug_struct("Reader").finish_non_exhaustive()
+    }
+}
