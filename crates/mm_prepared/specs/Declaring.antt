@@ -1,5 +1,7 @@
--- Declaring: which lines may change the names and columns of tables.
-use Rattle.std.specs.Prelude.{ℕ, List, [], ◌∷◌, Bool, true, false, if◌then◌else◌, IsTrue}
+-- Declaring: which lines may change the names and columns of tables, and which may be done in a transaction.
+use Rattle.std.specs.Prelude.{ℕ, List, [], ◌∷◌, Bool, true, false, if◌then◌else◌, ◌||◌, nat_eq, IsTrue}
+use Rattle.std.specs.List.{starts_with}
+use lib.Chars.{codes}
 use Rattle.plain_tables.specs.Spelling.{Spells, is_blank}
 use Rattle.plain_tables.specs.declared.command.Command.{Command}
 use Rattle.plain_tables.specs.declared.command.Command.TheVariants as command
@@ -18,3 +20,10 @@ declares c = false
 -- the line spells a command that declares a table or drops one
 abbrev pub IsOfTables : List ℕ → Type 0
 IsOfTables line = (c : Command) × Spells line c × IsTrue (declares c)
+
+-- whether a text begins with the first word of an insert, a load, a select, a dump or the list of tables
+abbrev pub begins_for_transactions : List ℕ → Bool
+begins_for_transactions text =
+    starts_with nat_eq text (codes "insert")
+    || (starts_with nat_eq text (codes "load")
+    || (starts_with nat_eq text (codes "select") || (starts_with nat_eq text (codes "dump") || starts_with nat_eq text (codes "tables"))))
