@@ -1,7 +1,10 @@
+use Rattle.std.proofs.Common.{sym, subst}
 use Rattle.std.proofs.lemmas.Option.{slice_get_within}
 use Rattle.plain_tables.specs.ResolvedLaws.{IsMeant}
 use Rattle.plain_tables.specs.declared.resolved.Resolved.TheVariants as resolved
 use Rattle.mm_catalog.specs.Seen.{database_of}
+use Rattle.mm_catalog.specs.State.{CatalogState}
+use Rattle.mm_session.proofs.TransactionLemmas.{stays_outside}
 use Rattle.mm_session.proofs.execute.Executor.perform.Goals as goal
 
 pub dump-requires : goal.dump-requires
@@ -9,3 +12,24 @@ dump-requires c =
     let old = c.args.self.now.tables.catalog in
     let meant : IsMeant old.limits (database_of old) (resolved.Dump c.in-Dump.table) = rw c.in-Dump.is at c.requires.meant in
     rw c.catalog-in-Dump.ensures (slice_get_within (database_of old) c.in-Dump.table.0 meant.0 meant.1)
+
+pub select-requires : goal.select-requires
+select-requires c =
+    subst (λ (k : CatalogState). IsMeant k.limits (database_of k) (resolved.Select c.in-Select.query)) (sym c.catalog.ensures)
+    (rw c.in-Select.is at c.requires.meant)
+
+pub returns-in_ok-create-in-Table-clause-saved : goal.returns-in_ok-create-in-Table-clause-saved
+returns-in_ok-create-in-Table-clause-saved c =
+    stays_outside c.args.self.now.tables c.create.new.self (rw c.in-Table.is at c.requires.can)
+
+pub returns-in-DropTable-clause-saved : goal.returns-in-DropTable-clause-saved
+returns-in-DropTable-clause-saved c =
+    stays_outside c.args.self.now.tables c.drop_table.new.self (rw c.in-DropTable.is at c.requires.can)
+
+pub returns-in_ok-add_index-in-Index-clause-saved : goal.returns-in_ok-add_index-in-Index-clause-saved
+returns-in_ok-add_index-in-Index-clause-saved c =
+    stays_outside c.args.self.now.tables c.add_index.new.self (rw c.in-Index.is at c.requires.can)
+
+pub returns-in-DropIndex-clause-saved : goal.returns-in-DropIndex-clause-saved
+returns-in-DropIndex-clause-saved c =
+    stays_outside c.args.self.now.tables c.drop_index.new.self (rw c.in-DropIndex.is at c.requires.can)
