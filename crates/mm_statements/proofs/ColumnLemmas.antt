@@ -269,6 +269,7 @@ pub unresolved-untold : (session : State) (statements : Statements) (number : �
     → IsUnresolved session.database statements number e → IsUntold (state_of session statements) number e
 unresolved-untold session statements number fault.TooLong never = never
 unresolved-untold session statements number fault.Shared never = never
+unresolved-untold session statements number fault.InTransaction never = never
 unresolved-untold session statements number fault.NoSuchStatement none = statement-seen session statements number ∙ ap (option_map seen) none
 unresolved-untold session statements number (fault.Refused why) says = λ other.
     let r = says other in

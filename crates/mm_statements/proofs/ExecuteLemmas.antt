@@ -83,6 +83,7 @@ pub unresolved-unfinished : (tables : Database) (statements : Statements) (numbe
 unresolved-unfinished tables statements number fault.NoSuchStatement none = none
 unresolved-unfinished tables statements number fault.TooLong never = never
 unresolved-unfinished tables statements number fault.Shared never = never
+unresolved-unfinished tables statements number fault.InTransaction never = never
 unresolved-unfinished tables statements number (fault.Refused why) says = λ other.
     let r = says other in
     record { prepared = r.prepared; there = r.there; statement = r.statement; spelled = r.spelled; means = r.refuses r.prepared.bound }
@@ -140,6 +141,7 @@ pub unfinished-declined : (session : State) (statements : Statements) (number : 
     → IsUnfinished session.database statements number e → IsDeclined (state_of session statements) number e
 unfinished-declined session statements number fault.TooLong never = tt
 unfinished-declined session statements number fault.Shared never = absurd never
+unfinished-declined session statements number fault.InTransaction never = absurd never
 unfinished-declined session statements number fault.NoSuchStatement none = statement-seen session statements number ∙ ap (option_map seen) none
 unfinished-declined session statements number (fault.Refused why) says = λ other. effect-of session statements number (Err why) (says other)
 
@@ -170,6 +172,7 @@ pub change-undone : (old new : State) (statements : Statements) (number : ℕ) (
     → IsDeclined (state_of old statements) number (execute_fault_of_change f)
 change-undone old new statements number c (changing.Refused why) finished change undone = change-declined old new statements number c why finished undone
 change-undone old new statements number c changing.Shared finished change undone = change-of old statements number c finished change
+change-undone old new statements number c changing.InTransaction finished change undone = (undone, change-of old statements number c finished change)
 
 -- ---- what stays
 
@@ -216,3 +219,4 @@ unresolved-apart tables statements number fault.NoSuchStatement none is = cc
 unresolved-apart tables statements number (fault.Refused why) says is = cc
 unresolved-apart tables statements number fault.TooLong never is = never
 unresolved-apart tables statements number fault.Shared never is = never
+unresolved-apart tables statements number fault.InTransaction never is = never

@@ -1,7 +1,10 @@
 //! A database with statements: a session, and the statements that are kept of its tables.
 
 use crate::columns::push_columns;
-use crate::faults::{ExecuteFault, PrepareFault, QueryFault, RequestFault, StreamFault};
+use crate::faults::{
+    BeginFault, EndFault, ExecuteFault, PrepareFault, QueryFault, RequestFault, ShareFault,
+    StreamFault,
+};
 use crate::querying::command_of_line;
 use crate::reading::{count_marks, meaning, readable};
 use crate::resolving::{command_of, resolution_of, resolve};
@@ -44,7 +47,7 @@ pub struct PreparedLine<'a> {
 /// the values that are bound then.
 ///
 /// Several databases may share a session. Each has statements of its own, and reads the tables. Only the last that is left changes
-/// them; the others are refused by `Shared`.
+/// them; the others are refused by `Shared`. In a transaction rows are inserted, loaded and read; all else is refused by `InTransaction`.
 #[derive(Drop)]
 pub struct Database {
     session: SharedSession,
@@ -70,15 +73,17 @@ impl Model for Database {
 }
 
 impl Database {
-    ghost use Rattle.std.specs.Prelude.{◌≡◌, ◌≢◌, ◌≤◌, ◌↔◌, ℕ, Err, None, Some, false, true, [], IsErrOf, IsSome, IsTrue, IfErr, IfOk, MatchOption, OnErr, OnOk, length, replicate, slice_set};
+    ghost use Rattle.std.specs.Prelude.{◌≡◌, ◌≢◌, ◌≤◌, ◌↔◌, ◌⊎◌, ℕ, Err, None, Some, false, true, [], IsErrOf, IsSome, IsTrue, IfErr, IfOk, MatchOption, OnErr, OnOk, length, replicate, slice_set};
     ghost use Rattle.std.specs.Io.KnownBytes.{Keeps};
     ghost use Rattle.plain_tables.specs.declared.value.Value.TheVariants as value;
     ghost use Rattle.plain_streams.specs.Division.{IsWhole};
     ghost use Rattle.plain_streams.specs.Requests.{without_return};
     ghost use Rattle.mm_cells.specs.Reading.{AreFull};
     ghost use Rattle.mm_cells.specs.Values.{values_of};
-    ghost use Rattle.mm_session.specs.OneRequest.{AnswersOne, GoesBetween, StaysInStream};
-    ghost use Rattle.mm_session.specs.Sessions.{BreaksOff, Feeds, Finishes, Gains, new_session};
+    ghost use Rattle.mm_session.specs.OneRequest.{AnswersOne, GoesBetween, IsAtSamePlace, StaysInStream};
+    ghost use Rattle.mm_session.specs.Sessions.{BreaksOff, Feeds, Finishes, Gains, new_session, tables_of};
+    ghost use Rattle.plain_tables.specs.Transactions.{begun, committed, rolled_back};
+    ghost use Rattle.mm_prepared.specs.Declaring.{begins_for_transactions, behind_blanks};
     ghost use Rattle.mm_prepared.specs.Cells.{IsSmall, cell_value};
     ghost use Rattle.mm_prepared.specs.Kept.{KeptStatement};
     ghost use Rattle.mm_statements.specs.Databases.{statement_at, IsUnchanged, NowNames, SameStatements};
@@ -87,6 +92,8 @@ impl Database {
     ghost use Rattle.mm_statements.specs.Querying.{IsEffectOfLine, IsUnanswered};
     ghost use Rattle.mm_prepared.specs.declared.declined.Declined.TheVariants as declined;
     ghost use Rattle.mm_statements.specs.declared.faults.ExecuteFault.TheVariants as fault;
+    ghost use Rattle.mm_statements.specs.declared.faults.EndFault.TheVariants as end_fault;
+    ghost use Rattle.mm_statements.specs.declared.faults.ShareFault.TheVariants as share_fault;
     ghost use Rattle.mm_statements.specs.declared.faults.RequestFault.TheVariants as request_fault;
     ghost use Rattle.mm_statements.specs.declared.faults.StreamFault.TheVariants as stream_fault;
     ghost use Rattle.plain_tables.specs.Effects.{Effect};
@@ -106,11 +113,16 @@ impl Database {
         })
     }
 
-    /// A database that shares the session, with no statements of its own.
-    pub fn reader(&self, alloc: Global) -> Result<Database, NoMemory>
+    /// A database that shares the session, with no statements of its own. In a transaction there is none.
+    pub fn reader(&self, alloc: Global) -> Result<Database, ShareFault>
         ensures session { IfOk result (λ d. d.session ≡ self.now.session) }
         ensures none { IfOk result (λ d. (number : ℕ) → statement_at d number ≡ None) }
+        ensures open { IsErrOf result share_fault.InTransaction → self.now.session.saved ≢ [] }
+        ensures waits { self.now.session.saved ≢ [] → result ≡ Err share_fault.InTransaction }
     {
+        if self.session.is_in_transaction() {
+            return Err(ShareFault::InTransaction);
+        }
         Ok(Database {
             session: self.session.another()?,
             policy: self.policy,
@@ -120,12 +132,17 @@ impl Database {
     }
 
     /// Has another database share the session, in the place of its own, which ends where no third shares it. The other's statements
-    /// and their values stay. What is known of their meaning is forgotten.
-    pub fn share(&self, other: &mut Database) -> Result<(), NoMemory>
+    /// and their values stay. What is known of their meaning is forgotten. In a transaction of either it is declined.
+    pub fn share(&self, other: &mut Database) -> Result<(), ShareFault>
         ensures session { OnOk result (other.new.session ≡ self.now.session) }
         ensures statements { OnOk result (SameStatements other.old other.new) }
         ensures unchanged { OnErr result (other.new ≡ other.old) }
+        ensures open { IsErrOf result share_fault.InTransaction → (self.now.session.saved ≢ []) ⊎ (other.old.session.saved ≢ []) }
+        ensures waits { (self.now.session.saved ≢ []) ⊎ (other.old.session.saved ≢ []) → result ≡ Err share_fault.InTransaction }
     {
+        if self.session.is_in_transaction() || other.session.is_in_transaction() {
+            return Err(ShareFault::InTransaction);
+        }
         let session = self.session.another()?;
         other.statements.forget();
         other.session = session;
@@ -134,12 +151,17 @@ impl Database {
     }
 
     /// Leaves the session, which ends where no other database shares it, for a new one without tables. The statements and their values
-    /// stay. What is known of their meaning is forgotten.
-    pub fn leave(&mut self, alloc: Global) -> Result<(), NoMemory>
+    /// stay. What is known of their meaning is forgotten. In a transaction it is declined.
+    pub fn leave(&mut self, alloc: Global) -> Result<(), ShareFault>
         ensures session { OnOk result (self.new.session ≡ new_session self.old.session.limits [] self.new.session.catalog) }
         ensures statements { OnOk result (SameStatements self.old self.new) }
         ensures unchanged { OnErr result (self.new ≡ self.old) }
+        ensures open { IsErrOf result share_fault.InTransaction → self.old.session.saved ≢ [] }
+        ensures waits { self.old.session.saved ≢ [] → result ≡ Err share_fault.InTransaction }
     {
+        if self.session.is_in_transaction() {
+            return Err(ShareFault::InTransaction);
+        }
         let catalog = self.session.catalog();
         a_catalog_is_consistent(catalog);
         let session = Session::with_limits(alloc, self.policy, catalog.limits())?;
@@ -154,6 +176,50 @@ impl Database {
         ensures { result.now ≡ self.now.session }
     {
         self.session.session()
+    }
+
+    /// How many transactions are open.
+    pub fn transactions(&self) -> usize
+        ensures { result ≡ length self.now.session.saved }
+    {
+        self.session.transactions()
+    }
+
+    /// Begins a transaction, in those that are open. The stream goes on as before.
+    pub fn begin(&mut self) -> Result<(), BeginFault>
+        ensures begun { OnOk result (tables_of self.new.session ≡ begun (tables_of self.old.session)) }
+        ensures unchanged { OnErr result (self.new ≡ self.old) }
+        ensures stream { IsAtSamePlace self.old.session self.new.session }
+        ensures statements { SameStatements self.old self.new }
+    {
+        self.session.begin()
+    }
+
+    /// Ends the innermost transaction, and keeps what was done in it. The stream goes on as before.
+    pub fn commit(&mut self) -> Result<(), EndFault>
+        ensures open { OnOk result (self.old.session.saved ≢ []) }
+        ensures committed { OnOk result (tables_of self.new.session ≡ committed (tables_of self.old.session)) }
+        ensures none { IsErrOf result end_fault.NoTransaction → self.old.session.saved ≡ [] }
+        ensures unchanged { OnErr result (self.new ≡ self.old) }
+        ensures stream { IsAtSamePlace self.old.session self.new.session }
+        ensures statements { SameStatements self.old self.new }
+    {
+        self.session.commit()
+    }
+
+    /// Ends the innermost transaction, and undoes what was done in it: the tables are those that it began with. It takes no memory.
+    /// The stream goes on as before. What is known of the statements' meaning is forgotten.
+    pub fn rollback(&mut self) -> Result<(), EndFault>
+        ensures open { OnOk result (self.old.session.saved ≢ []) }
+        ensures rolled_back { OnOk result (tables_of self.new.session ≡ rolled_back (tables_of self.old.session)) }
+        ensures none { IsErrOf result end_fault.NoTransaction → self.old.session.saved ≡ [] }
+        ensures unchanged { OnErr result (self.new ≡ self.old) }
+        ensures stream { IsAtSamePlace self.old.session self.new.session }
+        ensures statements { SameStatements self.old self.new }
+    {
+        self.session.rollback()?;
+        self.statements.forget();
+        Ok(())
     }
 
     /// Answers one request by itself, beside the stream: a line without its line feed, and the block behind it, which is empty
@@ -178,6 +244,10 @@ impl Database {
         // The stream goes on as before, and the request stands behind what of it was answered.
         ensures stream { StaysInStream self.old.session self.new.session }
         ensures run { OnOk result (GoesBetween self.old.session self.new.session (record { line = line.now; block = block.now }) answer.new) }
+
+        // In a transaction a request is declined whose line begins as none does that may be done there.
+        ensures open { IsErrOf result request_fault.InTransaction → (self.old.session.saved ≢ []) × (begins_for_transactions (behind_blanks line.now) ≡ false) }
+        ensures waits { self.old.session.saved ≢ [] → begins_for_transactions (behind_blanks line.now) ≡ false → result ≡ Err request_fault.InTransaction }
 
         // The statements stay.
         ensures statements { SameStatements self.old self.new }
@@ -208,6 +278,12 @@ impl Database {
         // Another database shares the session.
         ensures shared { IsErrOf result stream_fault.Shared → (self.new.session ≡ self.old.session) × Keeps (W.contents w.old) (W.contents w.new) }
 
+        // A transaction is open.
+        ensures in_transaction { IsErrOf result stream_fault.InTransaction → (self.new.session ≡ self.old.session) × Keeps (W.contents w.old) (W.contents w.new) }
+        ensures open { IsErrOf result stream_fault.InTransaction → self.old.session.saved ≢ [] }
+        ensures waits { self.old.session.ended ≡ false → self.old.session.saved ≢ [] → result ≡ Err stream_fault.InTransaction }
+        ensures saved { self.new.session.saved ≡ self.old.session.saved }
+
         // The statements stay.
         ensures statements { SameStatements self.old self.new }
     {
@@ -224,7 +300,11 @@ impl Database {
         ensures ok { OnOk result (Gains (W.contents w.old) (W.contents w.new) (Finishes self.old.session self.new.session)) }
         ensures write { IsErrOf result stream_fault.Write → Gains (W.contents w.old) (W.contents w.new) (BreaksOff self.old.session self.new.session [] true) }
         ensures shared { IsErrOf result stream_fault.Shared → (self.new.session ≡ self.old.session) × Keeps (W.contents w.old) (W.contents w.new) }
-        ensures over { (result ≢ Err stream_fault.Shared) → IsTrue self.new.session.ended }
+        ensures in_transaction { IsErrOf result stream_fault.InTransaction → (self.new.session ≡ self.old.session) × Keeps (W.contents w.old) (W.contents w.new) }
+        ensures open { IsErrOf result stream_fault.InTransaction → self.old.session.saved ≢ [] }
+        ensures waits { self.old.session.ended ≡ false → self.old.session.saved ≢ [] → result ≡ Err stream_fault.InTransaction }
+        ensures over { result ≢ Err stream_fault.Shared → result ≢ Err stream_fault.InTransaction → IsTrue self.new.session.ended }
+        ensures saved { self.new.session.saved ≡ self.old.session.saved }
         ensures limits { self.new.session.limits ≡ self.old.session.limits }
         ensures statements { SameStatements self.old self.new }
     {

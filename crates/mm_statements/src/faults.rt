@@ -1,4 +1,5 @@
-//! Why a line is not kept as a statement, why a statement is not executed, and why nothing comes of a line or of a piece of a stream.
+//! Why a line is not kept as a statement, why a statement is not executed, why nothing comes of a line or of a piece of a stream, and why
+//! a transaction neither begins nor ends.
 
 use mm_cells::CellFault;
 use mm_session::{NotOneRequest, SessionFault};
@@ -51,6 +52,8 @@ pub enum ExecuteFault {
     TooLong,
     /// It is an insert, an update or a delete, and another database shares the tables.
     Shared,
+    /// It is an update or a delete, and a transaction is open.
+    InTransaction,
 }
 
 impl From<Refusal> for ExecuteFault {
@@ -99,6 +102,8 @@ pub enum QueryFault {
     TooLong,
     /// It is an insert, an update or a delete, and another database shares the tables.
     Shared,
+    /// It is an update or a delete, and a transaction is open.
+    InTransaction,
 }
 
 impl From<Refusal> for QueryFault {
@@ -133,6 +138,8 @@ pub enum RequestFault {
     NotOneRequest,
     /// Another database shares the tables.
     Shared,
+    /// A transaction is open, and the line begins as no request does that may be done in one.
+    InTransaction,
 }
 
 impl From<NotOneRequest> for RequestFault {
@@ -155,6 +162,8 @@ pub enum StreamFault {
     Ended,
     /// Another database shares the tables. Nothing has changed.
     Shared,
+    /// A transaction is open. Nothing has changed.
+    InTransaction,
 }
 
 impl From<SessionFault> for StreamFault {
@@ -178,6 +187,8 @@ pub enum ChangeFault {
     Refused(Refusal),
     /// Another database shares the tables.
     Shared,
+    /// It is an update or a delete, and a transaction is open.
+    InTransaction,
 }
 
 impl From<Refusal> for ChangeFault {
@@ -201,6 +212,7 @@ impl From<ChangeFault> for ExecuteFault {
         match why {
             ChangeFault::Refused(why) => ExecuteFault::Refused(why),
             ChangeFault::Shared => ExecuteFault::Shared,
+            ChangeFault::InTransaction => ExecuteFault::InTransaction,
         }
     }
 }
@@ -215,6 +227,56 @@ impl From<ChangeFault> for QueryFault {
         match why {
             ChangeFault::Refused(why) => QueryFault::Refused(why),
             ChangeFault::Shared => QueryFault::Shared,
+            ChangeFault::InTransaction => QueryFault::InTransaction,
         }
+    }
+}
+
+/// Why no transaction begins. Nothing has changed.
+#[derive(Clone, Copy, Debug, PartialEq, Eq)]
+pub enum BeginFault {
+    /// A growth was refused.
+    NoMemory,
+    /// Another database shares the tables.
+    Shared,
+}
+
+impl From<NoMemory> for BeginFault {
+    ghost use Rattle.std.specs.Prelude.{◌≡◌};
+    ghost use Rattle.mm_statements.specs.declared.faults.BeginFault.TheVariants as fault;
+
+    ghost from_gives = { λ _ e. e ≡ fault.NoMemory };
+
+    fn from(_: NoMemory) -> BeginFault {
+        BeginFault::NoMemory
+    }
+}
+
+/// Why no transaction ends. Nothing has changed.
+#[derive(Clone, Copy, Debug, PartialEq, Eq)]
+pub enum EndFault {
+    /// None is open.
+    NoTransaction,
+    /// Another database shares the tables.
+    Shared,
+}
+
+/// Why no tables are shared or left. Nothing has changed.
+#[derive(Clone, Copy, Debug, PartialEq, Eq)]
+pub enum ShareFault {
+    /// A growth was refused.
+    NoMemory,
+    /// A transaction is open.
+    InTransaction,
+}
+
+impl From<NoMemory> for ShareFault {
+    ghost use Rattle.std.specs.Prelude.{◌≡◌};
+    ghost use Rattle.mm_statements.specs.declared.faults.ShareFault.TheVariants as fault;
+
+    ghost from_gives = { λ _ e. e ≡ fault.NoMemory };
+
+    fn from(_: NoMemory) -> ShareFault {
+        ShareFault::NoMemory
     }
 }

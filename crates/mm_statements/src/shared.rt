@@ -1,23 +1,29 @@
 //! A session that databases share.
 
-ghost use Rattle.std.specs.Prelude.{◌≡◌, ◌≢◌, ◌<◌, ◌↔◌, [], Err, false, true, IfErr, IfOk, IsErrOf, IsTrue, OnErr, OnOk};
+ghost use Rattle.std.specs.Prelude.{◌≡◌, ◌≢◌, ◌<◌, ◌↔◌, [], Err, false, length, true, IfErr, IfOk, IsErrOf, IsTrue, OnErr, OnOk};
 ghost use Rattle.std.specs.Io.KnownBytes.{Keeps};
 ghost use Rattle.plain_tables.specs.Doing.{done};
 ghost use Rattle.plain_tables.specs.ResolvedLaws.{IsMeant};
+ghost use Rattle.plain_tables.specs.Transactions.{begun, committed, rolled_back};
 ghost use Rattle.plain_tables.specs.declared.resolved.Resolved.TheVariants as resolved;
 ghost use Rattle.plain_streams.specs.Division.{IsWhole};
 ghost use Rattle.mm_catalog.specs.Seen.{database_of};
+ghost use Rattle.mm_cells.specs.Reading.{AreFull};
 ghost use Rattle.mm_cells.specs.Values.{values_of};
 ghost use Rattle.mm_session.specs.Changing.{HasChanged, IsChange, ShowsValues};
-ghost use Rattle.mm_session.specs.OneRequest.{AnswersOne, GoesBetween, StaysInStream};
-ghost use Rattle.mm_session.specs.Sessions.{BreaksOff, Feeds, Finishes, Gains};
-ghost use Rattle.mm_statements.specs.Faults.{IsUndone};
+ghost use Rattle.mm_prepared.specs.Declaring.{begins_for_transactions, behind_blanks};
+ghost use Rattle.mm_session.specs.OneRequest.{AnswersOne, GoesBetween, IsAtSamePlace, StaysInStream};
+ghost use Rattle.mm_session.specs.Sessions.{BreaksOff, Feeds, Finishes, Gains, tables_of};
+ghost use Rattle.mm_statements.specs.Faults.{IsRewriting, IsUndone};
+ghost use Rattle.mm_statements.specs.declared.faults.ChangeFault.TheVariants as change_fault;
+ghost use Rattle.mm_statements.specs.declared.faults.EndFault.TheVariants as end_fault;
 ghost use Rattle.mm_statements.specs.declared.faults.RequestFault.TheVariants as request_fault;
 ghost use Rattle.mm_statements.specs.declared.faults.StreamFault.TheVariants as stream_fault;
 
-use crate::faults::{ChangeFault, RequestFault, StreamFault};
+use crate::faults::{BeginFault, ChangeFault, EndFault, RequestFault, StreamFault};
 use mm_catalog::Catalog;
 use mm_cells::{CellFault, Cells};
+use mm_prepared::is_for_transactions;
 use mm_session::{Answer, Session};
 use no_memory::NoMemory;
 use plain_tables::{Query, Resolved, TableNumber, Value};
@@ -77,24 +83,93 @@ impl SharedSession {
         self.session().catalog()
     }
 
+    /// How many transactions are open.
+    pub fn transactions(&self) -> usize
+        ensures { result ≡ length self.now.saved }
+    {
+        self.session().transactions()
+    }
+
+    /// Whether a transaction is open.
+    pub fn is_in_transaction(&self) -> bool
+        ensures open { result ≡ true → self.now.saved ≢ [] }
+        ensures none { result ≡ false → self.now.saved ≡ [] }
+    {
+        self.transactions() > 0
+    }
+
+    /// Begins a transaction, as the session does, where nobody else holds it.
+    pub fn begin(&mut self) -> Result<(), BeginFault>
+        ensures begun { OnOk result (tables_of self.new ≡ begun (tables_of self.old)) }
+        ensures catalog { self.new.catalog ≡ self.old.catalog }
+        ensures unchanged { OnErr result (self.new ≡ self.old) }
+        ensures stream { IsAtSamePlace self.old self.new }
+    {
+        match Arc::get_mut(&mut self.session) {
+            Some(session) => Ok(session.begin()?),
+            None => Err(BeginFault::Shared),
+        }
+    }
+
+    /// Ends the innermost transaction, and keeps what was done in it, as the session does, where nobody else holds it.
+    pub fn commit(&mut self) -> Result<(), EndFault>
+        ensures open { OnOk result (self.old.saved ≢ []) }
+        ensures committed { OnOk result (tables_of self.new ≡ committed (tables_of self.old)) }
+        ensures catalog { self.new.catalog ≡ self.old.catalog }
+        ensures none { IsErrOf result end_fault.NoTransaction → self.old.saved ≡ [] }
+        ensures unchanged { OnErr result (self.new ≡ self.old) }
+        ensures stream { IsAtSamePlace self.old self.new }
+    {
+        let Some(session) = Arc::get_mut(&mut self.session) else {
+            return Err(EndFault::Shared);
+        };
+        match session.commit() {
+            Ok(()) => Ok(()),
+            Err(_) => Err(EndFault::NoTransaction),
+        }
+    }
+
+    /// Ends the innermost transaction, and undoes what was done in it, as the session does, where nobody else holds it.
+    pub fn rollback(&mut self) -> Result<(), EndFault>
+        ensures open { OnOk result (self.old.saved ≢ []) }
+        ensures rolled_back { OnOk result (tables_of self.new ≡ rolled_back (tables_of self.old)) }
+        ensures none { IsErrOf result end_fault.NoTransaction → self.old.saved ≡ [] }
+        ensures unchanged { OnErr result (self.new ≡ self.old) }
+        ensures stream { IsAtSamePlace self.old self.new }
+    {
+        let Some(session) = Arc::get_mut(&mut self.session) else {
+            return Err(EndFault::Shared);
+        };
+        match session.rollback() {
+            Ok(()) => Ok(()),
+            Err(_) => Err(EndFault::NoTransaction),
+        }
+    }
+
     /// Makes the cells the values that a select shows, as the session does.
     pub fn select(&self, query: &Query, cells: &mut Cells) -> Result<usize, CellFault>
         requires { IsMeant self.now.limits self.now.database (resolved.Select query.now) }
         ensures shown { IfOk result (λ columns. ShowsValues (done self.now.limits self.now.database (resolved.Select query.now)).outcome columns (values_of cells.new)) }
         ensures some { IfOk result (λ columns. 0 < columns) }
+        ensures too_long { IsErrOf result CellFault.TooLong → AreFull (values_of cells.new) }
     {
         self.session().select(query, cells)
     }
 
-    /// Does an insert, an update or a delete, as the session does, where nobody else holds it.
+    /// Does an insert, an update or a delete, as the session does, where nobody else holds it. In a transaction an update and a delete are
+    /// declined.
     pub fn change(&mut self, command: &Resolved) -> Result<usize, ChangeFault>
         requires meant { IsMeant self.old.limits self.old.database command.now }
         requires change { IsChange command.now }
         ensures done { IfOk result (HasChanged self.new (done self.old.limits self.old.database command.now)) }
         ensures refused { IfErr result (IsUndone self.old self.new (done self.old.limits self.old.database command.now)) }
         ensures unchanged { OnErr result (self.new ≡ self.old) }
+        ensures waits { self.old.saved ≢ [] → IsRewriting command.now → result ≡ Err change_fault.InTransaction }
         ensures stream { StaysInStream self.old self.new }
     {
+        if !matches!(command, Resolved::Insert { .. }) && self.is_in_transaction() {
+            return Err(ChangeFault::InTransaction);
+        }
         match Arc::get_mut(&mut self.session) {
             Some(session) => Ok(session.change(command)?),
             None => Err(ChangeFault::Shared),
@@ -115,7 +190,8 @@ impl SharedSession {
         }
     }
 
-    /// Answers one request by itself, as the session does, where nobody else holds it.
+    /// Answers one request by itself, as the session does, where nobody else holds it. In a transaction one is declined whose line begins as
+    /// none does that may be done there.
     pub fn answer_request(
         &mut self,
         line: &[u8],
@@ -127,7 +203,12 @@ impl SharedSession {
         ensures unchanged { OnErr result ((self.new ≡ self.old) × (answer.new ≡ answer.old)) }
         ensures stream { StaysInStream self.old self.new }
         ensures run { OnOk result (GoesBetween self.old self.new (record { line = line.now; block = block.now }) answer.new) }
+        ensures open { IsErrOf result request_fault.InTransaction → (self.old.saved ≢ []) × (begins_for_transactions (behind_blanks line.now) ≡ false) }
+        ensures waits { self.old.saved ≢ [] → begins_for_transactions (behind_blanks line.now) ≡ false → result ≡ Err request_fault.InTransaction }
     {
+        if self.is_in_transaction() && !is_for_transactions(line) {
+            return Err(RequestFault::InTransaction);
+        }
         let Some(session) = Arc::get_mut(&mut self.session) else {
             return Err(RequestFault::Shared);
         };
@@ -144,9 +225,16 @@ impl SharedSession {
         ensures over { IsErrOf result stream_fault.Write → IsTrue self.new.ended }
         ensures limits { self.new.limits ≡ self.old.limits }
         ensures shared { IsErrOf result stream_fault.Shared → (self.new ≡ self.old) × Keeps (W.contents w.old) (W.contents w.new) }
+        ensures in_transaction { IsErrOf result stream_fault.InTransaction → (self.new ≡ self.old) × Keeps (W.contents w.old) (W.contents w.new) }
+        ensures open { IsErrOf result stream_fault.InTransaction → self.old.saved ≢ [] }
+        ensures waits { self.old.ended ≡ false → self.old.saved ≢ [] → result ≡ Err stream_fault.InTransaction }
+        ensures saved { self.new.saved ≡ self.old.saved }
     {
         if self.session().has_ended() {
             return Err(StreamFault::Ended);
+        }
+        if self.is_in_transaction() {
+            return Err(StreamFault::InTransaction);
         }
         let Some(session) = Arc::get_mut(&mut self.session) else {
             return Err(StreamFault::Shared);
@@ -161,12 +249,19 @@ impl SharedSession {
         ensures unchanged { IsErrOf result stream_fault.Ended → (self.new ≡ self.old) × Keeps (W.contents w.old) (W.contents w.new) }
         ensures ok { OnOk result (Gains (W.contents w.old) (W.contents w.new) (Finishes self.old self.new)) }
         ensures write { IsErrOf result stream_fault.Write → Gains (W.contents w.old) (W.contents w.new) (BreaksOff self.old self.new [] true) }
-        ensures over { result ≢ Err stream_fault.Shared → IsTrue self.new.ended }
+        ensures over { result ≢ Err stream_fault.Shared → result ≢ Err stream_fault.InTransaction → IsTrue self.new.ended }
         ensures limits { self.new.limits ≡ self.old.limits }
         ensures shared { IsErrOf result stream_fault.Shared → (self.new ≡ self.old) × Keeps (W.contents w.old) (W.contents w.new) }
+        ensures in_transaction { IsErrOf result stream_fault.InTransaction → (self.new ≡ self.old) × Keeps (W.contents w.old) (W.contents w.new) }
+        ensures open { IsErrOf result stream_fault.InTransaction → self.old.saved ≢ [] }
+        ensures waits { self.old.ended ≡ false → self.old.saved ≢ [] → result ≡ Err stream_fault.InTransaction }
+        ensures saved { self.new.saved ≡ self.old.saved }
     {
         if self.session().has_ended() {
             return Err(StreamFault::Ended);
+        }
+        if self.is_in_transaction() {
+            return Err(StreamFault::InTransaction);
         }
         let Some(session) = Arc::get_mut(&mut self.session) else {
             return Err(StreamFault::Shared);
