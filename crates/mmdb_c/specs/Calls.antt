@@ -63,6 +63,7 @@ pub record LosesStream (piece : List ℕ) (old new : Database) : Type 0 where
   pub breaks_off : BreaksOff old.inner.session new.inner.session piece false new.answer
   pub over : IsTrue new.inner.session.ended
   pub limits : new.inner.session.limits ≡ old.inner.session.limits
+  pub saved : new.inner.session.saved ≡ old.inner.session.saved
   pub statements : SameStatements old.inner new.inner
   pub rows : KeepsRows old new
 

@@ -6,6 +6,7 @@
 //! - A handle that is closed owns nothing, and a call on it does nothing.
 //! - Several handles may share a session. Each has statements, answers and rows of its own. While they share it none of them changes its
 //!   tables.
+//! - In a transaction rows are inserted, loaded and read; all else is put off by a status of its own.
 //! - After each status but `DONE` the tables are as they were, unless a piece found no room for its answers.
 #![tactic(auto)]
 
@@ -15,6 +16,7 @@ ghost use Rattle.plain_streams.specs.Division.{IsWhole};
 ghost use Rattle.mm_session.specs.Refused.{TellsRefusal};
 ghost use Rattle.mmdb_c.specs.Calls.{AreLimits, IsNew, request, Becomes, AnswersRequest, TellsIndexes, TakesPiece, LosesStream, IsAsBefore};
 ghost use Rattle.mmdb_c.specs.Sharing.{LosesAnswer};
+ghost use Rattle.mmdb_c.specs.Transacting.{IsInTransaction, PutsOff};
 
 mod database;
 mod handle;
@@ -25,6 +27,8 @@ mod sharing;
 pub mod sharing_calls;
 pub mod statement_calls;
 mod statements;
+pub mod transaction_calls;
+mod transactions;
 
 use crate::database::Database;
 use crate::handle::Handle;
@@ -63,6 +67,10 @@ const REFUSED: u32 = 12;
 const TOO_LARGE: u32 = 13;
 
 const SHARED: u32 = 14;
+
+const NO_TRANSACTION: u32 = 15;
+
+const IN_TRANSACTION: u32 = 16;
 
 /// The bytes of an answer.
 #[repr(C)]
@@ -133,8 +141,10 @@ fn answer_request(
     ensures not_open { (result ≡ NOT_OPEN) ↔ IsNone handle.old.database }
     ensures no_line { (result ≡ NO_LINE) ↔ (IsSome handle.old.database × (line.now ≡ [])) }
     ensures not_one_request { result ≡ NOT_ONE_REQUEST → IsSome handle.old.database × (line.now ≢ []) × ¬ (IsWhole (request line.now block.now)) }
-    ensures one_request { IsSome handle.old.database × (line.now ≢ []) × IsWhole (request line.now block.now) → (result ≡ DONE) ⊎ (result ≡ SHARED) }
-    ensures judged { IsSome handle.old.database × (line.now ≢ []) → (result ≡ DONE) ⊎ ((result ≡ NOT_ONE_REQUEST) ⊎ (result ≡ SHARED)) }
+    ensures one_request { IsSome handle.old.database × (line.now ≢ []) × IsWhole (request line.now block.now) → (result ≡ DONE) ⊎ ((result ≡ SHARED) ⊎ (result ≡ IN_TRANSACTION)) }
+    ensures judged { IsSome handle.old.database × (line.now ≢ []) → (result ≡ DONE) ⊎ ((result ≡ NOT_ONE_REQUEST) ⊎ ((result ≡ SHARED) ⊎ (result ≡ IN_TRANSACTION))) }
+    ensures in_transaction { result ≡ IN_TRANSACTION → IsSomeAnd handle.old.database (PutsOff line.now) }
+    ensures waits { (line.now ≢ []) × IsSomeAnd handle.old.database (PutsOff line.now) → result ≡ IN_TRANSACTION }
     ensures done { result ≡ DONE → Becomes handle.old.database handle.new.database (AnswersRequest (request line.now block.now)) }
     ensures told { result ≡ DONE → IsSomeAnd handle.new.database (λ d. answer.new.length ≡ length d.answer) }
     ensures unchanged { result ≢ DONE → (handle.new.database ≡ handle.old.database) × (answer.new ≡ answer.old) }
@@ -155,6 +165,7 @@ fn answer_request(
         Ok(()) => DONE,
         Err(RequestFault::NotOneRequest) => NOT_ONE_REQUEST,
         Err(RequestFault::Shared) => SHARED,
+        Err(RequestFault::InTransaction) => IN_TRANSACTION,
     }
 }
 
@@ -169,8 +180,10 @@ pub extern "C" fn mmdb_command(
     ensures not_open { (result ≡ NOT_OPEN) ↔ IsNone handle.old.database }
     ensures no_line { (result ≡ NO_LINE) ↔ (IsSome handle.old.database × (line.now ≡ [])) }
     ensures not_one_request { result ≡ NOT_ONE_REQUEST → IsSome handle.old.database × (line.now ≢ []) × ¬ (IsWhole (request line.now [])) }
-    ensures one_request { IsSome handle.old.database × (line.now ≢ []) × IsWhole (request line.now []) → (result ≡ DONE) ⊎ (result ≡ SHARED) }
-    ensures judged { IsSome handle.old.database × (line.now ≢ []) → (result ≡ DONE) ⊎ ((result ≡ NOT_ONE_REQUEST) ⊎ (result ≡ SHARED)) }
+    ensures one_request { IsSome handle.old.database × (line.now ≢ []) × IsWhole (request line.now []) → (result ≡ DONE) ⊎ ((result ≡ SHARED) ⊎ (result ≡ IN_TRANSACTION)) }
+    ensures judged { IsSome handle.old.database × (line.now ≢ []) → (result ≡ DONE) ⊎ ((result ≡ NOT_ONE_REQUEST) ⊎ ((result ≡ SHARED) ⊎ (result ≡ IN_TRANSACTION))) }
+    ensures in_transaction { result ≡ IN_TRANSACTION → IsSomeAnd handle.old.database (PutsOff line.now) }
+    ensures waits { (line.now ≢ []) × IsSomeAnd handle.old.database (PutsOff line.now) → result ≡ IN_TRANSACTION }
     ensures done { result ≡ DONE → Becomes handle.old.database handle.new.database (AnswersRequest (request line.now [])) }
     ensures told { result ≡ DONE → IsSomeAnd handle.new.database (λ d. answer.new.length ≡ length d.answer) }
     ensures unchanged { result ≢ DONE → (handle.new.database ≡ handle.old.database) × (answer.new ≡ answer.old) }
@@ -190,8 +203,10 @@ pub extern "C" fn mmdb_load(
     ensures not_open { (result ≡ NOT_OPEN) ↔ IsNone handle.old.database }
     ensures no_line { (result ≡ NO_LINE) ↔ (IsSome handle.old.database × (line.now ≡ [])) }
     ensures not_one_request { result ≡ NOT_ONE_REQUEST → IsSome handle.old.database × (line.now ≢ []) × ¬ (IsWhole (request line.now block.now)) }
-    ensures one_request { IsSome handle.old.database × (line.now ≢ []) × IsWhole (request line.now block.now) → (result ≡ DONE) ⊎ (result ≡ SHARED) }
-    ensures judged { IsSome handle.old.database × (line.now ≢ []) → (result ≡ DONE) ⊎ ((result ≡ NOT_ONE_REQUEST) ⊎ (result ≡ SHARED)) }
+    ensures one_request { IsSome handle.old.database × (line.now ≢ []) × IsWhole (request line.now block.now) → (result ≡ DONE) ⊎ ((result ≡ SHARED) ⊎ (result ≡ IN_TRANSACTION)) }
+    ensures judged { IsSome handle.old.database × (line.now ≢ []) → (result ≡ DONE) ⊎ ((result ≡ NOT_ONE_REQUEST) ⊎ ((result ≡ SHARED) ⊎ (result ≡ IN_TRANSACTION))) }
+    ensures in_transaction { result ≡ IN_TRANSACTION → IsSomeAnd handle.old.database (PutsOff line.now) }
+    ensures waits { (line.now ≢ []) × IsSomeAnd handle.old.database (PutsOff line.now) → result ≡ IN_TRANSACTION }
     ensures done { result ≡ DONE → Becomes handle.old.database handle.new.database (AnswersRequest (request line.now block.now)) }
     ensures told { result ≡ DONE → IsSomeAnd handle.new.database (λ d. answer.new.length ≡ length d.answer) }
     ensures unchanged { result ≢ DONE → (handle.new.database ≡ handle.old.database) × (answer.new ≡ answer.old) }
@@ -227,10 +242,13 @@ pub extern "C" fn mmdb_indexes(
 pub extern "C" fn mmdb_feed(alloc: Global, handle: &mut Handle, piece: &[u8]) -> u32
     ensures not_open { (result ≡ NOT_OPEN) ↔ IsNone handle.old.database }
     ensures ended { (result ≡ ENDED) ↔ IsSomeAnd handle.old.database (λ d. IsTrue d.inner.session.ended) }
-    ensures goes_on { IsSomeAnd handle.old.database (λ d. d.inner.session.ended ≡ false) → (result ≡ DONE) ⊎ ((result ≡ NO_MEMORY) ⊎ (result ≡ SHARED)) }
+    ensures goes_on { IsSomeAnd handle.old.database (λ d. d.inner.session.ended ≡ false) → (result ≡ DONE) ⊎ ((result ≡ NO_MEMORY) ⊎ ((result ≡ SHARED) ⊎ (result ≡ IN_TRANSACTION))) }
     ensures done { result ≡ DONE → Becomes handle.old.database handle.new.database (TakesPiece piece.now) }
     ensures no_memory { result ≡ NO_MEMORY → Becomes handle.old.database handle.new.database (LosesStream piece.now) }
     ensures shared { result ≡ SHARED → Becomes handle.old.database handle.new.database LosesAnswer }
+    ensures put_off { result ≡ IN_TRANSACTION → Becomes handle.old.database handle.new.database LosesAnswer }
+    ensures in_transaction { result ≡ IN_TRANSACTION → IsSomeAnd handle.old.database IsInTransaction }
+    ensures waits { IsSomeAnd handle.old.database (λ d. (d.inner.session.ended ≡ false) × IsInTransaction d) → result ≡ IN_TRANSACTION }
     ensures unchanged { (result ≡ NOT_OPEN) ⊎ (result ≡ ENDED) → handle.new.database ≡ handle.old.database }
 {
     let Some(mut database) = handle.take(alloc) else {
@@ -243,6 +261,7 @@ pub extern "C" fn mmdb_feed(alloc: Global, handle: &mut Handle, piece: &[u8]) ->
         Err(StreamFault::Write) => NO_MEMORY,
         Err(StreamFault::Ended) => ENDED,
         Err(StreamFault::Shared) => SHARED,
+        Err(StreamFault::InTransaction) => IN_TRANSACTION,
     }
 }
 

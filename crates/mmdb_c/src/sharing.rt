@@ -3,16 +3,20 @@
 use crate::database::Database;
 use mm_cells::Cells;
 use mm_session::Answer;
-use no_memory::NoMemory;
+use mm_statements::ShareFault;
 use std::alloc::Global;
 
 impl Database {
-    ghost use Rattle.std.specs.Prelude.{◌≡◌, IfOk, OnErr, OnOk};
+    ghost use Rattle.std.specs.Prelude.{◌≡◌, ◌⊎◌, Err, IfOk, IsErrOf, OnErr, OnOk};
+    ghost use Rattle.mm_statements.specs.declared.faults.ShareFault.TheVariants as share_fault;
     ghost use Rattle.mmdb_c.specs.Sharing.{Leaves, OpensOn, Shares};
+    ghost use Rattle.mmdb_c.specs.Transacting.{IsInTransaction};
 
     /// A database that shares the tables, with no statements, an empty answer and an empty reason.
-    pub fn reader(&self, alloc: Global) -> Result<Database, NoMemory>
-        ensures { IfOk result (OpensOn self.now) }
+    pub fn reader(&self, alloc: Global) -> Result<Database, ShareFault>
+        ensures done { IfOk result (OpensOn self.now) }
+        ensures open { IsErrOf result share_fault.InTransaction → IsInTransaction self.now }
+        ensures waits { IsInTransaction self.now → result ≡ Err share_fault.InTransaction }
     {
         Ok(Database {
             inner: self.inner.reader(alloc)?,
@@ -25,17 +29,21 @@ impl Database {
     }
 
     /// Has another database share the tables, in the place of its own.
-    pub fn share(&self, other: &mut Database) -> Result<(), NoMemory>
+    pub fn share(&self, other: &mut Database) -> Result<(), ShareFault>
         ensures done { OnOk result (Shares self.now other.old other.new) }
         ensures unchanged { OnErr result (other.new ≡ other.old) }
+        ensures open { IsErrOf result share_fault.InTransaction → IsInTransaction self.now ⊎ IsInTransaction other.old }
+        ensures waits { IsInTransaction self.now ⊎ IsInTransaction other.old → result ≡ Err share_fault.InTransaction }
     {
         self.inner.share(&mut other.inner)
     }
 
     /// Leaves the tables, and has none then.
-    pub fn leave(&mut self, alloc: Global) -> Result<(), NoMemory>
+    pub fn leave(&mut self, alloc: Global) -> Result<(), ShareFault>
         ensures done { OnOk result (Leaves self.old self.new) }
         ensures unchanged { OnErr result (self.new ≡ self.old) }
+        ensures open { IsErrOf result share_fault.InTransaction → IsInTransaction self.old }
+        ensures waits { IsInTransaction self.old → result ≡ Err share_fault.InTransaction }
     {
         self.inner.leave(alloc)
     }

@@ -1,27 +1,36 @@
 //! The calls by which handles share tables.
 
-ghost use Rattle.std.specs.Prelude.{◌≡◌, ◌≢◌, ◌↔◌, ◌⊎◌, IfOk, IsNone, IsSome, IsSomeAnd, OnErr, OnOk};
+ghost use Rattle.std.specs.Prelude.{◌≡◌, ◌≢◌, ◌↔◌, ◌⊎◌, Err, IfOk, IsErrOf, IsNone, IsOk, IsSome, IsSomeAnd, OnErr, OnOk};
 ghost use Rattle.mmdb_c.specs.Calls.{Becomes};
+ghost use Rattle.mm_statements.specs.declared.faults.ShareFault.TheVariants as share_fault;
+ghost use Rattle.mmdb_c.specs.Transacting.{IsInTransaction};
 ghost use Rattle.mmdb_c.specs.Sharing.{Joins, Leaves, OpensOn};
 
 use crate::database::Database;
 use crate::handle::Handle;
-use crate::{DONE, NO_MEMORY, NOT_OPEN};
-use no_memory::NoMemory;
+use crate::{DONE, IN_TRANSACTION, NO_MEMORY, NOT_OPEN};
+use mm_statements::ShareFault;
 use std::alloc::Global;
 
 // A database that shares the tables, in a place of its own.
-fn new_reader(alloc: Global, database: &Database) -> Result<Box<Database>, NoMemory>
-    ensures { IfOk result (λ reader. OpensOn database.now reader.value) }
+fn new_reader(alloc: Global, database: &Database) -> Result<Box<Database>, ShareFault>
+    ensures done { IfOk result (λ reader. OpensOn database.now reader.value) }
+    ensures open { IsErrOf result share_fault.InTransaction → IsInTransaction database.now }
+    ensures waits { IsInTransaction database.now → result ≡ Err share_fault.InTransaction }
 {
     let reader = database.reader(alloc)?;
-    Ok(Box::new(alloc, reader)?)
+    match Box::new(alloc, reader) {
+        Ok(reader) => Ok(reader),
+        Err(_) => Err(ShareFault::NoMemory),
+    }
 }
 
 // Has a handle share the tables of a database.
-fn join(alloc: Global, database: &Database, reader: &mut Handle) -> Result<(), NoMemory>
+fn join(alloc: Global, database: &Database, reader: &mut Handle) -> Result<(), ShareFault>
     ensures done { OnOk result (Joins database.now reader.old.database reader.new.database) }
     ensures unchanged { OnErr result (reader.new.database ≡ reader.old.database) }
+    ensures open { IsErrOf result share_fault.InTransaction → IsInTransaction database.now ⊎ IsSomeAnd reader.old.database IsInTransaction }
+    ensures waits { IsInTransaction database.now ⊎ IsSomeAnd reader.old.database IsInTransaction → result ≡ Err share_fault.InTransaction }
 {
     let Some(mut own) = reader.take(alloc) else {
         let opened = new_reader(alloc, database)?;
@@ -33,35 +42,51 @@ fn join(alloc: Global, database: &Database, reader: &mut Handle) -> Result<(), N
     shared
 }
 
+// The status that tells whether tables were shared or left.
+fn status_of(shared: Result<(), ShareFault>) -> u32
+    ensures done { (result ≡ DONE) ↔ IsOk shared }
+    ensures no_memory { (result ≡ NO_MEMORY) ↔ IsErrOf shared share_fault.NoMemory }
+    ensures in_transaction { (result ≡ IN_TRANSACTION) ↔ IsErrOf shared share_fault.InTransaction }
+{
+    match shared {
+        Ok(()) => DONE,
+        Err(ShareFault::NoMemory) => NO_MEMORY,
+        Err(ShareFault::InTransaction) => IN_TRANSACTION,
+    }
+}
+
 /// Has a second handle share the tables of a first, in the place of its own. A closed one is opened.
 #[unsafe(no_mangle)]
 pub extern "C" fn mmdb_share(alloc: Global, handle: &mut Handle, reader: &mut Handle) -> u32
     ensures not_open { (result ≡ NOT_OPEN) ↔ IsNone handle.old.database }
-    ensures open { IsSome handle.old.database → (result ≡ DONE) ⊎ (result ≡ NO_MEMORY) }
+    ensures open { IsSome handle.old.database → (result ≡ DONE) ⊎ ((result ≡ NO_MEMORY) ⊎ (result ≡ IN_TRANSACTION)) }
     ensures done { result ≡ DONE → IsSomeAnd handle.old.database (λ d. Joins d reader.old.database reader.new.database) }
     ensures unchanged { handle.new.database ≡ handle.old.database }
     ensures kept { result ≢ DONE → reader.new.database ≡ reader.old.database }
+    ensures in_transaction { result ≡ IN_TRANSACTION → IsSomeAnd handle.old.database IsInTransaction ⊎ IsSomeAnd reader.old.database IsInTransaction }
+    ensures waits { IsSome handle.old.database × (IsSomeAnd handle.old.database IsInTransaction ⊎ IsSomeAnd reader.old.database IsInTransaction) → result ≡ IN_TRANSACTION }
 {
     let Some(database) = handle.take(alloc) else {
         return NOT_OPEN;
     };
     let joined = join(alloc, &database, reader);
     handle.put(alloc, database);
-    if joined.is_ok() { DONE } else { NO_MEMORY }
+    status_of(joined)
 }
 
 /// Has a handle leave its tables, which go with the last handle that shares them. It has none then.
 #[unsafe(no_mangle)]
 pub extern "C" fn mmdb_leave(alloc: Global, handle: &mut Handle) -> u32
     ensures not_open { (result ≡ NOT_OPEN) ↔ IsNone handle.old.database }
-    ensures open { IsSome handle.old.database → (result ≡ DONE) ⊎ (result ≡ NO_MEMORY) }
+    ensures open { IsSome handle.old.database → (result ≡ DONE) ⊎ ((result ≡ NO_MEMORY) ⊎ (result ≡ IN_TRANSACTION)) }
     ensures done { result ≡ DONE → Becomes handle.old.database handle.new.database Leaves }
     ensures unchanged { result ≢ DONE → handle.new.database ≡ handle.old.database }
+    ensures in_transaction { (result ≡ IN_TRANSACTION) ↔ IsSomeAnd handle.old.database IsInTransaction }
 {
     let Some(mut database) = handle.take(alloc) else {
         return NOT_OPEN;
     };
     let left = database.leave(alloc);
     handle.put(alloc, database);
-    if left.is_ok() { DONE } else { NO_MEMORY }
+    status_of(left)
 }

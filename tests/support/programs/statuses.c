@@ -268,7 +268,7 @@ static void indexes_want_memory_for_their_answer(void)
 
 static void each_status_has_words_of_its_own(void)
 {
-    for (uint32_t one = MMDB_DONE; one <= MMDB_SHARED + 1; one++)
+    for (uint32_t one = MMDB_DONE; one <= MMDB_IN_TRANSACTION + 1; one++)
         for (uint32_t other = MMDB_DONE; other < one; other++)
             CHECK(strcmp(mmdb_status_text(one), mmdb_status_text(other)) != 0);
 }

@@ -1,5 +1,5 @@
 -- The cells that the statement has shown are filled where they stand.
-use Rattle.std.proofs.Common.{◌≡◌, ◌∙◌, ◌<◌, ℕ, List, [], Some, refl, ap, sym, subst, length, get_or-set_same}
+use Rattle.std.proofs.Common.{◌≡◌, ◌∙◌, ◌<◌, ℕ, List, [], Some, Err, refl, ap, sym, subst, length, get_or-set_same}
 use Rattle.std.proofs.lemmas.Result.{err_from_is_err_and}
 use Rattle.std.specs.Option.{option_map_or}
 use Rattle.std.specs.Prelude.{slice_get, slice_set}
@@ -7,6 +7,7 @@ use Rattle.mm_cells.specs.Reading.{AreFull}
 use Rattle.mm_cells.specs.Values.{values_of}
 use Rattle.mm_cells.specs.declared.cells.Cells.{Cells}
 use Rattle.mm_statements.specs.Executing.{HasGiven}
+use Rattle.mm_statements.specs.declared.faults.ExecuteFault.TheVariants as fault
 use Rattle.mmdb_c.specs.StatementCalls.{Tells}
 use Rattle.mmdb_c.proofs.RowLemmas.{set-other, set-same}
 use Rattle.mmdb_c.proofs.database.Database.execute_there.Goals as goal
@@ -24,7 +25,10 @@ returns-in_err-executed-clause-too_long c =
     let cells : Cells = c.execute.new.shown in
     let there : slice_get (slice_set c.args.self.now.shown.items c.args.number cells) c.args.number ≡ Some cells =
     set-same c.args.self.now.shown.items c.args.number cells c.requires in
-    rw (e.1, e.2) (λ is. subst (λ o. AreFull (option_map_or values_of o [])) (sym there) (c.in_err-executed.ensures.too_long is))
+    rw (e.1, e.2)
+    (λ is.
+    let same : c.in_err-executed.field-0.0 ≡ fault.TooLong = cc in
+    subst (λ o. AreFull (option_map_or values_of o [])) (sym there) (c.in_err-executed.ensures.too_long (ap Err same)))
 
 pub returns-clause-done : goal.returns-clause-done
 returns-clause-done c =

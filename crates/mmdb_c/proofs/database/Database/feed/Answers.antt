@@ -13,6 +13,7 @@ returns-clause-write c is = record {
   breaks_off = gained_all _ _ _ c.clear.ensures (c.feed.ensures.write is);
   over = c.feed.ensures.over is;
   limits = c.feed.ensures.limits;
+  saved = c.feed.ensures.saved;
   statements = c.feed.ensures.statements;
   rows = record { shown = refl; queried = refl; columns = refl };
 }
@@ -20,6 +21,15 @@ returns-clause-write c is = record {
 pub returns-clause-shared : goal.returns-clause-shared
 returns-clause-shared c is =
     let same = c.feed.ensures.shared is in
+    record {
+      inner = record { session = same.0; statements = c.feed.ensures.statements };
+      rows = record { shown = refl; queried = refl; columns = refl };
+      answer = same.1 ∙ c.clear.ensures;
+    }
+
+pub returns-clause-put_off : goal.returns-clause-put_off
+returns-clause-put_off c is =
+    let same = c.feed.ensures.in_transaction is in
     record {
       inner = record { session = same.0; statements = c.feed.ensures.statements };
       rows = record { shown = refl; queried = refl; columns = refl };
