@@ -1,4 +1,4 @@
-use Rattle.std.proofs.Common.{◌≡◌, ap, Err, Some}
+use Rattle.std.proofs.Common.{rules, ◌≡◌, Some}
 use Rattle.mmdb_c.specs.Sharing.{IsLineKeptOff}
 use Rattle.mmdb_c.proofs.Told.{becomes}
 use Rattle.mmdb_c.proofs.statement_calls.mmdb_query.Goals as goal
@@ -11,5 +11,6 @@ returns-in-Err-Shared-clause-shared c is =
     let put = c.put-2.ensures in
     let was : c.args.handle.now.database ≡ Some c.deref_mut.result.now = cc in
     let now : c.put-2.new.self.database ≡ Some c.query-queried.new.self = cc in
+    let kept : IsLineKeptOff c.args.line.now c.deref_mut.result.now c.query-queried.new.self = search rules in
     becomes c.args.handle.now.database c.put-2.new.self.database c.deref_mut.result.now c.query-queried.new.self (IsLineKeptOff c.args.line.now) was now
-    (c.in-Err-Shared.ensures-1.shared (ap Err c.in-Err-Shared.field-0-is))
+    kept
