@@ -1,6 +1,7 @@
 """Commands on four times the rows cost about four times as much, whatever values the indexes hold. Valgrind counts the instructions of the
-patterns of support/growth.py; in large sizes (`tests/fire growth`) their processor time is measured. There some patterns have absolute
-limits too, expiry is compared with SQLite's, and the memory of a row has a limit. MMDB_ROWS sets the rows of the smaller tables.
+patterns of support/growth.py. In large sizes (`tests/fire growth`) it does so on more rows, and their processor time is measured too. There
+some patterns have absolute limits, expiry is compared with SQLite's, and the memory of a row has a limit. MMDB_ROWS sets the rows of the
+smaller tables.
 """
 
 import math
@@ -14,10 +15,12 @@ from support import growth, holding, sizes
 
 FEW = sizes.said("MMDB_ROWS", sizes.size(1_000, 100_000, 250))
 MANY = 4 * FEW
-BEYOND = 4 * MANY
-# A pattern grows by this power of its rows at most, and takes at most so many times what it takes on differing values. A time also grows
-# where the smaller table fits a cache and the larger one doesn't: then it is taken again of tables that both are larger.
+# Tables whose instructions are counted: in large sizes they have fewer rows than those that are timed.
+COUNTED = (FEW // 10, MANY // 10) if sizes.is_large else (FEW, MANY)
+# The instructions of a pattern grow by this power of its rows at most, and it takes at most so many times what it takes on differing
+# values. A time also grows where a cache holds the smaller table and not the larger, so it has a power of its own.
 MOST_POWER = 1.3
+MOST_POWER_OF_TIMES = 1.5
 MOST_RATIO = 1.5
 # A time is the least of some rounds, and a shorter one than this is taken for it.
 ROUNDS = 3
@@ -40,22 +43,57 @@ def pairs(asked):
     return [pattern.pair(rows) for pattern, rows in asked]
 
 
-def ratio(taken, other):
-    """How many times another what is taken is; counts of instructions are all above the least time."""
-    return max(taken, LEAST) / max(other, LEAST)
-
-
 def tell(what):
     print(what, flush=True)
 
 
+class Growing:
+    """Patterns, of which `taken` has what each takes at two numbers of rows."""
+
+    def powers(self, rows, least):
+        """By which power of its rows each pattern grows; what is less than the least counts as that."""
+        few, many = rows
+        for pattern in self.patterns:
+            grown = max(self.taken[pattern, many], least) / max(self.taken[pattern, few], least)
+            yield pattern, math.log(grown, many / few)
+
+    def check_powers(self, rows, most, least=0):
+        for pattern, power in self.powers(rows, least):
+            with self.subTest(pattern=str(pattern)):
+                self.assertLessEqual(power, most)
+
+    def check_ratios(self, rows, least=0):
+        for pattern in filter(growth.Pattern.is_hashed, self.patterns):
+            for count in rows:
+                with self.subTest(pattern=str(pattern), rows=count):
+                    differing = max(self.taken[pattern.partner(), count], least)
+                    self.assertLessEqual(self.taken[pattern, count], MOST_RATIO * differing)
+
+
 @unittest.skipUnless(sizes.is_large or shutil.which("valgrind"), "valgrind is not installed")
-class Patterns(unittest.TestCase):
+class Instructions(Growing, unittest.TestCase):
+    @classmethod
+    def setUpClass(cls):
+        cls.patterns = growth.patterns()
+        asked = [(pattern, rows) for pattern in cls.patterns for rows in COUNTED]
+        cls.taken = dict(zip(asked, METER.instructions(pairs(asked))))
+
+    def test_no_pattern_grows_by_the_square(self):
+        pattern, power = max(self.powers(COUNTED, 0), key=lambda found: found[1])
+        tell(f"{pattern}: by the power {power:.2f} of its rows, which is the greatest, from {COUNTED[0]} to {COUNTED[1]}")
+        self.check_powers(COUNTED, MOST_POWER)
+
+    def test_equal_values_take_as_long_as_differing_ones(self):
+        self.check_ratios(COUNTED)
+
+
+@unittest.skipUnless(sizes.is_large, "times are measured in large sizes only")
+class PatternTimes(Growing, unittest.TestCase):
     @classmethod
     def setUpClass(cls):
         cls.patterns = growth.patterns()
         asked = [(pattern, rows) for pattern in cls.patterns for rows in (FEW, MANY)]
-        cls.taken = cls.timed(asked) if sizes.is_large else dict(zip(asked, METER.instructions(pairs(asked))))
+        cls.taken = cls.timed(asked)
 
     @classmethod
     def timed(cls, asked):
@@ -68,31 +106,14 @@ class Patterns(unittest.TestCase):
                 tell(f"{pattern}: {taken[pattern, rows]:.4f} s at {rows} rows")
         return taken
 
-    def power(self, pattern, few, many):
-        """By which power of its rows a pattern grows."""
-        return math.log(ratio(self.taken[pattern, many], self.taken[pattern, few]), many / few)
-
-    def power_beyond(self, pattern):
-        """The same where the tables are larger, and both past the caches."""
-        asked = [(pattern, rows) for rows in (MANY, BEYOND)]
-        self.taken.update(zip(asked, METER.seconds(pairs(asked), ROUNDS)))
-        power = self.power(pattern, MANY, BEYOND)
-        tell(f"{pattern}: by the power {self.power(pattern, FEW, MANY):.2f}, from {MANY} to {BEYOND} rows by {power:.2f}")
-        return power
-
-    def test_no_pattern_grows_by_the_square(self):
-        for pattern in self.patterns:
-            with self.subTest(pattern=str(pattern)):
-                power = self.power(pattern, FEW, MANY)
-                if sizes.is_large and power > MOST_POWER:
-                    power = self.power_beyond(pattern)
-                self.assertLessEqual(power, MOST_POWER)
+    def test_no_time_grows_by_the_square(self):
+        for pattern, power in self.powers((FEW, MANY), LEAST):
+            if power > MOST_POWER:
+                tell(f"{pattern}: by the power {power:.2f}")
+        self.check_powers((FEW, MANY), MOST_POWER_OF_TIMES, LEAST)
 
     def test_equal_values_take_as_long_as_differing_ones(self):
-        for pattern in filter(growth.Pattern.is_hashed, self.patterns):
-            for rows in (FEW, MANY):
-                with self.subTest(pattern=str(pattern), rows=rows):
-                    self.assertLessEqual(ratio(self.taken[pattern, rows], self.taken[pattern.partner(), rows]), MOST_RATIO)
+        self.check_ratios((FEW, MANY), LEAST)
 
 
 @unittest.skipUnless(sizes.is_large, "times are measured in large sizes only")
