@@ -27,9 +27,6 @@ impl Model for Handle {
     ghost also_owns = { λ h. holds the_row h.at h.database };
 }
 
-// Any thread may use and free what it owns.
-unsafe impl Send for Handle {}
-
 impl Handle {
     /// A handle of no database.
     pub fn closed() -> Handle
