@@ -8,8 +8,10 @@
        mmdb_close(&db);
 
    A handle is one pointer, which is the library's. Make it MMDB_CLOSED before its first use; each call takes its
-   address. The calls on one handle come one after another; each thread may have handles of its own, which share
-   nothing. Nothing here is to be called from a signal handler.
+   address. Each handle is for one call at a time, whichever thread makes it, also where it is the second handle of a
+   call. A lock, or a thread's start or end, orders the calls on a handle. Calls on two handles may run at the same time.
+   Handles share no tables unless mmdb_share says so: then each of them reads the tables, and none changes them. To write,
+   have every other handle leave first. Nothing here is to be called from a signal handler.
 
    Nothing is kept on disk, and no call reads or writes a file or a socket. No call ends the process: one that runs out
    of memory gives MMDB_NO_MEMORY or `error 90`. Only mmdb_close frees what a handle holds.
@@ -109,16 +111,23 @@ typedef enum mmdb_status {
     MMDB_NO_LINE = 5,            /* a line that is null or has no bytes; a block, a piece or a name that is null and has
                                     some */
     MMDB_NOT_ONE_REQUEST = 6,    /* a line feed in a line; a line that asks for a block of another length than given */
-    MMDB_NO_MEMORY = 7,          /* mmdb_open, mmdb_prepare, mmdb_bind_text of more than 14 bytes, and the calls that tell
-                                    a reason: none was found. mmdb_feed: none for the answers; the stream is over */
+    MMDB_NO_MEMORY = 7,          /* mmdb_open, mmdb_begin, mmdb_share, mmdb_leave, mmdb_prepare, mmdb_bind_text of more
+                                    than 14 bytes, and the calls that tell a reason: none was found. mmdb_feed: none for
+                                    the answers; the stream is over */
     MMDB_ENDED = 8,              /* mmdb_feed of a stream that is over; the other calls go on */
     MMDB_NO_SUCH_STATEMENT = 9,  /* the number names no statement, or one that was finalised */
     MMDB_NO_SUCH_PLACE = 10,     /* the statement has no place of that number */
     MMDB_NOT_UTF8 = 11,          /* mmdb_bind_text of bytes that are not UTF-8 */
     MMDB_REFUSED = 12,           /* mmdb_prepare, mmdb_execute, mmdb_columns, mmdb_query: refused. mmdb_answer and
                                     mmdb_refusal tell why, as `error 41 key exists` and a line feed; nothing changed */
-    MMDB_TOO_LARGE = 13          /* mmdb_execute, mmdb_columns, mmdb_query: the texts of the rows are more than 4 GiB
-                                    together; mmdb_prepare: the database has 4294967296 statements. Nothing changed */
+    MMDB_TOO_LARGE = 13,         /* mmdb_execute, mmdb_query: the texts of the rows are more than 4 GiB together;
+                                    mmdb_prepare: the database has 4294967296 statements. Nothing changed */
+    MMDB_SHARED = 14,            /* mmdb_execute and mmdb_query of a change; mmdb_command, mmdb_load, mmdb_feed, mmdb_begin,
+                                    mmdb_commit, mmdb_rollback: another handle shares the tables. Nothing changed */
+    MMDB_NO_TRANSACTION = 15,    /* mmdb_commit, mmdb_rollback: no transaction is open */
+    MMDB_IN_TRANSACTION = 16     /* what isn't done in a transaction yet: mmdb_execute and mmdb_query of an update or a
+                                    delete; mmdb_command and mmdb_load of another line than insert, load, select, dump
+                                    and tables; mmdb_feed, mmdb_share, mmdb_leave. Nothing changed */
 } mmdb_status;
 
 /* How plans are chosen. No policy changes an answer, only what it costs. MMDB_AUTO is the one to take. */
@@ -133,7 +142,7 @@ typedef enum mmdb_policy {
 /* The greatest number of rows of a table, and of bytes of a block. */
 #define MMDB_MOST UINT32_C(16777216)
 
-/* The calls. Each gives an mmdb_status, but for the two that say otherwise. */
+/* The calls. Each gives an mmdb_status, but for the three that say otherwise. */
 
 /* Opens a database without tables. A table takes `rows` rows at most, from 1 to MMDB_MOST, and a block that is loaded
    or dumped has `block` bytes at most, from 0 to MMDB_MOST; no memory is taken ahead for either.
@@ -144,7 +153,9 @@ uint32_t mmdb_open(mmdb *db, uint32_t policy, uint32_t rows, uint32_t block);
 /* Answers one line, which has no line feed. One carriage return at its end is dropped, so the line may be what stands
    before a line feed in any file. A line that asks for a block, as `load T 20` does, goes to mmdb_load.
    Gives MMDB_DONE and the answer, which is good until the next call on this handle: the bytes that the program mmdb
-   writes for the line, none for blanks and comments. Or gives MMDB_NOT_OPEN, MMDB_NO_LINE or MMDB_NOT_ONE_REQUEST. */
+   writes for the line, none for blanks and comments. Or gives MMDB_NOT_OPEN or MMDB_NO_LINE; or MMDB_IN_TRANSACTION
+   where the line begins with none of insert, load, select, dump and tables; or MMDB_SHARED, whatever line it is; or
+   MMDB_NOT_ONE_REQUEST. */
 uint32_t mmdb_command(mmdb *db, const void *line, size_t length, mmdb_bytes *answer);
 
 /* Answers one line with the block that it asks for: `load T 20` with 20 bytes. Answer and statuses are as those of
@@ -176,15 +187,16 @@ uint32_t mmdb_bind_null(mmdb *db, uint32_t statement, uint32_t place);
    Gives MMDB_DONE: and of a select its rows, which are good until this statement is executed again or finalised, or the
    handle is closed; of the others `changed`, and no rows. Or gives MMDB_REFUSED as the line with these values would be,
    in the same order, and by 90 when out of memory; MMDB_TOO_LARGE where the texts of its rows are more than 4 GiB
-   together; or MMDB_NOT_OPEN or MMDB_NO_SUCH_STATEMENT. */
+   together; MMDB_SHARED where it is no select, its names and values are right, and another handle shares the tables;
+   MMDB_IN_TRANSACTION where it is an update or a delete whose names and values are right, and a transaction is open; or
+   MMDB_NOT_OPEN or MMDB_NO_SUCH_STATEMENT. */
 uint32_t mmdb_execute(mmdb *db, uint32_t statement, mmdb_rows *rows);
 
 /* The columns that the rows of a select have, whatever values are bound: a row for each, of two cells, its name as T.c
    and its kind, which is the integer MMDB_INTEGER or MMDB_TEXT. Another statement has no columns. They are good until
    the next call on this handle.
    Gives MMDB_DONE and the columns; or MMDB_REFUSED where mmdb_prepare of the line would be refused now, as by 30 once
-   its table is dropped, or by 90 when out of memory; or MMDB_TOO_LARGE, which a select has no columns for; or
-   MMDB_NOT_OPEN or MMDB_NO_SUCH_STATEMENT. */
+   its table is dropped, or by 90 when out of memory; or MMDB_NOT_OPEN or MMDB_NO_SUCH_STATEMENT. */
 uint32_t mmdb_columns(mmdb *db, uint32_t statement, mmdb_rows *columns);
 
 /* Frees a statement: its rows are good no longer, and its number may be given to another. It needs no memory. The
@@ -199,14 +211,16 @@ uint32_t mmdb_finalize(mmdb *db, uint32_t statement);
    whatever other calls there are; of the others `changed`, and no rows. Or gives MMDB_NOT_OPEN or MMDB_NO_LINE; or
    MMDB_REFUSED as mmdb_command would be answered, in the same order, and by 90 when out of memory. A line feed, a ? in
    no text, blanks, comments and all other commands are 20, once the line is neither too long (10) nor other than UTF-8
-   (11). Or gives MMDB_TOO_LARGE where the texts of the rows are more than 4 GiB together. */
+   (11). Or gives MMDB_TOO_LARGE where the texts of the rows are more than 4 GiB together; or MMDB_SHARED or
+   MMDB_IN_TRANSACTION as mmdb_execute does. */
 uint32_t mmdb_query(mmdb *db, const void *line, size_t length, mmdb_rows *rows);
 
 /* Takes the next bytes of a stream of lines and blocks, cut wherever it may be, and answers each request that ends in
    them, at its line feed or with the last byte of its block; mmdb_answer gives these answers. A request whose end is
    yet to come waits for the next piece. mmdb_command and mmdb_load stand beside the stream and leave what waits.
    Gives MMDB_DONE; MMDB_NOT_OPEN; MMDB_NO_LINE; MMDB_NO_MEMORY where the answers found no room, and then the stream is
-   over, and requests of this piece may have been done; or MMDB_ENDED where it was over before. */
+   over, and requests of this piece may have been done; MMDB_ENDED where it was over before; or MMDB_IN_TRANSACTION or
+   MMDB_SHARED, and then the piece was not taken, and the last answers have no bytes. */
 uint32_t mmdb_feed(mmdb *db, const void *piece, size_t length);
 
 /* Tells how the indexes of a table stand, by its name, beside the stream; it changes nothing. The answer is as that of a
@@ -255,8 +269,36 @@ uint32_t mmdb_prepare_reason(mmdb *db, const void *line, size_t length, mmdb_byt
    where none was found for the words. */
 uint32_t mmdb_statement_reason(mmdb *db, uint32_t statement, mmdb_bytes *reason);
 
-/* Closes a handle and frees all that it holds; its answers are no longer valid. It is MMDB_CLOSED then, and may be
-   opened again. Of a closed handle and of null nothing is done. */
+/* Begins a transaction, in those of the handle that are open: a second is a savepoint of the first. The stream, the
+   statements, the rows and the answers stay, here and where a transaction ends.
+   Gives MMDB_DONE; or MMDB_NOT_OPEN, MMDB_NO_MEMORY or MMDB_SHARED, and then none has begun. */
+uint32_t mmdb_begin(mmdb *db);
+
+/* Ends the innermost transaction. After mmdb_commit the tables stay as they are; after mmdb_rollback they are those that it
+   began with, whatever was done since. A rollback needs no memory.
+   Gives MMDB_DONE; or MMDB_NOT_OPEN, MMDB_NO_TRANSACTION or MMDB_SHARED, and then all is as it was. */
+uint32_t mmdb_commit(mmdb *db);
+uint32_t mmdb_rollback(mmdb *db);
+
+/* Gives no status, but how many transactions are open: 0 also of a closed handle. */
+size_t mmdb_transactions(mmdb *db);
+
+/* Has a second handle share the tables of a first, and its stream, in the place of its own. A closed reader is open then,
+   without statements. Where it was open, its statements with their values, its rows and its answers stay. All is as it
+   was of db. While two handles share tables, each reads them by mmdb_execute and mmdb_query of a select, and neither
+   changes them (MMDB_SHARED). Both are in a call here.
+   Gives MMDB_DONE; or MMDB_NOT_OPEN where db is closed or a handle is null, MMDB_IN_TRANSACTION where a transaction of
+   either is open, or MMDB_NO_MEMORY, and then reader is as it was. */
+uint32_t mmdb_share(mmdb *db, mmdb *reader);
+
+/* Has a handle leave its tables, which are freed where no other handle shares them. It has none then, and a new stream.
+   Its statements with their values, its rows and its answers stay: a statement is refused by 30 until the handle shares
+   or declares its tables again.
+   Gives MMDB_DONE; or MMDB_NOT_OPEN, MMDB_IN_TRANSACTION or MMDB_NO_MEMORY, and then it is as it was. */
+uint32_t mmdb_leave(mmdb *reader);
+
+/* Closes a handle and frees all that it holds; its answers are no longer valid. Tables that another handle shares stay.
+   It is MMDB_CLOSED then, and may be opened again. Of a closed handle and of null nothing is done. */
 void mmdb_close(mmdb *db);
 
 /* The cell of a row and a column, both numbered from 0. Neither is past the last: that isn't checked. */
@@ -304,6 +346,12 @@ static inline const char *mmdb_status_text(uint32_t status)
         return "refused, as the answer tells";
     case MMDB_TOO_LARGE:
         return "more than 4 GiB of texts, or 4294967296 statements";
+    case MMDB_SHARED:
+        return "another handle shares the tables";
+    case MMDB_NO_TRANSACTION:
+        return "no transaction is open";
+    case MMDB_IN_TRANSACTION:
+        return "not done in a transaction";
     default:
         return "no such status";
     }
@@ -519,6 +567,40 @@ static inline mmdb_status mmdb_checked_statement_reason(mmdb *db, uint32_t state
     return mmdb_checked_is_closed(db) ? MMDB_NOT_OPEN : mmdb_checked_status(mmdb_statement_reason(db, statement, to));
 }
 
+static inline mmdb_status mmdb_checked_begin(mmdb *db)
+{
+    return mmdb_checked_is_closed(db) ? MMDB_NOT_OPEN : mmdb_checked_status(mmdb_begin(db));
+}
+
+static inline mmdb_status mmdb_checked_commit(mmdb *db)
+{
+    return mmdb_checked_is_closed(db) ? MMDB_NOT_OPEN : mmdb_checked_status(mmdb_commit(db));
+}
+
+static inline mmdb_status mmdb_checked_rollback(mmdb *db)
+{
+    return mmdb_checked_is_closed(db) ? MMDB_NOT_OPEN : mmdb_checked_status(mmdb_rollback(db));
+}
+
+static inline size_t mmdb_checked_transactions(mmdb *db)
+{
+    return mmdb_checked_is_closed(db) ? 0 : mmdb_transactions(db);
+}
+
+static inline mmdb_status mmdb_checked_share(mmdb *db, mmdb *reader)
+{
+    if (mmdb_checked_is_closed(db) || !reader)
+        return MMDB_NOT_OPEN;
+    if (db == reader)
+        return mmdb_transactions(db) == 0 ? MMDB_DONE : MMDB_IN_TRANSACTION;
+    return mmdb_checked_status(mmdb_share(db, reader));
+}
+
+static inline mmdb_status mmdb_checked_leave(mmdb *reader)
+{
+    return mmdb_checked_is_closed(reader) ? MMDB_NOT_OPEN : mmdb_checked_status(mmdb_leave(reader));
+}
+
 static inline void mmdb_checked_close(mmdb *db)
 {
     if (!mmdb_checked_is_closed(db))
@@ -543,6 +625,12 @@ static inline void mmdb_checked_close(mmdb *db)
 #define mmdb_reason mmdb_checked_reason
 #define mmdb_prepare_reason mmdb_checked_prepare_reason
 #define mmdb_statement_reason mmdb_checked_statement_reason
+#define mmdb_begin mmdb_checked_begin
+#define mmdb_commit mmdb_checked_commit
+#define mmdb_rollback mmdb_checked_rollback
+#define mmdb_transactions mmdb_checked_transactions
+#define mmdb_share mmdb_checked_share
+#define mmdb_leave mmdb_checked_leave
 #define mmdb_close mmdb_checked_close
 
 #ifdef __cplusplus
