@@ -343,6 +343,9 @@ class Reasons(binding.WithDatabase):
 
     def test_lines_that_a_new_user_might_type(self):
         for line, told in zip(hand.LINES, hand.TOLD, strict=True):
+            # (in Python a line with ? or :id has places, and wants parameters)
+            if "?" in line or ":id" in line:
+                continue
             with self.subTest(line=line):
                 self.assertEqual(str(self.refused(int(told[6:8]), self.db.execute, line)).split("\n")[0], told)
 

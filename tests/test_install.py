@@ -43,6 +43,7 @@ FILES = {
     "share/doc/mmdb/docs/running.md",
     "share/doc/mmdb/docs/shell.md",
     "share/doc/mmdb/docs/threads.md",
+    "share/doc/mmdb/docs/transactions.md",
     "share/man/man1/mmdb.1",
     "share/man/man1/mmdb-shell.1",
     "share/man/man3/mmdb.3",

@@ -65,7 +65,7 @@ class Contents(unittest.TestCase):
         self.assertEqual(re.findall(r"^\.TP\n\.B (MMDB_\w+)$", values, re.MULTILINE), statuses)
 
     def test_each_call_of_the_library_is_told(self):
-        calls = re.findall(r"^(?:static inline )?(?:uint32_t|void|const \w+|mmdb_bytes) \*?(mmdb_(?!checked)\w+)\(", HEADER, re.MULTILINE)
+        calls = re.findall(r"^(?:static inline )?(?:uint32_t|size_t|void|const \w+|mmdb_bytes) \*?(mmdb_(?!checked)\w+)\(", HEADER, re.MULTILINE)
         told = re.findall(r'^\.BI "[\w ]*\*?(mmdb_\w+)\(', LIBRARY.read_text(), re.MULTILINE)
         self.assertEqual(told, calls)
 

@@ -102,7 +102,7 @@ static void *write_all(void *given)
 
 static void begin(reader *of)
 {
-    static const char select[] = "select s from t where id >= ?", insert[] = "insert t (-1, null)";
+    static const char select[] = "select s from t where id >= ?", insert[] = "insert t (-1, 'none')";
     GIVES(mmdb_share(&db, &of->db), MMDB_DONE);
     GIVES(mmdb_prepare(&of->db, select, strlen(select), &of->find), MMDB_DONE);
     GIVES(mmdb_prepare(&of->db, insert, strlen(insert), &of->insert), MMDB_DONE);

@@ -43,7 +43,7 @@ static const struct {
     { "update emp set name = ? where id=?",
       { TEXT("two\nlines"), TEXT("1\n2") },
       35,
-      "column 34: column id of emp has integers, and '1\xEF\xBF\xBD" "2' is a text" },
+      "column 34: column id of emp has integers, and '1<U+000A>2' is a text" },
     { "insert emp (?, ?, null)", { INTEGER(2), NOTHING }, 35, "column 16: column name of emp takes no null" },
     { "delete emp where dept < ?", { NOTHING }, 35, "column 25: null has no order, and stands behind = and <> alone: dept" },
     { "insert emp (?, ?, null)",

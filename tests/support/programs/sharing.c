@@ -78,6 +78,7 @@ static void it_changes_nothing(mmdb *db)
     mmdb_bytes answer;
     mmdb_statement insert = prepared(db, INSERT);
     GIVES(mmdb_bind_integer(db, insert.number, 0, 2), MMDB_DONE);
+    GIVES(mmdb_bind_text(db, insert.number, 1, "two", 3), MMDB_DONE);
     GIVES(mmdb_execute(db, insert.number, &rows), MMDB_SHARED);
     CHECK(rows.rows == 0 && rows.changed == 0);
     GIVES(mmdb_answer(db, &answer), MMDB_DONE);
@@ -103,7 +104,7 @@ static void it_is_refused_as_ever(mmdb *db)
     mmdb_statement insert = prepared(db, INSERT);
     GIVES(mmdb_bind_text(db, insert.number, 0, "two", 3), MMDB_DONE);
     GIVES(mmdb_execute(db, insert.number, NULL), MMDB_REFUSED);
-    GIVES(mmdb_refusal(db), 32);
+    GIVES(mmdb_refusal(db), 35);
     GIVES(mmdb_statement_reason(db, insert.number, &answer), MMDB_DONE);
     CHECK(answer.length > 0);
     GIVES(query(db, "delete u", NULL), MMDB_REFUSED);
