@@ -15,12 +15,13 @@ from support import growth, holding, sizes
 
 FEW = sizes.said("MMDB_ROWS", sizes.size(1_000, 100_000, 250))
 MANY = 4 * FEW
+BEYOND = 4 * MANY
 # Tables whose instructions are counted: in large sizes they have fewer rows than those that are timed.
 COUNTED = (FEW // 10, MANY // 10) if sizes.is_large else (FEW, MANY)
-# The instructions of a pattern grow by this power of its rows at most, and it takes at most so many times what it takes on differing
-# values. A time also grows where a cache holds the smaller table and not the larger, so it has a power of its own.
+# The instructions of a pattern, and its time, grow by this power of its rows at most, and it takes at most so many times what it takes on
+# differing values. A time also grows where the smaller table fits a cache and the larger one doesn't: then it is taken again of tables that
+# both are larger.
 MOST_POWER = 1.3
-MOST_POWER_OF_TIMES = 1.5
 MOST_RATIO = 1.5
 # A time is the least of some rounds, and a shorter one than this is taken for it.
 ROUNDS = 3
@@ -57,11 +58,6 @@ class Growing:
             grown = max(self.taken[pattern, many], least) / max(self.taken[pattern, few], least)
             yield pattern, math.log(grown, many / few)
 
-    def check_powers(self, rows, most, least=0):
-        for pattern, power in self.powers(rows, least):
-            with self.subTest(pattern=str(pattern)):
-                self.assertLessEqual(power, most)
-
     def check_ratios(self, rows, least=0):
         for pattern in filter(growth.Pattern.is_hashed, self.patterns):
             for count in rows:
@@ -81,7 +77,9 @@ class Instructions(Growing, unittest.TestCase):
     def test_no_pattern_grows_by_the_square(self):
         pattern, power = max(self.powers(COUNTED, 0), key=lambda found: found[1])
         tell(f"{pattern}: by the power {power:.2f} of its rows, which is the greatest, from {COUNTED[0]} to {COUNTED[1]}")
-        self.check_powers(COUNTED, MOST_POWER)
+        for pattern, power in self.powers(COUNTED, 0):
+            with self.subTest(pattern=str(pattern)):
+                self.assertLessEqual(power, MOST_POWER)
 
     def test_equal_values_take_as_long_as_differing_ones(self):
         self.check_ratios(COUNTED)
@@ -106,11 +104,20 @@ class PatternTimes(Growing, unittest.TestCase):
                 tell(f"{pattern}: {taken[pattern, rows]:.4f} s at {rows} rows")
         return taken
 
+    def power_beyond(self, pattern, power):
+        """By which power a pattern grows where the tables are larger, and both past the caches."""
+        asked = [(pattern, rows) for rows in (MANY, BEYOND)]
+        few, many = (max(seconds, LEAST) for seconds in METER.seconds(pairs(asked), ROUNDS))
+        beyond = math.log(many / few, BEYOND / MANY)
+        tell(f"{pattern}: by the power {power:.2f}, from {MANY} to {BEYOND} rows by {beyond:.2f}")
+        return beyond
+
     def test_no_time_grows_by_the_square(self):
         for pattern, power in self.powers((FEW, MANY), LEAST):
-            if power > MOST_POWER:
-                tell(f"{pattern}: by the power {power:.2f}")
-        self.check_powers((FEW, MANY), MOST_POWER_OF_TIMES, LEAST)
+            with self.subTest(pattern=str(pattern)):
+                if power > MOST_POWER:
+                    power = self.power_beyond(pattern, power)
+                self.assertLessEqual(power, MOST_POWER)
 
     def test_equal_values_take_as_long_as_differing_ones(self):
         self.check_ratios((FEW, MANY), LEAST)
