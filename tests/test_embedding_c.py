@@ -32,23 +32,6 @@ def tearDownModule():
     ROOM.close()
 
 
-class Programs(unittest.TestCase):
-    """What the tests of programs share."""
-
-    def check_ran(self, program, out=b"", **how):
-        ended = compiling.ran(program, **how)
-        self.assertEqual((ended.status, ended.out, ended.err), (0, out, b""))
-
-    def check_counted(self, program, out=b""):
-        """A program that counts its memory gave all of it back."""
-        ended = compiling.ran(program)
-        count = compiling.COUNT.fullmatch(ended.err)
-        self.assertIsNotNone(count, ended.err.decode(errors="replace"))
-        self.assertEqual((ended.status, ended.out), (0, out))
-        self.assertEqual(count[1], count[2])
-        self.assertGreater(int(count[1]), 0)
-
-
 class Header(unittest.TestCase):
     """The header by itself, and the names that a library shows."""
 
@@ -91,7 +74,7 @@ class Header(unittest.TestCase):
         self.assertEqual({line.split()[0] for line in shown.splitlines()}, EXPORTS)
 
 
-class Examples(Programs):
+class Examples(compiling.Programs):
     """Each example writes what stands beside it, however it is built, and whichever call for memory is refused."""
 
     def each(self, name, words=compiling.C, and_with=()):
@@ -140,7 +123,7 @@ class Examples(Programs):
         return ended.status == 1
 
 
-class Page(Programs):
+class Page(compiling.Programs):
     """The first program of docs/c.md writes what the page says."""
 
     def setUp(self):
@@ -162,7 +145,7 @@ class Page(Programs):
         self.check_ran(program, self.expected, env=found)
 
 
-class Embedding(Programs):
+class Embedding(compiling.Programs):
     """The programs of tests/support/programs, which check the calls themselves."""
 
     def check_program(self, name):

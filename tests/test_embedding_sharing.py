@@ -25,15 +25,11 @@ def tearDownModule():
     ROOM.close()
 
 
-class Sharing(unittest.TestCase):
+class Sharing(compiling.Programs):
     """One thread: each status, what stays, and handles closed in each order."""
 
     def check(self, name, words=compiling.C):
-        ended = compiling.ran(ROOM.compiled(name, SHARING, words, compiling.COUNTED))
-        count = compiling.COUNT.fullmatch(ended.err)
-        self.assertIsNotNone(count, ended.err.decode(errors="replace"))
-        self.assertEqual((ended.status, ended.out), (0, b""))
-        self.assertEqual(count[1], count[2])
+        self.check_counted(ROOM.compiled(name, SHARING, words, compiling.COUNTED))
 
     def test_each_status_and_all_memory_comes_back(self):
         self.check("sharing")

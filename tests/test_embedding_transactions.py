@@ -12,15 +12,11 @@ def tearDownModule():
     ROOM.close()
 
 
-class Transactions(unittest.TestCase):
+class Transactions(compiling.Programs):
     """Each order, with and without the sanitizers; all memory comes back."""
 
     def check(self, name, words=compiling.C):
-        ended = compiling.ran(ROOM.compiled(name, TRANSACTIONS, words, compiling.COUNTED))
-        count = compiling.COUNT.fullmatch(ended.err)
-        self.assertIsNotNone(count, ended.err.decode(errors="replace"))
-        self.assertEqual((ended.status, ended.out), (0, b""))
-        self.assertEqual(count[1], count[2])
+        self.check_counted(ROOM.compiled(name, TRANSACTIONS, words, compiling.COUNTED))
 
     def test_each_order_is_as_of_plain_lists(self):
         self.check("transactions")

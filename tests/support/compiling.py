@@ -7,6 +7,7 @@ import pathlib
 import re
 import subprocess
 import tempfile
+import unittest
 
 from . import harness, tested
 
@@ -70,3 +71,20 @@ def ran(program, stream=b"", **how):
     words = program if isinstance(program, list) else [program]
     done = subprocess.run(words, input=stream, capture_output=True, timeout=harness.SECONDS, check=False, **how)
     return harness.Ended(done.returncode, done.stdout, done.stderr)
+
+
+class Programs(unittest.TestCase):
+    """What the tests of compiled programs share."""
+
+    def check_ran(self, program, out=b"", **how):
+        ended = ran(program, **how)
+        self.assertEqual((ended.status, ended.out, ended.err), (0, out, b""))
+
+    def check_counted(self, program, out=b""):
+        """A program that counts its memory gave all of it back."""
+        ended = ran(program)
+        count = COUNT.fullmatch(ended.err)
+        self.assertIsNotNone(count, ended.err.decode(errors="replace"))
+        self.assertEqual((ended.status, ended.out), (0, out))
+        self.assertEqual(count[1], count[2])
+        self.assertGreater(int(count[1]), 0)
