@@ -10,13 +10,11 @@ use Rattle.part_raw.proofs.Tuples.{held_tuple}
 use Rattle.plain_tables.specs.declared.numbers.ColumnNumber.{ColumnNumber}
 use Rattle.mm_relation.specs.Rows.{Row}
 use Rattle.mm_relation.specs.declared.row.Cell.{Cell}
-use Rattle.mm_relation.specs.declared.index.Index.{Index}
-use Rattle.mm_relation.specs.declared.index.Index.TheVariants.{Tree, Hash}
 use Rattle.mm_relation.specs.declared.numbers.DeclaredIndex.{DeclaredIndex}
 use Rattle.mm_relation.specs.Reading.{Keys, cell_value, row_value, value_at}
 use Rattle.mm_relation.specs.State.{IsKeyed, IsReadable}
 use Rattle.mm_relation.specs.Settings.{with_cells, pile, piled, CanSet, CellsSet}
-use Rattle.mm_relation.specs.Indexes.{Indexes, HaveRoom, CanRead, IsColumn, declaration_of, wanted, room_in}
+use Rattle.mm_relation.specs.Indexes.{Indexes, CanRead, IsColumn, declaration_of}
 use Rattle.mm_relation.proofs.Setting.{not_before, one_set, still_read}
 
 -- as many rows under the same list
@@ -25,19 +23,6 @@ as_few old now list before after few =
     let old_count : length list ≡ len old = before.lists.count in
     let new_count : length list ≡ len now = after.lists.count in
     omega arith
-
--- room for some is room for fewer
-pub fewer_in : (n m : ℕ) (index : Index) → n ≤ m → wanted m index ≤ room_in index → wanted n index ≤ room_in index
-fewer_in n m (Tree t) fewer room = omega (arith, fewer, room)
-fewer_in n m (Hash h) fewer room = room
-
-pub room_for_fewer : (n m : ℕ) (all : Indexes) → n ≤ m → HaveRoom m all → HaveRoom n all
-room_for_fewer n m all fewer room k d l = fewer_in n m (get_or all k d).index fewer (room k d l)
-
-pub room_next : (n i : ℕ) (old new : Indexes) → i < n → ((m : ℕ) → HaveRoom (m + 1) old → HaveRoom m new) → HaveRoom (n - i) old → HaveRoom (n - (i + 1)) new
-room_next n i old new inside left room =
-    let one : n - i ≡ n - (i + 1) + 1 = omega arith in
-    left (n - (i + 1)) (subst (λ m. HaveRoom m old) one room)
 
 -- the pile for one row lies on that for the rest
 pub pile_split : (n i : ℕ) (sets : List (ColumnNumber × Cell)) → i < n → pile (n - i) sets ≡ piled sets (pile (n - (i + 1)) sets)

@@ -34,7 +34,7 @@ clear_slot words slot is_out = elim (has_slot words slot) as (λ b. (b ≡ true 
 ] is_out
 
 -- nothing is held where nothing is found
-none_some : {X : Type 0} {o : Option X} → o ≡ None → IsSome o → ⊥
+pub none_some : {X : Type 0} {o : Option X} → o ≡ None → IsSome o → ⊥
 none_some nothing held = true≢false (sym held ∙ ap is_some nothing)
 
 pub parted_none : (width : ℕ) → IsParted width empty empty [] 0 0
@@ -75,6 +75,13 @@ module _ (hidden : List ℕ) (tuples : Tuples (List Cell)) (r : TupleRef) where
   hidden_row is_in = get-mapped (λ r. row_of) (among hidden tuples) r ∙ ap (option_map row_of) (get-among hidden tuples r is_in) ∙ sym (get-mapped (λ r. row_of) tuples r)
 
 -- in a store that may be another
+-- no row is both hidden and seen
+pub are_apart : (hidden : List ℕ) (tuples : Tuples (List Cell)) (r : TupleRef) → IsSome (get (rows_in (among hidden tuples)) r) → get (rows_in (outside hidden tuples)) r ≡ None
+are_apart hidden tuples r held = elim (get (rows_in (outside hidden tuples)) r) as (λ o. get (rows_in (outside hidden tuples)) r ≡ o → o ≡ None) [
+  | None ↦ λ e. refl
+  | Some row ↦ λ e. absurd (not_both _ (hidden_slot hidden tuples r held) (seen_slot hidden tuples r (ap is_some e)))
+] refl
+
 pub parted_either : {E : Type 0} (before now other : Store Cell) (hidden : List ℕ) (hidden_count owed : ℕ) (result : Result (Unit {0}) E) → OnOk result (now ≡ other) → OnErr result (now ≡ before)
     → IsParted other.width other.tuples other.counts hidden hidden_count owed → IsParted before.width before.tuples before.counts hidden hidden_count owed → IsParted now.width now.tuples now.counts hidden hidden_count owed
 parted_either before now other hidden hidden_count owed (Ok x) ok err there parted = subst (λ (s : Store Cell). IsParted s.width s.tuples s.counts hidden hidden_count owed) (sym ok) there

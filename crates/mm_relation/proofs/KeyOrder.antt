@@ -1,5 +1,5 @@
 -- The rows under the tree of their keys, as a row comes and goes.
-use Rattle.std.proofs.Common.{◌≡◌, ◌≢◌, ◌+◌, List, ◌∷◌, IfSome, Option, Some, None, IsSome, is_some, refl, sym, ap, ◌∙◌, arith, subst, length, get_or, inl, inr}
+use Rattle.std.proofs.Common.{IfNone, ◌≡◌, ◌≢◌, ◌+◌, List, ◌∷◌, IfSome, Option, Some, None, IsSome, is_some, refl, sym, ap, ◌∙◌, arith, subst, length, get_or, inl, inr}
 use Rattle.std.specs.List.{All, Contains}
 use Rattle.std.specs.Option.{option_cmp, option_and_then}
 use Rattle.std.specs.Ordering.{ordering_then}
@@ -190,6 +190,10 @@ from_some None some h = absurd (cc)
 from_some (Some a) some h = h
 
 -- the key of the row that was put is the one that is read
+pub from_none : {A X : Type 0} (o : Option A) → (IsSome o → ⊥) → IfNone o X → X
+from_none None none h = h
+from_none (Some x) none h = absurd (none refl)
+
 pub got_key : (rows now : Tuples Row) (r : TupleRef) (t : Row) (key : Value) → now ≡ insert rows r t → key_at now r ≡ Some key → key ≡ t.key
 got_key rows now r t key put found = same_Some key t.key (sym found ∙ ap (λ m. key_at m r) put ∙ ap (option_and_then (λ x. Some x.key)) (get-insert_same rows r t))
 

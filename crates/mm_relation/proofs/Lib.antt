@@ -20,5 +20,7 @@ pub mod Listings
 pub mod Declared
 pub mod Same
 pub mod Searches
+pub mod Room
+pub mod Owed
 pub mod SetColumns
 pub mod Sorted

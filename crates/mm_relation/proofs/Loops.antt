@@ -30,6 +30,17 @@ module _ {A : Type 0} {P : A → A → Type 0} {old now : List A} {i : ℕ} (so_
     left = λ k e l. let ne : k ≢ i = omega arith in get_or-set_other now i k x e ne ∙ so_far.left k e (omega arith);
   }
 
+-- what holds of each element and of what it was still does once one is another
+pub keeps_more : {A : Type 0} (P : A → A → Type 0) (old now : List A) (i : ℕ) (d x : A) → length now ≡ length old → i < length old → (P (get_or old i d) (get_or now i d) → P (get_or old i d) x)
+    → ((k : ℕ) (e : A) → k < length old → P (get_or old k e) (get_or now k e)) → (k : ℕ) (e : A) → k < length old → P (get_or old k e) (get_or (set now i x) k e)
+keeps_more P old now i d x long inside here before k e l = elim (cases_order k i) [
+  | inl same ↦
+      let within : i < length now = omega arith in
+      rw (same, get_or-set_same now i x e within) (subst (λ a. P a x) (get_or_default old i d e inside) (here (before i d inside)))
+  | inr (inl less) ↦ let ne : k ≢ i = omega arith in rw (get_or-set_other now i k x e ne) (before k e l)
+  | inr (inr more) ↦ let ne : k ≢ i = omega arith in rw (get_or-set_other now i k x e ne) (before k e l)
+]
+
 -- lists that look alike at each place through a map
 pub same_mapped : {A B : Type 0} (f : A → B) (old new : List A) → length new ≡ length old → ((k : ℕ) (d : A) → k < length old → f (get_or new k d) ≡ f (get_or old k d)) → map f new ≡ map f old
 same_mapped f [] [] n each = refl

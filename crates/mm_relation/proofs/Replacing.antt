@@ -18,14 +18,14 @@ use Rattle.mm_relation.specs.Reading.{Keys, row_value}
 use Rattle.mm_relation.specs.Order.{column_cmp}
 use Rattle.mm_relation.specs.State.{IsKeyed, no_keys}
 use Rattle.mm_relation.specs.Settings.{with_cells, CanSet}
-use Rattle.mm_relation.specs.Indexes.{Indexes, Await, Gain, Lose, LosesAs, Serve, HaveRoom, CoversIn, Cover, CanRead, CanReadRow, IsColumn, wanted, room_in}
+use Rattle.mm_relation.specs.Indexes.{Indexes, Await, Gain, Lose, LosesAs, Serve, HaveRoom, CoversIn, Cover, CanRead, CanReadRow, IsColumn, sure, room_in}
 use Rattle.mm_relation.proofs.KeyOrder.{keyed_again, keyed_without, bag_without, not_taken, still_held}
 use Rattle.mm_relation.proofs.Changing.{awaits, served_with, served_without}
 use Rattle.mm_relation.proofs.Serving.{lose_declared}
 use Rattle.mm_relation.proofs.Setting.{with_cells-key, row_with}
 
 -- an index out of which a row goes has room as before
-room_out : (keys : Keys) (rows : Tuples Row) (r : TupleRef) (c : ℕ) (old mid : Index) → LosesAs keys rows r c old mid → wanted 1 old ≤ room_in old → wanted 1 mid ≤ room_in mid
+room_out : (keys : Keys) (rows : Tuples Row) (r : TupleRef) (c : ℕ) (old mid : Index) → LosesAs keys rows r c old mid → sure 1 1 old ≤ room_in old → sure 1 1 mid ≤ room_in mid
 room_out keys rows r c (Tree t) (Tree u) loses room = omega (arith, loses.room, room)
 room_out keys rows r c (Hash h) (Hash g) loses room = omega (arith, loses.room, room)
 room_out keys rows r c was is loses room = absurd loses

@@ -23,7 +23,7 @@ use Rattle.mm_relation.specs.declared.numbers.DeclaredIndex.{DeclaredIndex}
 use Rattle.mm_relation.specs.Reading.{Keys, value_at, key_at, hash_at, hash_of_value}
 use Rattle.mm_relation.specs.Order.{KeysDiffer, column_cmp, column_cmp_strict}
 use Rattle.mm_relation.specs.State.{RowTree, tree_list, is_tree, TreeServes, HashServes}
-use Rattle.mm_relation.specs.Indexes.{Indexes, SeenIndex, seen, seen_as, kind_in, declaration_of, room_in, wanted, CoversIn, Cover, Where, Await, Gain, Have, Lose, Serve, Serves, HaveRoom, IsColumn, TreeAwaits, TreeGains, TreeHas, TreeLoses, Awaits, AwaitsAs, Gains, GainsAs, HasAs, Loses, LosesAs}
+use Rattle.mm_relation.specs.Indexes.{Indexes, SeenIndex, seen, seen_as, kind_in, declaration_of, room_in, sure, CoversIn, Cover, Where, Await, Gain, Have, Lose, Serve, Serves, HaveRoom, IsColumn, TreeAwaits, TreeGains, TreeHas, TreeLoses, Awaits, AwaitsAs, Gains, GainsAs, HasAs, Loses, LosesAs}
 use Rattle.mm_relation.proofs.Loops.{same_mapped}
 
 -- indexes that are seen alike were declared alike
@@ -149,7 +149,7 @@ module _ (keys : Keys) (rows : Tuples Row) where
       subst (Contains refs) (ap (λ x. x.1) found.2) found.1
 
   -- an index can take in a row that none of the references names, and has one that one of them names
-  awaits_as : (refs : List TupleRef) (r : TupleRef) (c : ColumnNumber) (index : Index) → (Contains refs r → ⊥) → length refs < 2 ^ 32 → wanted 1 index ≤ room_in index → CoversIn r index → ((q : TupleRef) → Contains (r ∷ refs) q → IsSome (value_at keys c.0 rows q)) → Serves keys rows refs (seen_as c index) → AwaitsAs keys rows r c.0 index
+  awaits_as : (refs : List TupleRef) (r : TupleRef) (c : ColumnNumber) (index : Index) → (Contains refs r → ⊥) → length refs < 2 ^ 32 → sure 1 1 index ≤ room_in index → CoversIn r index → ((q : TupleRef) → Contains (r ∷ refs) q → IsSome (value_at keys c.0 rows q)) → Serves keys rows refs (seen_as c index) → AwaitsAs keys rows r c.0 index
   awaits_as refs r c (Tree t) absent short room covers read serves =
       let same : length (tree_list t.tree) ≡ length refs = length-same_bag (tree_list t.tree) refs serves.bag in
       record {

@@ -1,5 +1,5 @@
 -- A row with cells set, under the indexes on columns that are set and under the others.
-use Rattle.std.proofs.Common.{◌≡◌, ◌≢◌, ◌≤◌, ◌<◌, ◌+◌, ◌-◌, ◌==◌, ℕ, zero, suc, true, false, cond, List, [], ◌∷◌, Some, refl, sym, ap, ◌∙◌, arith, subst, map, length, get_or, inl, inr}
+use Rattle.std.proofs.Common.{◌≡◌, ◌≢◌, ◌≤◌, ◌<◌, ◌-◌, ◌==◌, ℕ, zero, suc, true, false, cond, List, [], ◌∷◌, Some, refl, sym, ap, ◌∙◌, arith, subst, map, length, get_or, inl, inr}
 use Rattle.std.specs.Prelude.{slice_get, slice_set}
 use Rattle.std.specs.List.{All, Contains, list_any}
 use Rattle.std.specs.Option.{option_and_then}
@@ -13,20 +13,17 @@ use Rattle.part_raw.proofs.Lookup.{same_or_other}
 use Rattle.plain_tables.specs.declared.numbers.ColumnNumber.{ColumnNumber}
 use Rattle.mm_relation.specs.Rows.{Row}
 use Rattle.mm_relation.specs.declared.row.Cell.{Cell}
-use Rattle.mm_relation.specs.declared.index.Index.{Index}
-use Rattle.mm_relation.specs.declared.index.Index.TheVariants.{Tree, Hash}
 use Rattle.mm_relation.specs.declared.index.IndexOn.{IndexOn}
 use Rattle.mm_relation.specs.Reading.{Keys, cell_value, row_value, value_at, key_at}
 use Rattle.mm_relation.specs.State.{IsKeyed}
 use Rattle.mm_relation.specs.Settings.{with_cells, CanSet, sets_column}
-use Rattle.mm_relation.specs.Indexes.{Indexes, Gain, Lose, Serve, Serves, HaveRoom, CanRead, IsColumn, seen, declaration_of, room_in, wanted, Where, Awaits, Gains, GainsAs, Loses, LosesAs, LosesSet, AwaitsSet, GainsSet, LoseSet, AwaitSet, GainSet}
+use Rattle.mm_relation.specs.Indexes.{Indexes, Gain, Lose, Serve, Serves, HaveRoom, CanRead, IsColumn, seen, declaration_of, room_in, sure, Where, Awaits, Gains, Loses, LosesSet, AwaitsSet, GainsSet, LoseSet, AwaitSet, GainSet}
 use Rattle.mm_relation.proofs.Loops.{same_mapped}
 use Rattle.mm_relation.proofs.Replacing.{await_now, served_now}
 use Rattle.mm_relation.proofs.Serving.{agrees_in, from_where, column_at, gains_declared, loses_declared}
 use Rattle.mm_relation.proofs.Setting.{not_first, with_cells-key}
 use Rattle.common_lemmas.proofs.Elements.{All-from_map}
 use Rattle.common_lemmas.proofs.Places.{slice_get-set_other}
-use Rattle.mm_relation.proofs.Each.{fewer_in}
 use Rattle.std.proofs.lemmas.List.Elements.{All-cons, All-nil}
 
 module _ (keys : Keys) (c : ℕ) where
@@ -75,7 +72,7 @@ module _ (keys : Keys) (rows : Tuples Row) (list : List TupleRef) (all : Indexes
     | inr other ↦ ap (option_and_then (λ x. Some x.key)) (get-insert_other rows r q (with_cells sets t) other)
   ]
 
-  module _ (old : IndexOn) (column : IsColumn all old.column.0) (serves : Serves keys rows list (seen old)) (room : wanted 1 old.index ≤ room_in old.index) where
+  module _ (old : IndexOn) (column : IsColumn all old.column.0) (serves : Serves keys rows list (seen old)) (room : sure 1 1 old.index ≤ room_in old.index) where
     read_one : CanRead keys rows (old ∷ [])
     read_one c q here held = read c q (subst (IsColumn all) (contains_one old.column.0 c here) column) held
 
@@ -83,7 +80,7 @@ module _ (keys : Keys) (rows : Tuples Row) (list : List TupleRef) (all : Indexes
     serve_one = All-cons (Serves keys rows list) (seen old) [] serves (All-nil (Serves keys rows list))
 
     room_one : HaveRoom 1 (old ∷ [])
-    room_one = let Has : IndexOn → Type 0 = λ on. wanted 1 on.index ≤ room_in on.index in All-cons Has old [] room (All-nil Has)
+    room_one = let Has : IndexOn → Type 0 = λ on. sure 1 1 on.index ≤ room_in on.index in All-cons Has old [] room (All-nil Has)
 
     module _ (mid : IndexOn) (loses : Loses keys rows r old mid) where
       lose_one : Lose keys rows r (old ∷ []) (mid ∷ [])
@@ -130,35 +127,10 @@ module _ (keys : Keys) (rows : Tuples Row) (list : List TupleRef) (all : Indexes
         let inside : k < length all = omega (arith, loses.count, gains.count, l) in
         serves_set (get_or all k d) (column_at all k d inside) (at k d inside) (room k d inside) (get_or mid k d) (get_or new k d) (loses.at k d inside) (gains.at k d (omega (arith, gains.count, l))))
 
--- the declarations and the room stay
+-- the declarations stay
 module _ (keys : Keys) (rows now : Tuples Row) (r : TupleRef) (sets : List (ColumnNumber × Cell)) where
-  room_back : (n c : ℕ) (old mid new : Index) → LosesAs keys rows r c old mid → GainsAs keys now r c mid new → wanted (n + 1) old ≤ room_in old → wanted n new ≤ room_in new
-  room_back n c (Tree s) (Tree t) (Tree u) loses gains room = omega (arith, loses.room, gains.room, room)
-  room_back n c (Hash f) (Hash g) (Hash h) loses gains room = omega (arith, loses.room, gains.room, room)
-  room_back n c (Tree s) (Tree t) new loses gains room = absurd gains
-  room_back n c (Hash f) (Hash g) new loses gains room = absurd gains
-  room_back n c old mid new loses gains room = absurd loses
-
-  room_again : (n : ℕ) (old mid new : IndexOn) → LosesSet keys rows r sets old mid → GainsSet keys now r sets mid new → wanted (n + 1) old.index ≤ room_in old.index → wanted n new.index ≤ room_in new.index
-  room_again n old mid new loses gains room =
-      elim (sets_column sets old.column.0) as (λ b. sets_column sets old.column.0 ≡ b → Where b (Loses keys rows r old mid) (mid ≡ old) → wanted n new.index ≤ room_in new.index) [
-        | true ↦ λ e h.
-            let set : sets_column sets mid.column.0 ≡ true = ap (λ (c : ColumnNumber). sets_column sets c.0) h.0 ∙ e in
-            let back : Gains keys now r mid new = subst (λ b. Where b (Gains keys now r mid new) (new ≡ mid)) set gains in
-            room_back n old.column.0 old.index mid.index new.index h.1 (subst (λ c. GainsAs keys now r c mid.index new.index) (ap (λ (c : ColumnNumber). c.0) h.0) back.1) room
-        | false ↦ λ e h.
-            let beside : sets_column sets mid.column.0 ≡ false = ap (λ (x : IndexOn). sets_column sets x.column.0) h ∙ e in
-            let same : new ≡ old = subst (λ b. Where b (Gains keys now r mid new) (new ≡ mid)) beside gains ∙ h in
-            subst (λ (x : IndexOn). wanted n x.index ≤ room_in x.index) (sym same) (fewer_in n (n + 1) old.index (omega arith) room)
-      ] refl loses
-
   module _ (old mid new : Indexes) (loses : LoseSet keys rows r sets old mid) (gains : GainSet keys now r sets mid new) where
     pub declared_set : map declaration_of new ≡ map declaration_of old
     declared_set =
         same_mapped declaration_of mid new gains.count (λ k d l. from_where (sets_column sets (get_or mid k d).column.0) (gains_declared keys now r (get_or mid k d) (get_or new k d)) (λ h. ap declaration_of h) (gains.at k d l))
         ∙ same_mapped declaration_of old mid loses.count (λ k d l. from_where (sets_column sets (get_or old k d).column.0) (loses_declared keys rows r (get_or old k d) (get_or mid k d)) (λ h. ap declaration_of h) (loses.at k d l))
-
-    pub room_set : (n : ℕ) → HaveRoom (n + 1) old → HaveRoom n new
-    room_set n room = λ k d l.
-        let inside : k < length old = omega (arith, loses.count, gains.count, l) in
-        room_again n (get_or old k d) (get_or mid k d) (get_or new k d) (loses.at k d inside) (gains.at k d (omega (arith, gains.count, l))) (room k d inside)

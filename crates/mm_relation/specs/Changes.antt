@@ -1,5 +1,5 @@
 -- What the calls of a relation do to it.
-use Rattle.std.specs.Prelude.{Bool, ◌≡◌, ℕ, ◌<◌, ◌≤◌, ◌==◌, ◌||◌, if◌then◌else◌, IsTrue, List, None, Result, Ok, Err}
+use Rattle.std.specs.Prelude.{Bool, ◌≡◌, ℕ, ◌-◌, ◌<◌, ◌≤◌, ◌==◌, ◌||◌, if◌then◌else◌, IsTrue, List, [], ◌∷◌, None, Result, Ok, Err}
 use Rattle.std.specs.List.{list_any}
 use Rattle.std.specs.FinMap as finite
 use Rattle.part_raw.specs.declared.tuple_ref.TupleRef.{TupleRef}
@@ -36,11 +36,27 @@ pub record IsRemoved (old new : RelationState) (r : TupleRef) : Type 0 where
   pub referrers : new.referrers ≡ finite.remove old.referrers r
   pub keeps : KeepsSchema old new
 
+-- this row is hidden: it is no row any longer, and its cells and its reference stay its own
+pub record IsHidden (old new : RelationState) (r : TupleRef) (row : Row) : Type 0 where
+  pub rows : new.rows ≡ finite.remove old.rows r
+  pub referrers : new.referrers ≡ finite.remove old.referrers r
+  pub keeps : KeepsSchema (record old { hidden = finite.insert old.hidden r row }) new
+
+-- this hidden row is a row again; no link names it, and one row fewer is owed
+pub record IsShown (old new : RelationState) (r : TupleRef) (row : Row) : Type 0 where
+  pub rows : new.rows ≡ finite.insert old.rows r row
+  pub referrers : new.referrers ≡ finite.insert old.referrers r 0
+  pub keeps : KeepsSchema (record old { hidden = finite.remove old.hidden r; owed = old.owed - 1 }) new
+
 -- these cells are set in exactly these rows
 pub record IsChanged (old new : RelationState) (rs : List TupleRef) (sets : List (ColumnNumber × Cell)) : Type 0 where
   pub rows : CellsSet old.rows new.rows rs sets
   pub referrers : new.referrers ≡ old.referrers
   pub keeps : KeepsSchema old new
+
+-- these cells are set in this row, and one row fewer is owed
+abbrev pub IsChangedBack : RelationState → RelationState → TupleRef → List (ColumnNumber × Cell) → Type 0
+IsChangedBack old new r sets = IsChanged (record old { owed = old.owed - 1 }) new (r ∷ []) sets
 
 -- KeyExists where the key is there, then Full where the relation is full, running out of memory aside
 abbrev pub IsToldRightly : RelationState → Value → Result TupleRef RowRefusal → Type 0

@@ -65,10 +65,10 @@ spares_in (Hash h) = 0
 abbrev pub HasFewSpares : IndexOn → Type 0
 HasFewSpares on = spares_in on.index ≤ max (size (tree_in on.index)) 64
 
--- of how many inserts it has to be sure where so many rows go out and come in again one by one
-abbrev pub wanted : ℕ → Index → ℕ
-wanted n (Tree t) = n
-wanted n (Hash h) = 1
+-- of how many inserts it is to be sure: so many in a tree, and so many in a hash
+abbrev pub sure : ℕ → ℕ → Index → ℕ
+sure trees hashes (Tree t) = trees
+sure trees hashes (Hash h) = hashes
 
 -- how an index was declared
 abbrev pub declared_as : ColumnNumber → Index → DeclaredIndex
@@ -149,6 +149,7 @@ pub record HashAwaits (keys : Keys) (rows : Tuples Row) (r : TupleRef) (column :
 pub record HashGains (keys : Keys) (rows : Tuples Row) (r : TupleRef) (column : ℕ) (old new : HeldRows) : Type 0 where
   pub room : old.room ≤ new.room + 1
   pub entries : IsSameBag new.entries ((hash_at keys column rows r, r) ∷ old.entries)
+  pub nodes : new.covered ≡ old.covered
 
 -- the hash has this row
 pub record HashHas (keys : Keys) (rows : Tuples Row) (r : TupleRef) (column : ℕ) (h : HeldRows) : Type 0 where
@@ -159,6 +160,7 @@ pub record HashLoses (keys : Keys) (rows : Tuples Row) (r : TupleRef) (column : 
   pub room : old.room + 1 ≤ new.room
   pub entries : IsSameBag old.entries ((hash_at keys column rows r, r) ∷ new.entries)
   pub covered : IsCovered new.covered r
+  pub nodes : new.covered ≡ old.covered
 
 -- an index on a column can take in this row
 abbrev pub AwaitsAs : Keys → Tuples Row → TupleRef → ℕ → Index → Type 0
@@ -234,13 +236,22 @@ Gain keys rows r old new = Each (Gains keys rows r) old new
 abbrev pub Lose : Keys → Tuples Row → TupleRef → Indexes → Indexes → Type 0
 Lose keys rows r old new = Each (Loses keys rows r) old new
 
+-- the trees are sure of so many inserts, and the hashes of so many
+abbrev pub HaveRooms : ℕ → ℕ → Indexes → Type 0
+HaveRooms trees hashes all = All (λ on. sure trees hashes on.index ≤ room_in on.index) all
+
 -- the trees are sure of so many inserts, and the hashes of one
 abbrev pub HaveRoom : ℕ → Indexes → Type 0
-HaveRoom n all = All (λ on. wanted n on.index ≤ room_in on.index) all
+HaveRoom n all = HaveRooms n 1 all
 
 -- each has memory for the node of this row
 abbrev pub Cover : TupleRef → Indexes → Type 0
 Cover r all = All (λ on. CoversIn r on.index) all
+
+-- the trees are sure of so many inserts fewer at most, and the hashes of so many; each has each row's node still
+pub record KeepRoom (trees hashes : ℕ) (old new : Indexes) : Type 0 where
+  pub room : (t h : ℕ) → HaveRooms (t + trees) (h + hashes) old → HaveRooms t h new
+  pub covered : (r : TupleRef) → Cover r old → Cover r new
 
 -- as cells are set in the row, it goes out of an index whose column is set, and comes in again; the others stay as they are
 abbrev pub LosesSet : Keys → Tuples Row → TupleRef → List (ColumnNumber × Cell) → IndexOn → IndexOn → Type 0

@@ -3,6 +3,7 @@ pub mod Reading
 pub mod Order
 pub mod State
 pub mod Indexes
+pub mod Owing
 pub mod Agreement
 pub mod Seen
 pub mod Settings

@@ -4,6 +4,7 @@ ghost use Rattle.std.specs.Prelude.{◌≡◌, ◌≤◌, IsSome, IfOk, OnOk, On
 ghost use Rattle.std.specs.FinMap as finite;
 ghost use Rattle.part_raw.specs.declared.tuple_ref.TupleRef.{TupleRef};
 ghost use Rattle.mm_relation.specs.Declaring.{without_first, is_index, IsAdded};
+ghost use Rattle.mm_relation.specs.Owing.{HasOwed, IsReady};
 ghost use Rattle.mm_relation.specs.Indexes.{declaration_of, seen, Serves, Serve};
 ghost use Rattle.mm_relation.specs.Reading.{value_at};
 ghost use Rattle.mm_relation.specs.State.{IsKeyed, TreeServes, HashServes};
@@ -62,7 +63,24 @@ fn tree_over<R: LinkedKeys>(
     tree_of(alloc, refs.as_slice())
 }
 
-// An index as it is declared, which has each of the rows.
+// Gives an index memory for the rows that are owed.
+fn make_ready(on: &mut IndexOn, rows: &Rows) -> Result<(), NoMemory>
+    ensures same { seen on.new ≡ seen on.old }
+    ensures ready { OnOk result (IsReady rows.now.aside.owed rows.now.aside.hidden on.new) }
+{
+    let owed = rows.owed();
+    if owed > 0 {
+        for slot in 0..rows.slots() {
+            on.cover(TupleRef {
+                number: slot as u32,
+            })?;
+        }
+        on.reserve(owed as usize)?;
+    }
+    Ok(())
+}
+
+// An index as it is declared, which has each of the rows, and memory for those that are owed.
 fn index_over<R: LinkedKeys>(
     alloc: Global,
     rows: &Rows,
@@ -75,13 +93,16 @@ fn index_over<R: LinkedKeys>(
     requires read { (q : TupleRef) → IsSome (finite.get rows.now.tuples q) → IsSome (value_at (R.keys others.now) declared.column.0 rows.now.tuples q) }
     ensures declaration { IfOk result (λ on. declaration_of on ≡ declared) }
     ensures serves { IfOk result (λ on. Serves (R.keys others.now) rows.now.tuples (items_of_tree by_key.now) (seen on)) }
+    ensures ready { IfOk result (λ on. IsReady rows.now.aside.owed rows.now.aside.hidden on) }
 {
     let column = declared.column;
     let index = match declared.kind {
         IndexKind::Tree => Index::Tree(tree_over(alloc, rows, by_key, others, column)?),
         IndexKind::Hash => Index::Hash(hash_over(alloc, rows, by_key, others, column)?),
     };
-    Ok(IndexOn { column, index })
+    let mut on = IndexOn { column, index };
+    make_ready(&mut on, rows)?;
+    Ok(on)
 }
 
 // Puts one more behind the others, which serves the rows.
@@ -99,6 +120,7 @@ pub fn add_index<R: LinkedKeys>(
     requires serve { Serve (R.keys others.now) rows.now.tuples (items_of_tree by_key.now) indexes.old }
     ensures added { OnOk result (IsAdded index indexes.old indexes.new) }
     ensures serve { Serve (R.keys others.now) rows.now.tuples (items_of_tree by_key.now) indexes.new }
+    ensures owed { HasOwed rows.now.aside.owed rows.now.aside.hidden by_key.now indexes.old → HasOwed rows.now.aside.owed rows.now.aside.hidden by_key.now indexes.new }
     ensures unchanged { OnErr result (indexes.new ≡ indexes.old) }
 {
     let on = index_over(alloc, rows, by_key, others, index)?;

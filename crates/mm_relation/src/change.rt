@@ -1,5 +1,5 @@
 //! Cells set in rows, under all indexes of a relation.
-ghost use Rattle.std.specs.Prelude.{◌≡◌, ◌≢◌, ◌∷◌, ◌++◌, ℕ, ◌≤◌, ◌<◌, ◌+◌, ◌-◌, [], List, Some, IsSome, IfOk, OnOk, OnErr, All, length, map};
+ghost use Rattle.std.specs.Prelude.{◌≡◌, ◌≢◌, ◌∷◌, ◌++◌, ◌≤◌, ◌<◌, ◌-◌, [], List, Some, IsSome, IfOk, OnOk, OnErr, All, length, map};
 ghost use Rattle.std.specs.List.{AllPairs};
 ghost use Rattle.std.specs.FinMap as finite;
 ghost use Rattle.part_raw.specs.declared.tuple_ref.TupleRef.{TupleRef};
@@ -7,7 +7,7 @@ ghost use Rattle.mm_relation.specs.declared.row.Cell.{Cell};
 ghost use Rattle.mm_relation.specs.Rows.{Row};
 ghost use Rattle.mm_relation.specs.State.{IsKeyed};
 ghost use Rattle.mm_relation.specs.Settings.{with_cells, piled, pile, IsPiled, CanSet, CellsSet, link_set};
-ghost use Rattle.mm_relation.specs.Indexes.{declaration_of, HaveRoom, Serve, CanRead};
+ghost use Rattle.mm_relation.specs.Indexes.{declaration_of, HaveRoom, KeepRoom, Serve, CanRead};
 
 use crate::index::IndexOn;
 use crate::indexes::{insert_set, remove_set};
@@ -105,7 +105,7 @@ fn change_row<R: LinkedKeys>(
     ensures served { (list : List TupleRef) → IsKeyed rows.old.tuples list → Serve (R.keys links.now) rows.old.tuples list indexes.old
         → IsKeyed rows.new.tuples list × Serve (R.keys links.now) rows.new.tuples list indexes.new }
     ensures declared { map declaration_of indexes.new ≡ map declaration_of indexes.old }
-    ensures room { (n : ℕ) → HaveRoom (n + 1) indexes.old → HaveRoom n indexes.new }
+    ensures keeps { KeepRoom 1 0 indexes.old indexes.new }
     ensures width { rows.new.width ≡ rows.old.width }
     ensures aside { rows.new.aside ≡ rows.old.aside }
     ensures left { (under : List Cell) → copies.old.items ≡ piled sets.now under → copies.new.items ≡ under }
@@ -132,7 +132,7 @@ fn move_cells(rows: &mut Rows, r: TupleRef, sets: &mut [(ColumnNumber, StoredCel
 }
 
 // Sets cells in one row, to which they are moved. It takes no memory.
-fn change_last<R: LinkedKeys>(
+pub fn change_last<R: LinkedKeys>(
     rows: &mut Rows,
     indexes: &mut Sequence<IndexOn>,
     links: &R,
@@ -149,6 +149,7 @@ fn change_last<R: LinkedKeys>(
     ensures served { (list : List TupleRef) → IsKeyed rows.old.tuples list → Serve (R.keys links.now) rows.old.tuples list indexes.old
         → IsKeyed rows.new.tuples list × Serve (R.keys links.now) rows.new.tuples list indexes.new }
     ensures declared { map declaration_of indexes.new ≡ map declaration_of indexes.old }
+    ensures keeps { KeepRoom 1 0 indexes.old indexes.new }
     ensures width { rows.new.width ≡ rows.old.width }
     ensures aside { rows.new.aside ≡ rows.old.aside }
     ensures links { map link_set sets.new ≡ map link_set sets.old }
@@ -181,7 +182,7 @@ fn change_each<R: LinkedKeys>(
     ensures served { (list : List TupleRef) → IsKeyed rows.old.tuples list → Serve (R.keys links.now) rows.old.tuples list indexes.old
         → IsKeyed rows.new.tuples list × Serve (R.keys links.now) rows.new.tuples list indexes.new }
     ensures declared { map declaration_of indexes.new ≡ map declaration_of indexes.old }
-    ensures room { (n : ℕ) → HaveRoom (length rs.now + n) indexes.old → HaveRoom n indexes.new }
+    ensures keeps { KeepRoom (length rs.now) 0 indexes.old indexes.new }
 {
     for r in rs {
         change_row(rows, indexes, links, *r, sets, copies);
@@ -212,6 +213,7 @@ pub fn change_all<R: LinkedKeys>(
     ensures served { (list : List TupleRef) → IsKeyed rows.old.tuples list → Serve (R.keys links.now) rows.old.tuples list indexes.old
         → IsKeyed rows.new.tuples list × Serve (R.keys links.now) rows.new.tuples list indexes.new }
     ensures declared { map declaration_of indexes.new ≡ map declaration_of indexes.old }
+    ensures keeps { KeepRoom (length rs.now) 0 indexes.old indexes.new }
     ensures links { map link_set sets.new ≡ map link_set sets.old }
 {
     let Some((last, others)) = rs.split_last() else {

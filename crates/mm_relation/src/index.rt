@@ -1,8 +1,9 @@
 //! One declared index of a relation.
 ghost use Rattle.std.specs.Prelude.{◌≡◌, ℕ, ◌<◌, ◌≤◌, IsSome, OnOk, max};
+ghost use Rattle.part_raw.specs.declared.tuple_ref.TupleRef.{TupleRef};
 ghost use Rattle.mm_relation.specs.Order.{KeysDiffer};
 ghost use Rattle.mm_relation.specs.Reading.{value_at, hash_at};
-ghost use Rattle.mm_relation.specs.Indexes.{declaration_of, room_in, wanted, CoversIn, spares_in, HasFewSpares, seen, Awaits, Gains, Has, Loses};
+ghost use Rattle.mm_relation.specs.Indexes.{declaration_of, room_in, sure, CoversIn, spares_in, HasFewSpares, seen, Awaits, Gains, Has, Loses};
 
 use crate::linked_keys::LinkedKeys;
 use crate::numbers::DeclaredIndex;
@@ -55,9 +56,11 @@ impl IndexOn {
 
     // Makes sure of memory for so many references more, and for no spare nodes beyond these.
     pub fn reserve(&mut self, n: usize) -> Result<(), NoMemory>
-        requires { n ≤ 16777216 }
+        requires { n ≤ 33554432 }
         ensures same { seen self.new ≡ seen self.old }
-        ensures room { OnOk result (n ≤ room_in self.new.index) }
+        ensures reserved { OnOk result (n ≤ room_in self.new.index) }
+        ensures room { (t h : ℕ) → sure t h self.old.index ≤ room_in self.old.index → sure t h self.new.index ≤ room_in self.new.index }
+        ensures kept { (q : TupleRef) → CoversIn q self.old.index → CoversIn q self.new.index }
         ensures spares { spares_in self.new.index ≤ max (spares_in self.old.index) n }
     {
         match &mut self.index {
@@ -70,7 +73,8 @@ impl IndexOn {
     pub fn cover(&mut self, r: TupleRef) -> Result<(), NoMemory>
         requires { r.number < MAX_TUPLES }
         ensures same { seen self.new ≡ seen self.old }
-        ensures room { (n : ℕ) → wanted n self.old.index ≤ room_in self.old.index → wanted n self.new.index ≤ room_in self.new.index }
+        ensures room { (t h : ℕ) → sure t h self.old.index ≤ room_in self.old.index → sure t h self.new.index ≤ room_in self.new.index }
+        ensures kept { (q : TupleRef) → CoversIn q self.old.index → CoversIn q self.new.index }
         ensures covered { OnOk result (CoversIn r self.new.index) }
     {
         match &mut self.index {

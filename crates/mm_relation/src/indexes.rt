@@ -1,12 +1,13 @@
 //! The declared indexes of a relation, all together, in the order of their declaration.
 ghost use Rattle.std.specs.Prelude.{◌≡◌, ◌==◌, ◌||◌, ◌&&◌, ℕ, ◌<◌, ◌≤◌, max, length, slice_index_or, map, OnOk, All};
 ghost use Rattle.std.specs.List.{list_any};
+ghost use Rattle.part_raw.specs.declared.tuple_ref.TupleRef.{TupleRef};
 ghost use Rattle.mm_relation.specs.declared.index.IndexOn.{IndexOn};
 ghost use Rattle.mm_relation.specs.Order.{KeysDiffer};
 ghost use Rattle.mm_relation.specs.Declaring.{is_index};
 ghost use Rattle.mm_relation.specs.Settings.{sets_column};
 ghost use Rattle.mm_relation.specs.State.{tree_of, entries_on, buckets_on, HasColumn, HasHashColumn};
-ghost use Rattle.mm_relation.specs.Indexes.{seen, declaration_of, room_in, wanted, CoversIn, spares_in, HasFewSpares, trees_of, hashes_of, all_buckets, Awaits, Gains, Has, Loses, GainsSet, AwaitsSet, LosesSet, HaveRoom, Cover, Await, Gain, Have, Lose, AwaitSet, GainSet, LoseSet};
+ghost use Rattle.mm_relation.specs.Indexes.{seen, declaration_of, room_in, sure, CoversIn, spares_in, HasFewSpares, trees_of, hashes_of, all_buckets, Awaits, Gains, Has, Loses, GainsSet, AwaitsSet, LosesSet, HaveRooms, KeepRoom, Cover, Await, Gain, Have, Lose, AwaitSet, GainSet, LoseSet};
 
 use crate::index::{Index, IndexOn};
 use crate::linked_keys::LinkedKeys;
@@ -19,25 +20,27 @@ use no_memory::NoMemory;
 use part_raw::{MAX_TUPLES, TupleRef};
 use plain_tables::{ColumnNumber, Sequence};
 
-// How many references more an index has to be sure of, where so many are taken out and put in again one by one: a hash
-// has room again for each that goes out.
-fn wanted_in(on: &IndexOn, n: usize) -> usize
-    ensures { result ≡ wanted n on.now.index }
+// How many references more an index has to be sure of: so many in a tree, and so many in a hash.
+fn sure_in(on: &IndexOn, trees: usize, hashes: usize) -> usize
+    ensures { result ≡ sure trees hashes on.now.index }
 {
     match on.index {
-        Index::Tree(_) => n,
-        Index::Hash(_) => 1,
+        Index::Tree(_) => trees,
+        Index::Hash(_) => hashes,
     }
 }
 
-fn reserve_each(indexes: &mut [IndexOn], n: usize) -> Result<(), NoMemory>
-    requires { n ≤ 16777216 }
+fn reserve_each(indexes: &mut [IndexOn], trees: usize, hashes: usize) -> Result<(), NoMemory>
+    requires few { trees ≤ 33554432 }
+    requires few_hashes { hashes ≤ 33554432 }
     ensures same { (k : ℕ) (d : IndexOn) → k < length indexes.old → seen (slice_index_or indexes.new k d) ≡ seen (slice_index_or indexes.old k d) }
-    ensures room { OnOk result (All (λ on. wanted n on.index ≤ room_in on.index) indexes.new) }
-    ensures spares { (k : ℕ) (d : IndexOn) → k < length indexes.old → spares_in (slice_index_or indexes.new k d).index ≤ max (spares_in (slice_index_or indexes.old k d).index) (max n 1) }
+    ensures room { (t h k : ℕ) (d : IndexOn) → k < length indexes.old → sure t h (slice_index_or indexes.old k d).index ≤ room_in (slice_index_or indexes.old k d).index → sure t h (slice_index_or indexes.new k d).index ≤ room_in (slice_index_or indexes.new k d).index }
+    ensures kept { (q : TupleRef) (k : ℕ) (d : IndexOn) → k < length indexes.old → CoversIn q (slice_index_or indexes.old k d).index → CoversIn q (slice_index_or indexes.new k d).index }
+    ensures reserved { OnOk result (HaveRooms trees hashes indexes.new) }
+    ensures spares { (k : ℕ) (d : IndexOn) → k < length indexes.old → spares_in (slice_index_or indexes.new k d).index ≤ max (spares_in (slice_index_or indexes.old k d).index) (max trees hashes) }
 {
     for on in indexes.iter_mut() {
-        let wanted = wanted_in(on, n);
+        let wanted = sure_in(on, trees, hashes);
         on.reserve(wanted)?;
     }
     Ok(())
@@ -46,7 +49,8 @@ fn reserve_each(indexes: &mut [IndexOn], n: usize) -> Result<(), NoMemory>
 fn cover_each(indexes: &mut [IndexOn], r: TupleRef) -> Result<(), NoMemory>
     requires { r.number < MAX_TUPLES }
     ensures same { (k : ℕ) (d : IndexOn) → k < length indexes.old → seen (slice_index_or indexes.new k d) ≡ seen (slice_index_or indexes.old k d) }
-    ensures room { (n k : ℕ) (d : IndexOn) → k < length indexes.old → wanted n (slice_index_or indexes.old k d).index ≤ room_in (slice_index_or indexes.old k d).index → wanted n (slice_index_or indexes.new k d).index ≤ room_in (slice_index_or indexes.new k d).index }
+    ensures room { (t h k : ℕ) (d : IndexOn) → k < length indexes.old → sure t h (slice_index_or indexes.old k d).index ≤ room_in (slice_index_or indexes.old k d).index → sure t h (slice_index_or indexes.new k d).index ≤ room_in (slice_index_or indexes.new k d).index }
+    ensures kept { (q : TupleRef) (k : ℕ) (d : IndexOn) → k < length indexes.old → CoversIn q (slice_index_or indexes.old k d).index → CoversIn q (slice_index_or indexes.new k d).index }
     ensures covered { OnOk result (All (λ on. CoversIn r on.index) indexes.new) }
 {
     for on in indexes.iter_mut() {
@@ -155,21 +159,23 @@ fn remove_each_set<R: LinkedKeys>(
     }
 }
 
-// Makes sure of memory for so many references more in each tree, and for one more in each hash.
-pub fn reserve(indexes: &mut Sequence<IndexOn>, n: usize) -> Result<(), NoMemory>
-    requires { n ≤ 16777216 }
+// Makes sure of memory for so many references more in each tree, and for so many in each hash.
+pub fn reserve(indexes: &mut Sequence<IndexOn>, trees: usize, hashes: usize) -> Result<(), NoMemory>
+    requires few { trees ≤ 33554432 }
+    requires few_hashes { hashes ≤ 33554432 }
     ensures same { map seen indexes.new ≡ map seen indexes.old }
-    ensures reserved { OnOk result (HaveRoom n indexes.new) }
-    ensures spares { (k : ℕ) (d : IndexOn) → k < length indexes.old → spares_in (slice_index_or indexes.new k d).index ≤ max (spares_in (slice_index_or indexes.old k d).index) (max n 1) }
+    ensures keeps { KeepRoom 0 0 indexes.old indexes.new }
+    ensures reserved { OnOk result (HaveRooms trees hashes indexes.new) }
+    ensures spares { (k : ℕ) (d : IndexOn) → k < length indexes.old → spares_in (slice_index_or indexes.new k d).index ≤ max (spares_in (slice_index_or indexes.old k d).index) (max trees hashes) }
 {
-    reserve_each(indexes.as_mut_slice(), n)
+    reserve_each(indexes.as_mut_slice(), trees, hashes)
 }
 
 // Makes sure of memory in each for the node of this row. What they have room for stays.
 pub fn cover(indexes: &mut Sequence<IndexOn>, r: TupleRef) -> Result<(), NoMemory>
     requires { r.number < MAX_TUPLES }
     ensures same { map seen indexes.new ≡ map seen indexes.old }
-    ensures room { (n : ℕ) → HaveRoom n indexes.old → HaveRoom n indexes.new }
+    ensures keeps { KeepRoom 0 0 indexes.old indexes.new }
     ensures covered { OnOk result (Cover r indexes.new) }
 {
     cover_each(indexes.as_mut_slice(), r)

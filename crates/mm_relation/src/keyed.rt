@@ -1,14 +1,14 @@
 //! The rows in their store, under the tree of their keys.
 ghost use Rattle.ttree.specs.Held.{items_of_tree};
 ghost use Rattle.ttree.specs.Room.{room_of};
-ghost use Rattle.std.specs.Prelude.{◌≡◌, ℕ, ◌<◌, ◌∷◌, [], None, IsSome, IfOk, OnErr, length, map};
+ghost use Rattle.std.specs.Prelude.{◌≡◌, ◌+◌, ◌<◌, ◌≤◌, ◌∷◌, [], None, Some, IsSome, IfOk, OnErr, length, map};
 ghost use Rattle.std.specs.FinMap as finite;
 ghost use Rattle.part_raw.specs.declared.tuple_ref.TupleRef.{TupleRef};
 ghost use Rattle.mm_index.specs.Bag.{IsSameBag};
-ghost use Rattle.mm_relation.specs.Rows.{StartsWithKey, row_of, with_number, without_number};
+ghost use Rattle.mm_relation.specs.Rows.{Row, StartsWithKey, referrers_at, row_of, with_hidden, with_number, with_shown, without_number};
 ghost use Rattle.mm_relation.specs.State.{IsKeyed, HasKey};
 ghost use Rattle.mm_relation.specs.Changes.{IsPlacedRightly};
-ghost use Rattle.mm_relation.specs.Indexes.{seen, HaveRoom, Cover};
+ghost use Rattle.mm_relation.specs.Indexes.{seen, KeepRoom, Cover};
 
 use crate::index::IndexOn;
 use crate::indexes::cover;
@@ -46,7 +46,8 @@ pub fn put_row(
     ensures kept { OnErr result (rows.new.tuples ≡ rows.old.tuples) }
     ensures kept_tree { OnErr result (by_key.new ≡ by_key.old) }
     ensures same { map seen indexes.new ≡ map seen indexes.old }
-    ensures room { (n : ℕ) → HaveRoom n indexes.old → HaveRoom n indexes.new }
+    ensures keeps { KeepRoom 0 0 indexes.old indexes.new }
+    ensures key_room { room_of 30 by_key.old ≤ room_of 30 by_key.new + 1 }
     ensures width { rows.new.width ≡ rows.old.width }
     ensures aside { IfOk result (λ r. rows.new.aside ≡ with_number rows.old.aside r 0) }
     ensures kept_aside { OnErr result (rows.new.aside ≡ rows.old.aside) }
@@ -77,9 +78,49 @@ pub fn take_row(rows: &mut Rows, by_key: &mut Tree, r: TupleRef)
     ensures keyed { IsKeyed rows.new.tuples (items_of_tree by_key.new) }
     ensures taken { rows.new.tuples ≡ finite.remove rows.old.tuples r }
     ensures unlisted { IsSameBag (items_of_tree by_key.old) (r ∷ (items_of_tree by_key.new)) }
+    ensures key_room { room_of 30 by_key.old ≤ room_of 30 by_key.new }
     ensures width { rows.new.width ≡ rows.old.width }
     ensures aside { rows.new.aside ≡ without_number rows.old.aside r }
 {
     by_key.remove(&mut OrderProbe::new(&KeyOrder::beside(rows, r), r));
     rows.remove(r);
+}
+
+// Hides a row. It takes no memory.
+pub fn hide_row(rows: &mut Rows, by_key: &mut Tree, r: TupleRef)
+    requires held { IsSome (finite.get rows.old.tuples r) }
+    requires unnamed { referrers_at rows.old.aside.numbers r ≡ 0 }
+    requires owed { finite.len rows.old.aside.hidden < rows.old.aside.owed }
+    requires keyed { IsKeyed rows.old.tuples (items_of_tree by_key.old) }
+    ensures keyed { IsKeyed rows.new.tuples (items_of_tree by_key.new) }
+    ensures unlisted { IsSameBag (items_of_tree by_key.old) (r ∷ (items_of_tree by_key.new)) }
+    ensures key_room { room_of 30 by_key.old ≤ room_of 30 by_key.new }
+    ensures hidden { (row : Row) → finite.get rows.old.tuples r ≡ Some row → rows.new ≡ with_hidden rows.old r row }
+{
+    by_key.remove(&mut OrderProbe::new(&KeyOrder::beside(rows, r), r));
+    rows.hide(r);
+}
+
+// Shows a hidden row again, whose key no row has. It takes no memory.
+pub fn show_row(rows: &mut Rows, by_key: &mut Tree, r: TupleRef)
+    requires hidden { IsSome (finite.get rows.old.aside.hidden r) }
+    requires new_key { (row : Row) → finite.get rows.old.aside.hidden r ≡ Some row → HasKey rows.old.tuples row.key → ⊥ }
+    requires key_room { 0 < (room_of 30 by_key.old) }
+    requires few { finite.len rows.old.tuples < 16777216 }
+    requires keyed { IsKeyed rows.old.tuples (items_of_tree by_key.old) }
+    ensures keyed { IsKeyed rows.new.tuples (items_of_tree by_key.new) }
+    ensures fresh { finite.get rows.old.tuples r ≡ None }
+    ensures listed { IsSameBag (items_of_tree by_key.new) (r ∷ (items_of_tree by_key.old)) }
+    ensures key_room { room_of 30 by_key.old ≤ room_of 30 by_key.new + 1 }
+    ensures shown { (row : Row) → finite.get rows.old.aside.hidden r ≡ Some row → rows.new ≡ with_shown rows.old r row }
+{
+    rows.hidden_are_apart();
+    rows.show(r);
+    let sought = rows.key(r).sought();
+    let mut probe = KeyProbe {
+        rows,
+        sought: &sought,
+        asked: 0,
+    };
+    by_key.insert_from_end(&mut probe, r);
 }

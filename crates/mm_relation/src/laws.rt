@@ -4,6 +4,9 @@
 //! A relation reads other tables through one map alone: from reference column and reference to the key of the row that is
 //! named. Two such maps that agree on the links which its rows hold give each row the same values, each tree the same order
 //! and each hash the same entries. So a change elsewhere that keeps the rows which are named asks nothing of this relation.
+ghost use Rattle.std.specs.Prelude.{◌≡◌, IsSome, None};
+ghost use Rattle.std.specs.FinMap as finite;
+ghost use Rattle.part_raw.specs.declared.tuple_ref.TupleRef.{TupleRef};
 ghost use Rattle.mm_relation.specs.Agreement.{ReadsAlike, OrdersAlike, HashesAlike, StaysCurrent};
 ghost use Rattle.mm_relation.specs.State.{IsKept};
 
@@ -14,6 +17,13 @@ pub fn a_relation_is_kept(relation: &Relation)
     ensures { IsKept relation.now }
 {
     let _ = &relation.schema;
+}
+
+/// No row that is hidden is one of its rows.
+pub fn hidden_rows_are_apart(relation: &Relation)
+    ensures { (r : TupleRef) → IsSome (finite.get relation.now.hidden r) → finite.get relation.now.rows r ≡ None }
+{
+    relation.rows.hidden_are_apart();
 }
 
 /// Each row has the same value in each column, and so meets the same conditions.

@@ -13,7 +13,8 @@
 //! - Under the keys that links lead to, each declared tree has each row once in its column's order, and each declared hash
 //!   each row under the hash of its value. A call asks this and ensures it again.
 //! - A call that runs out of memory does so before the first change.
-//! - Once a row was taken out, no tree has more spare nodes than nodes in use, but for a few.
+//! - Once a row was taken out, no tree has more spare nodes than nodes in use, but for a few, where no rows are owed.
+//! - A row that is owed can come back as it was, with no memory.
 #![tactic(auto)]
 
 mod building;
@@ -26,6 +27,7 @@ pub mod laws;
 mod linked_keys;
 mod numbers;
 mod order;
+mod owing;
 mod parts;
 mod probe;
 mod referring;

@@ -4,10 +4,10 @@ ghost use Rattle.std.specs.Bool.{OnTrue, OnFalse};
 
 use crate::change::{change_all, copies_for};
 use crate::index::IndexOn;
-use crate::indexes::{hash_on, is_declared, reserve, shed_spares, tree_on};
+use crate::indexes::{hash_on, is_declared, reserve, tree_on};
 use crate::laws::a_relation_is_kept;
 use crate::numbers::DeclaredIndex;
-use crate::parts::{displace, make_room, place};
+use crate::parts::{displace, make_room, place, settle_indexes};
 use crate::probe::KeyProbe;
 use crate::referring::{count_down, count_up};
 use crate::refusal::RowRefusal;
@@ -40,6 +40,7 @@ pub struct Relation {
 
 impl Model for Relation {
     ghost use Rattle.mm_relation.specs.State.{RelationState, state_code, IsKept};
+    ghost use Rattle.mm_relation.specs.Owing.{HasOwed};
     ghost use Rattle.mm_relation.specs.Seen.{state};
     ghost use Rattle.plain_tables.specs.contracts.schema.Schema.{the_row as schema_row};
     ghost use Rattle.mm_relation.specs.contracts.numbers.DeclaredIndex.{the_row as index_row};
@@ -54,8 +55,8 @@ impl Model for Relation {
 
     ghost view = { λ r. state r.rows.aside r.schema r.targets.items r.declared.items r.rows.tuples r.by_key.tree r.indexes };
 
-    // The store has a cell in a row for each column.
-    ghost invariant = { λ r. IsKept (state r.rows.aside r.schema r.targets.items r.declared.items r.rows.tuples r.by_key.tree r.indexes) × (r.rows.width ≡ length r.schema.columns) };
+    // The store has a cell in a row for each column, and the indexes have memory for the rows that are owed.
+    ghost invariant = { λ r. IsKept (state r.rows.aside r.schema r.targets.items r.declared.items r.rows.tuples r.by_key.tree r.indexes) × (r.rows.width ≡ length r.schema.columns) × HasOwed r.rows.aside.owed r.rows.aside.hidden r.by_key r.indexes };
 }
 
 impl Relation {
@@ -463,7 +464,8 @@ impl Relation {
         ensures links { map link_set sets.new ≡ map link_set sets.old }
     {
         let mut copies = copies_for(alloc, sets, rs.len().saturating_sub(1))?;
-        reserve(&mut self.indexes, rs.len())?;
+        let owed = self.rows.owed() as usize;
+        reserve(&mut self.indexes, owed + rs.len(), owed.max(1))?;
         let links = Links {
             targets: self.targets.as_slice(),
             others,
@@ -476,7 +478,7 @@ impl Relation {
             sets,
             &mut copies,
         );
-        shed_spares(&mut self.indexes);
+        settle_indexes(&self.rows, &mut self.indexes);
         Ok(())
     }
 }

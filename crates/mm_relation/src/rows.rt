@@ -102,6 +102,14 @@ impl Rows {
         self.owed
     }
 
+    // No hidden row is one of the rows, and as many rows are owed at least.
+    pub fn hidden_are_apart(&self)
+        ensures apart { (r : TupleRef) → IsSome (finite.get self.now.aside.hidden r) → finite.get self.now.tuples r ≡ None }
+        ensures owed { finite.len self.now.aside.hidden ≤ self.now.aside.owed }
+    {
+        let _ = &self.hidden_count;
+    }
+
     // Makes sure of room for one row more.
     pub fn reserve(&mut self) -> Result<(), NoMemory>
         requires { finite.len self.old.tuples < 16777216 }
@@ -170,6 +178,7 @@ impl Rows {
     pub fn slots(&self) -> u64
         ensures most { result ≤ MAX_TUPLES }
         ensures within { (r : TupleRef) → IsSome (finite.get self.now.tuples r) → r.number < result }
+        ensures hidden { (r : TupleRef) → IsSome (finite.get self.now.aside.hidden r) → r.number < result }
     {
         self.store.slots()
     }
@@ -179,6 +188,7 @@ impl Rows {
         requires { IsSome (finite.get self.now.tuples r) }
         ensures row { finite.get self.now.tuples r ≡ Some (row_of result.now) }
         ensures keyed { StartsWithKey result.now }
+        ensures width { length result.now ≡ self.now.width }
     {
         self.store.get(r)
     }

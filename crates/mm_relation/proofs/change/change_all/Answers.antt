@@ -1,10 +1,11 @@
-use Rattle.std.proofs.Common.{◌≡◌, ◌≢◌, ◌++◌, ◌∷◌, ◌∙◌, [], IsSome, sym, ap, subst, length, arith}
+use Rattle.std.proofs.Common.{◌≡◌, ◌≢◌, ◌+◌, ◌++◌, ◌∷◌, ◌∙◌, [], IsSome, sym, ap, subst, length, arith}
 use Rattle.std.specs.FinMap.{get}
 use Rattle.std.specs.List.{All, AllPairs}
 use Rattle.std.proofs.lemmas.List.{nil_from_length}
-use Rattle.mm_relation.specs.Indexes.{HaveRoom}
+use Rattle.mm_relation.specs.Indexes.{KeepRoom}
 use Rattle.mm_relation.specs.Settings.{CellsSet, pile}
-use Rattle.mm_relation.proofs.Each.{as_few, read_now, room_for_fewer}
+use Rattle.mm_relation.proofs.Each.{as_few, read_now}
+use Rattle.mm_relation.proofs.Room.{rooms_fewer, keep_none, keep_then}
 use Rattle.mm_relation.proofs.Moving.{pairs_first, last_held, last_set}
 use Rattle.common_lemmas.proofs.Elements.{All-append_parts}
 use Rattle.mm_relation.proofs.Setting.{can_still, none_set}
@@ -22,7 +23,7 @@ change_each-requires-clause-once g c =
 
 pub change_each-requires-clause-room : goal.change_each-requires-clause-room
 change_each-requires-clause-room g c =
-    room_for_fewer (length c.in-Some.others.now) (length c.args.rs.now) c.args.indexes.now (omega (arith, c.in-Some.ensures.cases.1)) c.requires.room
+    rooms_fewer (length c.args.rs.now) 1 (length c.in-Some.others.now) 1 c.args.indexes.now (omega (arith, c.in-Some.ensures.cases.1)) (omega arith) c.requires.room
 
 pub change_each-requires-clause-ready : goal.change_each-requires-clause-ready
 change_each-requires-clause-ready g c =
@@ -40,7 +41,7 @@ change_last-requires-clause-few g c =
 
 pub change_last-requires-clause-room : goal.change_last-requires-clause-room
 change_last-requires-clause-room g c =
-    c.change_each.ensures.room 1 (subst (λ n. HaveRoom n c.args.indexes.now) (sym c.in-Some.ensures.cases.1) c.requires.room)
+    c.change_each.ensures.keeps.room 1 1 (rooms_fewer (length c.args.rs.now) 1 (1 + length c.in-Some.others.now) (1 + 0) c.args.indexes.now (omega (arith, c.in-Some.ensures.cases.1)) (omega arith) c.requires.room)
 
 pub change_last-requires-clause-settable : goal.change_last-requires-clause-settable
 change_last-requires-clause-settable g c =
@@ -70,3 +71,13 @@ returns-clause-rows g c =
 
 pub returns-clause-served : goal.returns-clause-served
 returns-clause-served g c = λ list keyed serves. let now = c.change_each.ensures.served list keyed serves in c.change_last.ensures.served list now.0 now.1
+
+pub returns-in_default-clause-keeps : goal.returns-in_default-clause-keeps
+returns-in_default-clause-keeps g c =
+    subst (λ rs. KeepRoom (length rs) 0 c.args.indexes.now c.args.indexes.now) (sym (nil_from_length c.args.rs.now c.in_default.ensures.cases)) (keep_none c.args.indexes.now)
+
+pub returns-clause-keeps : goal.returns-clause-keeps
+returns-clause-keeps g c =
+    let all : length c.in-Some.others.now + 1 ≡ length c.args.rs.now = omega (arith, c.in-Some.ensures.cases.1) in
+    subst (λ n. KeepRoom n 0 c.args.indexes.now c.change_last.new.indexes) all
+    (keep_then (length c.in-Some.others.now) 0 1 0 c.args.indexes.now c.change_each.new.indexes c.change_last.new.indexes c.change_each.ensures.keeps c.change_last.ensures.keeps)

@@ -1,9 +1,10 @@
 use Rattle.std.proofs.Common.{rules, ◌≡◌, ◌+◌, ◌-◌, ◌∙◌, ap, refl, subst, length, take, arith}
 use Rattle.std.proofs.lemmas.List.{take_all}
 use Rattle.mm_relation.specs.Settings.{pile, CellsSet}
-use Rattle.mm_relation.specs.Indexes.{HaveRoom}
+use Rattle.mm_relation.specs.Indexes.{KeepRoom}
 use Rattle.mm_relation.proofs.Setting.{can_still, none_set}
-use Rattle.mm_relation.proofs.Each.{as_few, room_for_fewer, room_next, pile_split, read_now, held_now, set_next}
+use Rattle.mm_relation.proofs.Each.{as_few, pile_split, read_now, held_now, set_next}
+use Rattle.mm_relation.proofs.Room.{rooms_fewer, keep_none, keep_then}
 use Rattle.mm_relation.proofs.change.change_each.Goals as goal
 
 pub change_row-requires-clause-held : goal.change_row-requires-clause-held
@@ -16,7 +17,7 @@ change_row-requires-clause-few g c =
 
 pub change_row-requires-clause-room : goal.change_row-requires-clause-room
 change_row-requires-clause-room g c =
-    room_for_fewer 1 (length c.args.rs.now - c.loop-r.r-index) c.loop-r.indexes (omega arith) c.loop-r.invariant.room
+    c.loop-r.invariant.keeps.room 1 1 (rooms_fewer (length c.args.rs.now) 1 (1 + c.loop-r.r-index) (1 + 0) c.args.indexes.now (omega arith) (omega arith) c.requires.room)
 
 pub change_row-requires-clause-ready : goal.change_row-requires-clause-ready
 change_row-requires-clause-ready g c =
@@ -43,8 +44,7 @@ loop-r-init g c =
       set = none_set c.args.rows.now.tuples c.args.sets.now;
       served = λ list keyed serves. (keyed, serves);
       declared = refl;
-      room = subst (λ n. HaveRoom n c.args.indexes.now) all c.requires.room;
-      left = λ n room. subst (λ m. HaveRoom (m + n) c.args.indexes.now) all room;
+      keeps = keep_none c.args.indexes.now;
       width = refl;
       aside = refl;
       copies = c.requires.ready ∙ ap (λ n. pile n c.args.sets.now) all;
@@ -56,10 +56,7 @@ loop-r-preserved g c = record {
       c.change_row.new.rows.tuples c.change_row.ensures.row;
   served = λ list keyed serves. let now = c.loop-r.invariant.served list keyed serves in c.change_row.ensures.served list now.0 now.1;
   declared = c.change_row.ensures.declared ∙ c.loop-r.invariant.declared;
-  room = room_next (length c.args.rs.now) c.loop-r.r-index c.loop-r.indexes c.change_row.new.indexes (omega arith) c.change_row.ensures.room c.loop-r.invariant.room;
-  left = λ n room.
-      let one : length c.args.rs.now - c.loop-r.r-index + n ≡ length c.args.rs.now - (c.loop-r.r-index + 1) + n + 1 = omega arith in
-      c.change_row.ensures.room (length c.args.rs.now - (c.loop-r.r-index + 1) + n) (subst (λ m. HaveRoom m c.loop-r.indexes) one (c.loop-r.invariant.left n room));
+  keeps = keep_then c.loop-r.r-index 0 1 0 c.args.indexes.now c.loop-r.indexes c.change_row.new.indexes c.loop-r.invariant.keeps c.change_row.ensures.keeps;
   width = c.change_row.ensures.width ∙ c.loop-r.invariant.width;
   aside = c.change_row.ensures.aside ∙ c.loop-r.invariant.aside;
   copies = c.change_row.ensures.left _ (c.loop-r.invariant.copies ∙ pile_split (length c.args.rs.now) c.loop-r.r-index c.args.sets.now (omega arith));
@@ -69,7 +66,7 @@ pub returns-clause-rows : goal.returns-clause-rows
 returns-clause-rows g c =
     subst (λ rs. CellsSet c.args.rows.now.tuples c.loop-r.rows.tuples rs c.args.sets.now) (take_all c.loop-r.r-index c.args.rs.now (omega arith)) c.loop-r.invariant.set
 
-pub returns-clause-room : goal.returns-clause-room
-returns-clause-room g c = λ n room.
-    let none : length c.args.rs.now - c.loop-r.r-index + n ≡ n = omega arith in
-    subst (λ m. HaveRoom m c.loop-r.indexes) none (c.loop-r.invariant.left n room)
+pub returns-clause-keeps : goal.returns-clause-keeps
+returns-clause-keeps g c =
+    let all : c.loop-r.r-index ≡ length c.args.rs.now = omega arith in
+    subst (λ n. KeepRoom n 0 c.args.indexes.now c.loop-r.indexes) all c.loop-r.invariant.keeps

@@ -7,6 +7,7 @@ use Rattle.mm_relation.proofs.Moving.{await_left, gain_left}
 use Rattle.mm_relation.proofs.Setting.{column_there}
 use Rattle.mm_relation.proofs.Replacing.{keyed_now}
 use Rattle.mm_relation.proofs.SetColumns.{await_set, served_set, declared_set}
+use Rattle.mm_relation.proofs.Room.{set_keeps}
 use Rattle.mm_relation.proofs.change.change_last.Goals as goal
 
 pub remove_set-requires-clause-has : goal.remove_set-requires-clause-has
@@ -45,4 +46,9 @@ returns-clause-served g c = λ list keyed serves.
 pub returns-clause-declared : goal.returns-clause-declared
 returns-clause-declared g c =
     declared_set (g.R.LinkedKeys.keys c.args.links.now) _ _ c.args.r c.args.sets.now c.args.indexes.now c.remove_set.new.indexes c.insert_set.new.indexes c.remove_set.ensures
+    (gain_left (g.R.LinkedKeys.keys c.args.links.now) c.move_cells.new.rows.tuples c.args.r c.args.sets.now c.move_cells.new.sets c.move_cells.ensures.links c.remove_set.new.indexes c.insert_set.new.indexes c.insert_set.ensures)
+
+pub returns-clause-keeps : goal.returns-clause-keeps
+returns-clause-keeps g c =
+    set_keeps (g.R.LinkedKeys.keys c.args.links.now) _ _ c.args.r c.args.sets.now c.args.indexes.now c.remove_set.new.indexes c.insert_set.new.indexes c.remove_set.ensures
     (gain_left (g.R.LinkedKeys.keys c.args.links.now) c.move_cells.new.rows.tuples c.args.r c.args.sets.now c.move_cells.new.sets c.move_cells.ensures.links c.remove_set.new.indexes c.insert_set.new.indexes c.insert_set.ensures)

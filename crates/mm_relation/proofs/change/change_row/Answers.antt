@@ -5,7 +5,8 @@ use Rattle.mm_relation.specs.Indexes.{GainSet}
 use Rattle.mm_relation.proofs.Changing.{have}
 use Rattle.mm_relation.proofs.Setting.{column_there}
 use Rattle.mm_relation.proofs.Replacing.{keyed_now}
-use Rattle.mm_relation.proofs.SetColumns.{await_set, served_set, declared_set, room_set}
+use Rattle.mm_relation.proofs.SetColumns.{await_set, served_set, declared_set}
+use Rattle.mm_relation.proofs.Room.{set_keeps}
 use Rattle.mm_relation.proofs.change.change_row.Goals as goal
 
 pub remove_set-requires-clause-has : goal.remove_set-requires-clause-has
@@ -42,5 +43,5 @@ returns-clause-served g c = λ list keyed serves.
 pub returns-clause-declared : goal.returns-clause-declared
 returns-clause-declared g c = declared_set (g.R.LinkedKeys.keys c.args.links.now) _ _ c.args.r c.args.sets.now c.args.indexes.now c.remove_set.new.indexes c.insert_set.new.indexes c.remove_set.ensures c.insert_set.ensures
 
-pub returns-clause-room : goal.returns-clause-room
-returns-clause-room g c = room_set (g.R.LinkedKeys.keys c.args.links.now) _ _ c.args.r c.args.sets.now c.args.indexes.now c.remove_set.new.indexes c.insert_set.new.indexes c.remove_set.ensures c.insert_set.ensures
+pub returns-clause-keeps : goal.returns-clause-keeps
+returns-clause-keeps g c = set_keeps (g.R.LinkedKeys.keys c.args.links.now) _ _ c.args.r c.args.sets.now c.args.indexes.now c.remove_set.new.indexes c.insert_set.new.indexes c.remove_set.ensures c.insert_set.ensures

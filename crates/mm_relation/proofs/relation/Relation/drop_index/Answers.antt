@@ -3,6 +3,7 @@ use Rattle.mm_relation.specs.Declaring.{declaration, is_index, without_first}
 use Rattle.mm_relation.specs.Seen.{state}
 use Rattle.mm_relation.specs.State.{IsKept, IsCurrent}
 use Rattle.mm_relation.proofs.Declared.{kept_without, state_without, current_without}
+use Rattle.mm_relation.proofs.Owed.{owed_fewer}
 use Rattle.mm_relation.proofs.relation.Relation.drop_index.Goals as goal
 
 pub invariant_of-self : goal.invariant_of-self
@@ -11,6 +12,7 @@ invariant_of-self c = (
       (λ i. state c.self.inside.rows.aside c.self.inside.schema c.self.inside.targets.items (sym c.drop_declared.ensures i) c.self.inside.rows.tuples c.self.inside.by_key.tree (sym c.drop_index.ensures i))
       (kept_without c.self.inside.rows.aside c.self.inside.schema c.self.inside.targets.items c.self.inside.declared.items c.self.inside.rows.tuples c.self.inside.by_key.tree c.self.inside.indexes c.self.invariant.0 c.args.kind c.args.column),
   c.self.invariant.1,
+  rw c.drop_index.ensures (owed_fewer _ _ c.self.inside.by_key _ c.self.inside.indexes c.self.invariant.2),
 )
 
 pub returns-clause-dropped : goal.returns-clause-dropped

@@ -4,6 +4,8 @@ use Rattle.std.specs.FinMap.{len}
 use Rattle.mm_relation.specs.Seen.{state}
 use Rattle.mm_relation.specs.State.{IsKept, IsCurrent, linked_keys}
 use Rattle.mm_relation.proofs.Keeping.{same_state, can_read, row_read, served, kept_on, current_on, readable_after, few_after, told_placed}
+use Rattle.mm_relation.proofs.Serving.{seen_declared}
+use Rattle.mm_relation.proofs.Owed.{not_err, owed_after}
 use Rattle.mm_relation.proofs.relation.Relation.insert_row.Goals as goal
 
 pub place-requires-clause-read : goal.place-requires-clause-read
@@ -46,6 +48,7 @@ invariant_of-self-2 g c =
           (few_after c.make_room.new.rows.tuples c.place.new.rows.tuples (row_of c.args.cells.now.items) c.place.result c.place.ensures.fresh c.place.ensures.put c.place.ensures.kept few)
           c.place.ensures.declared,
       c.place.ensures.width ∙ c.make_room.ensures.width ∙ c.self.invariant.1,
+      owed_after c.make_room.new.rows.aside c.place.new.rows.aside c.place.new.by_key c.place.new.indexes c.place.result c.place.ensures.aside c.place.ensures.kept_aside c.place.ensures.owed,
     )
 
 pub returns-clause-current : goal.returns-clause-current
@@ -65,3 +68,15 @@ pub returns-clause-told : goal.returns-clause-told
 returns-clause-told g c =
     let few : len c.self.inside.rows.tuples < 16777216 = omega (arith, c.len.ensures, c.if-len-from.false) in
     rw (← c.self.view_is) (told_placed (state c.self.inside.rows.aside c.self.inside.schema c.self.inside.targets.items c.self.inside.declared.items c.self.inside.rows.tuples c.self.inside.by_key.tree c.self.inside.indexes) (row_of c.args.cells.now.items).key c.place.result few (rw c.make_room.ensures.rows at c.place.ensures.told))
+
+pub place-requires-clause-owed : goal.place-requires-clause-owed
+place-requires-clause-owed g c = rw c.make_room.ensures.aside (not_err c.make_room.result (sym c.if-is_err.ensures.value) c.make_room.ensures.room)
+
+pub invariant_of-self : goal.invariant_of-self
+invariant_of-self g c = (
+  kept_on c.self.inside.rows.aside c.self.inside.schema c.self.inside.targets.items c.self.inside.declared.items c.self.inside.rows.tuples c.self.inside.by_key.tree c.self.inside.indexes c.self.invariant.0 c.make_room.new.rows.aside c.make_room.new.rows.tuples c.make_room.new.by_key.tree c.make_room.new.indexes
+      (rw (c.make_room.ensures.rows, c.make_room.ensures.by_key) c.self.invariant.0.keyed) (rw c.make_room.ensures.rows c.self.invariant.0.few)
+      (seen_declared c.self.inside.indexes c.make_room.new.indexes c.make_room.ensures.same),
+  c.make_room.ensures.width ∙ c.self.invariant.1,
+  rw c.make_room.ensures.aside c.make_room.ensures.owed,
+)

@@ -28,6 +28,7 @@ invariant_of-self g c =
       kept_on c.self.inside.rows.aside c.self.inside.schema c.self.inside.targets.items c.self.inside.declared.items c.self.inside.rows.tuples c.self.inside.by_key.tree c.self.inside.indexes c.self.invariant.0
           c.displace.new.rows.aside c.displace.new.rows.tuples c.displace.new.by_key.tree c.displace.new.indexes c.displace.ensures.keyed (omega (arith, now, fewer, c.self.invariant.0.few)) c.displace.ensures.declared,
       c.displace.ensures.width ∙ c.self.invariant.1,
+      rw c.displace.ensures.aside (c.displace.ensures.owed c.self.invariant.2),
     )
 
 pub returns-clause-current : goal.returns-clause-current

@@ -7,6 +7,7 @@ invariant_of-self c = rw c.count_down.ensures (
   kept_on c.self.inside.rows.aside c.self.inside.schema c.self.inside.targets.items c.self.inside.declared.items c.self.inside.rows.tuples c.self.inside.by_key.tree c.self.inside.indexes c.self.invariant.0
       _ c.self.inside.rows.tuples c.self.inside.by_key.tree c.self.inside.indexes c.self.invariant.0.keyed c.self.invariant.0.few refl,
   c.self.invariant.1,
+  c.self.invariant.2,
 )
 
 pub returns-clause-current : goal.returns-clause-current

@@ -15,3 +15,6 @@ returns-clause-row c =
 
 pub returns-clause-keyed : goal.returns-clause-keyed
 returns-clause-keyed c = (c.self.invariant.rows c.args.r c.get.result.now c.get.ensures.tuple).1
+
+pub returns-clause-width : goal.returns-clause-width
+returns-clause-width c = rw (← c.self.view_is) ((c.self.invariant.rows c.args.r c.get.result.now c.get.ensures.tuple).0)
