@@ -1,7 +1,7 @@
-//! How many keys a search compares, and how the tree stands that it searches.
+//! How many keys a search compares, and that rows can be owed.
 //!
 //! The contract of `find_key_counted` bounds the number from above. That a search compares at all as often as it has to, no
-//! contract says.
+//! contract says, nor that there is memory for what is owed.
 ghost use Rattle.std.specs.Prelude.{◌≡◌, ◌∷◌, [], IfOk, length};
 ghost use Rattle.plain_tables.specs.declared.value.Value.TheVariants.{Int};
 ghost use Rattle.mm_relation.specs.declared.row.Cell.TheVariants.{Held};
@@ -32,6 +32,7 @@ impl<'a> Relations for Tables<'a> {
 fn no_keys(alloc: Global) -> Result<Relation, NoMemory>
     ensures current { IfOk result (λ relation. IsCurrent (linked_keys relation.targets []) relation) }
     ensures narrow { IfOk result (λ relation. length relation.targets ≡ 1) }
+    ensures settled { IfOk result (λ relation. relation.owed ≡ 0) }
 {
     let mut columns = Sequence::new(alloc);
     columns.push(Column {
@@ -96,4 +97,12 @@ fn a_search_counts_what_it_compares(rt: HostRuntime) {
     let mut relation = no_keys(rt.alloc()).expect(&rt, "memory");
     put_keys(rt.alloc(), &mut relation).expect(&rt, "memory");
     assert!(&rt; most_compared(&relation) >= 10);
+}
+
+// Where there is memory, rows are owed.
+#[test]
+fn rows_are_owed(rt: HostRuntime) {
+    let mut relation = no_keys(rt.alloc()).expect(&rt, "memory");
+    relation.owe(2).expect(&rt, "memory");
+    assert!(&rt; relation.owed() == 2);
 }
