@@ -13,14 +13,15 @@ pub type Result<T, E = Error> = std::result::Result<T, E>;
 #[derive(Clone, Debug, PartialEq, Eq)]
 #[non_exhaustive]
 pub enum Error {
-    /// The answer is `error NUMBER TEXT`. The number is also 90 if memory ran out when a database was opened.
+    /// The answer is `error NUMBER TEXT`. The number is also 90 if memory ran out for a call without
+    /// a line, as where a database is opened.
     #[non_exhaustive]
     Refused {
         /// The number of the refusal.
         number: u32,
         /// The text after the number, with the number of a record if the refusal of a load has one.
         text: String,
-        /// The line that was refused, with its parameters. It is empty if a database wasn't opened.
+        /// The line that was refused, with its parameters. It is empty if the call has no line.
         line: String,
         /// Why, in a line of words for people, which may change from version to version. There is none if
         /// memory ran out for them.
@@ -124,6 +125,10 @@ pub enum Error {
     TooLarge,
     /// A reader of the tables was forgotten and never dropped ([`std::mem::forget`]), so that nobody may change them.
     Shared,
+    /// A transaction was to be ended, and none is open.
+    NoTransaction,
+    /// A transaction is open, and what was asked for isn't done in one.
+    InTransaction,
     /// The library answered with a status that has no place there.
     Status(u32),
 }
@@ -145,7 +150,7 @@ impl Error {
         }
     }
 
-    /// The line that was refused, as it was sent: with its parameters. There is none if a database wasn't opened.
+    /// The line that was refused, as it was sent: with its parameters. There is none if the call has no line.
     pub fn line(&self) -> Option<&str> {
         match self {
             Error::Refused { line, .. } if !line.is_empty() => Some(line),
@@ -154,7 +159,7 @@ impl Error {
     }
 
     /// The line that was refused, as it was written: with its places. The columns that [`reason`](Error::reason) names are
-    /// those of this line. There is none if a database wasn't opened.
+    /// those of this line. There is none if the call has no line.
     pub fn written(&self) -> Option<&str> {
         match self {
             Error::Refused { written, .. } if !written.is_empty() => Some(written),
@@ -214,6 +219,8 @@ impl fmt::Display for Error {
                 "the texts of the rows are more than 4 GiB, or there are 4294967296 statements"
             ),
             Error::Shared => write!(to, "a reader that was forgotten shares the tables"),
+            Error::NoTransaction => write!(to, "no transaction is open"),
+            Error::InTransaction => write!(to, "this is not done in a transaction, and one is open"),
             Error::Status(status) => write!(to, "the library answers {status}"),
             other => other.fmt_of_values(to),
         }

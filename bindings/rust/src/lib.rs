@@ -60,6 +60,7 @@ mod session;
 mod spelling;
 mod statement;
 mod to_value;
+mod transaction;
 mod value;
 
 pub use database::Database;
@@ -75,6 +76,7 @@ pub use row::{ColumnIndex, Row};
 pub use rows::{MappedRows, MappedRowsRef, Rows, RowsIter, RowsRef};
 pub use statement::Statement;
 pub use to_value::{ToValue, ToValueOutput};
+pub use transaction::Transaction;
 pub use value::{Value, ValueRef};
 
 /// Parameters of several types, for the places `?` of a line in their order: a slice of references.

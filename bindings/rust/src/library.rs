@@ -16,6 +16,8 @@ const NO_MEMORY: u32 = 7;
 const REFUSED: u32 = 12;
 const TOO_LARGE: u32 = 13;
 const SHARED: u32 = 14;
+const NO_TRANSACTION: u32 = 15;
+const IN_TRANSACTION: u32 = 16;
 
 /// The `mmdb` of mmdb.h.
 #[repr(C)]
@@ -120,6 +122,10 @@ extern "C" {
     ) -> u32;
     fn mmdb_prepare_reason(db: *mut Inside, line: *const u8, length: usize, reason: *mut Told) -> u32;
     fn mmdb_statement_reason(db: *mut Inside, statement: u32, reason: *mut Told) -> u32;
+    fn mmdb_begin(db: *mut Inside) -> u32;
+    fn mmdb_commit(db: *mut Inside) -> u32;
+    fn mmdb_rollback(db: *mut Inside) -> u32;
+    fn mmdb_transactions(db: *mut Inside) -> usize;
     fn mmdb_share(db: *mut Inside, reader: *mut Inside) -> u32;
     fn mmdb_close(db: *mut Inside);
 }
@@ -150,6 +156,8 @@ pub(crate) enum Declined {
     TooLarge,
     /// It is a change, and a reader shares the tables.
     Shared,
+    /// It isn't done in a transaction, and one is open.
+    InTransaction,
     /// The library gave another status.
     Status(u32),
 }
@@ -173,10 +181,8 @@ impl Handle {
         };
         // SAFETY: the handle is closed, as null says.
         match unsafe { mmdb_open(&mut inside, policy, rows, block) } {
-            IS_DONE => Ok(Handle::over(inside)),
             LIMIT_OUT_OF_RANGE => Err(Error::OutOfRange),
-            NO_MEMORY => Err(Error::no_memory(String::new(), String::new())),
-            status => Err(Error::Status(status)),
+            status => without_line(status).map(|()| Handle::over(inside)),
         }
     }
 
@@ -186,11 +192,7 @@ impl Handle {
             inside: ptr::null_mut(),
         };
         // SAFETY: this handle is open, and the other, which is another, is closed, as null says.
-        match unsafe { mmdb_share(self.inside.get(), &mut reader) } {
-            IS_DONE => Ok(Handle::over(reader)),
-            NO_MEMORY => Err(Error::no_memory(String::new(), String::new())),
-            status => Err(Error::Status(status)),
-        }
+        without_line(unsafe { mmdb_share(self.inside.get(), &mut reader) }).map(|()| Handle::over(reader))
     }
 
     fn over(inside: Inside) -> Handle {
@@ -338,6 +340,32 @@ impl Handle {
     }
 }
 
+/// Transactions. Statements, lent rows and answers stay as they are where one begins or ends.
+impl Handle {
+    pub(crate) fn begin(&self) -> Result<(), Error> {
+        // SAFETY: the handle is open.
+        without_line(unsafe { mmdb_begin(self.inside.get()) })
+    }
+
+    /// Ends the innermost one, and keeps what was done in it.
+    pub(crate) fn commit(&self) -> Result<(), Error> {
+        // SAFETY: the handle is open.
+        without_line(unsafe { mmdb_commit(self.inside.get()) })
+    }
+
+    /// Ends the innermost one, and undoes what was done in it.
+    pub(crate) fn roll_back(&self) -> Result<(), Error> {
+        // SAFETY: the handle is open.
+        without_line(unsafe { mmdb_rollback(self.inside.get()) })
+    }
+
+    /// How many are open.
+    pub(crate) fn transactions(&self) -> usize {
+        // SAFETY: the handle is open.
+        unsafe { mmdb_transactions(self.inside.get()) }
+    }
+}
+
 /// The words that a call returns, if it is done and has any.
 fn words(call: impl FnOnce(&mut Told) -> u32) -> Option<String> {
     let mut told = Told::NOTHING;
@@ -355,7 +383,20 @@ fn done(status: u32) -> Result<(), Declined> {
         REFUSED => Err(Declined::Refused),
         TOO_LARGE => Err(Declined::TooLarge),
         SHARED => Err(Declined::Shared),
+        IN_TRANSACTION => Err(Declined::InTransaction),
         status => Err(Declined::Status(status)),
+    }
+}
+
+/// Whether a call was done that takes no line, by its status.
+fn without_line(status: u32) -> Result<(), Error> {
+    match status {
+        IS_DONE => Ok(()),
+        NO_MEMORY => Err(Error::no_memory(String::new(), String::new())),
+        SHARED => Err(Error::Shared),
+        NO_TRANSACTION => Err(Error::NoTransaction),
+        IN_TRANSACTION => Err(Error::InTransaction),
+        status => Err(Error::Status(status)),
     }
 }
 
@@ -365,6 +406,7 @@ fn answered(status: u32) -> Result<(), Error> {
         IS_DONE | NO_LINE => Ok(()),
         NOT_ONE_REQUEST => Err(Error::NotOneRequest),
         SHARED => Err(Error::Shared),
+        IN_TRANSACTION => Err(Error::InTransaction),
         status => Err(Error::Status(status)),
     }
 }
