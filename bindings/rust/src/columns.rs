@@ -3,6 +3,7 @@
 use std::collections::HashMap;
 
 use crate::error::{Error, Result};
+use crate::fields::Fields;
 use crate::params::Values;
 use crate::spelling::{push_integer, push_marked};
 use crate::value::ValueRef;
@@ -51,57 +52,101 @@ fn column_of(declared: &str, before: &Tables) -> Column {
     }
 }
 
-/// The block of a load that has these rows.
-pub(crate) fn block_of<V: Values>(columns: &[Column], rows: impl IntoIterator<Item = V>) -> Result<String> {
-    let names: Vec<&str> = columns.iter().map(|column| column.name.as_str()).collect();
-    let mut block = names.join(",");
-    for (before, row) in rows.into_iter().enumerate() {
-        block.push('\n');
-        push_row(&mut block, columns, &row, before + 1)?;
-    }
-    Ok(block)
+/// The columns of a table in the order in which the values of a row are given.
+pub(crate) struct Given<'t> {
+    columns: Vec<&'t Column>,
+    /// Where the value of each column of the table is.
+    places: Vec<usize>,
 }
 
-fn push_row<V: Values>(block: &mut String, columns: &[Column], values: &V, row: usize) -> Result<()> {
-    let from = block.len();
-    let mut count = 0;
-    values.each(&mut |value| {
-        if let Some(column) = columns.get(count) {
-            if count > 0 {
-                block.push(',');
-            }
-            push_field(block, (&value.to_value()?).into(), column, row)?;
+impl<'t> Given<'t> {
+    /// All columns, in their own order.
+    pub(crate) fn in_order(columns: &'t [Column]) -> Given<'t> {
+        Given {
+            columns: columns.iter().collect(),
+            places: (0..columns.len()).collect(),
         }
-        count += 1;
+    }
+
+    /// The columns in the order of these names, if each is named once.
+    pub(crate) fn named(columns: &'t [Column], names: &[&str]) -> Option<Given<'t>> {
+        if columns.len() != names.len() {
+            return None;
+        }
+        let place_of = |column: &Column| names.iter().position(|name| *name == column.name);
+        let places = columns.iter().map(place_of).collect::<Option<Vec<usize>>>()?;
+        let column_of = |name: &&str| columns.iter().find(|column| column.name == *name);
+        let columns = names.iter().map(column_of).collect::<Option<Vec<&Column>>>()?;
+        Some(Given { columns, places })
+    }
+
+    /// The names of the columns, in the order in which they are given.
+    pub(crate) fn names(&self) -> impl Iterator<Item = &str> + '_ {
+        self.columns.iter().map(|column| column.name.as_str())
+    }
+
+    /// The first record of a block.
+    pub(crate) fn names_of_table(&self) -> String {
+        record_of(self.places.iter().map(|place| self.columns[*place].name.as_str()))
+    }
+
+    /// Where the value of each column of the table is.
+    pub(crate) fn places(&self) -> &[usize] {
+        &self.places
+    }
+
+    /// The fields of a row of a number, in the order in which its values are given.
+    pub(crate) fn read<V: Values>(&self, values: &V, row: usize, fields: &mut Fields) -> Result<()> {
+        fields.clear();
+        let mut count = 0;
+        values.each(&mut |value| {
+            if let Some(column) = self.columns.get(count) {
+                push_field(fields, (&value.to_value()?).into(), column, row)?;
+                fields.end();
+            }
+            count += 1;
+            Ok(())
+        })?;
+        if count != self.columns.len() {
+            return Err(Error::RowLength {
+                row,
+                values: count,
+                columns: self.columns.len(),
+            });
+        }
         Ok(())
-    })?;
-    if count != columns.len() {
-        return Err(Error::RowLength {
-            row,
-            values: count,
-            columns: columns.len(),
-        });
     }
-    if block.len() == from {
-        block.push_str("\"\"");
-    }
-    Ok(())
 }
 
-fn push_field(block: &mut String, value: ValueRef<'_>, column: &Column, row: usize) -> Result<()> {
+/// The names of columns as the first record of a CSV.
+pub(crate) fn record_of<'n>(names: impl Iterator<Item = &'n str>) -> String {
+    let mut record = String::new();
+    for (at, name) in names.enumerate() {
+        if at > 0 {
+            record.push(',');
+        }
+        match wants_marks(name) {
+            true => push_marked(&mut record, name, '"'),
+            false => record.push_str(name),
+        }
+    }
+    record
+}
+
+fn push_field(fields: &mut Fields, value: ValueRef<'_>, column: &Column, row: usize) -> Result<()> {
     let named = || column.name.clone();
     match (value, column.kind) {
         (ValueRef::Null, _) if column.takes_null => {}
-        (ValueRef::Integer(integer), Kind::Integer) => push_integer(block, integer),
+        (ValueRef::Integer(integer), Kind::Integer) => fields.push_spelled(|to| push_integer(to, integer)),
         (ValueRef::Text(""), Kind::Text) if column.takes_null => return Err(Error::EmptyText { row, column: named() }),
-        (ValueRef::Text(text), Kind::Text) if text.bytes().any(wants_marks) => push_marked(block, text, '"'),
-        (ValueRef::Text(text), Kind::Text) => block.push_str(text),
+        (ValueRef::Text(text), Kind::Text) if wants_marks(text) => fields.push_spelled(|to| push_marked(to, text, '"')),
+        (ValueRef::Text(text), Kind::Text) => fields.push(text.as_bytes()),
         _ => return Err(Error::WrongType { row, column: named() }),
     }
     Ok(())
 }
 
-/// Whether a field with this byte needs quote marks.
-fn wants_marks(byte: u8) -> bool {
-    matches!(byte, b',' | b'"' | b'\r' | b'\n')
+/// Whether a field of this text needs quote marks.
+fn wants_marks(text: &str) -> bool {
+    text.bytes().any(|byte| matches!(byte, b',' | b'"' | b'\r' | b'\n'))
 }

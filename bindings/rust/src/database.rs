@@ -1,8 +1,9 @@
 //! A database, and its calls.
 
 use std::fmt;
+use std::sync::Arc;
 
-use crate::columns::block_of;
+use crate::columns::Tables;
 use crate::error::{Error, Result};
 use crate::index::{indexes_of, Index};
 use crate::kept::{why_not_kept, why_not_prepared, Kept, Lines};
@@ -11,7 +12,7 @@ use crate::library::{Declined, Handle};
 use crate::limits::{Limits, Policy};
 use crate::line::{first_word, has_places, is_change, is_select};
 use crate::outcome::{count_of, Outcome};
-use crate::params::{Params, Values};
+use crate::params::Params;
 use crate::readers::Readers;
 use crate::row::Row;
 use crate::rows::{MappedRows, Rows, RowsRef};
@@ -22,6 +23,7 @@ use crate::statement::Statement;
 pub struct Database {
     session: Session,
     known: Known,
+    limits: Limits,
     /// The statements of the lines that were executed and queried.
     lines: Lines,
 }
@@ -39,7 +41,8 @@ impl Database {
     /// It is refused with the number 90 when out of memory, and by [`Error::OutOfRange`] if the limits are out of
     /// range.
     pub fn open(policy: Policy, limits: Limits) -> Result<Database> {
-        Handle::open(policy as u32, limits.rows, limits.block).map(Database::over)
+        let handle = Handle::open(policy as u32, limits.rows, limits.block)?;
+        Ok(Database::over(handle, limits))
     }
 
     /// Lends the database to readers, each for a thread of its own. While it is lent a change of it doesn't compile.
@@ -250,30 +253,10 @@ impl Database {
         })
     }
 
-    /// Inserts rows into a table, all of them or none, and returns their number.
-    ///
-    /// Each row has a value for each column, in their order. A text may have line feeds here.
-    pub fn load<V: Values>(&self, table: &str, rows: impl IntoIterator<Item = V>) -> Result<usize> {
-        match self.known.tables(&self.session)?.get(table) {
-            Some(columns) => self.load_csv(table, block_of(columns, rows)?),
-            // The library tells what is wrong.
-            None => self.load_csv(table, ""),
-        }
-    }
-
-    /// Inserts the rows of a CSV into a table, all of them or none, and returns their number.
-    ///
-    /// The first record has the names of all columns, in their order.
-    pub fn load_csv(&self, table: &str, block: impl AsRef<[u8]>) -> Result<usize> {
-        let block = block.as_ref();
-        let line = format!("load {table} {}", block.len());
-        self.session.send(&line, block, |answer| count_of(answer).unwrap_or(0))
-    }
-
     /// All rows of a table by rising keys, with the bare names of its columns. They are cells, and no block whose bytes
     /// are limited.
     pub fn dump(&self, table: &str) -> Result<Rows> {
-        let names = match self.known.tables(&self.session)?.get(table) {
+        let names = match self.tables()?.get(table) {
             Some(columns) => columns.iter().map(|column| column.name.clone()).collect(),
             None => return Err(self.why_not(format!("dump {table}"))),
         };
@@ -342,17 +325,32 @@ impl Database {
         })
     }
 
-    fn over(handle: Handle) -> Database {
+    fn over(handle: Handle, limits: Limits) -> Database {
         Database {
             session: Session::over(handle),
             known: Known::default(),
+            limits,
             lines: Lines::default(),
         }
     }
 
     /// Another database that shares the tables.
     pub(crate) fn reader(&self) -> Result<Database> {
-        self.handle().share().map(Database::over)
+        let reader = self.handle().share()?;
+        Ok(Database::over(reader, self.limits))
+    }
+
+    pub(crate) fn session(&self) -> &Session {
+        &self.session
+    }
+
+    /// The columns of each table.
+    pub(crate) fn tables(&self) -> Result<Arc<Tables>> {
+        self.known.tables(&self.session)
+    }
+
+    pub(crate) fn limits(&self) -> Limits {
+        self.limits
     }
 
     pub(crate) fn handle(&self) -> &Handle {

@@ -119,6 +119,14 @@ pub enum Error {
         /// The name of the column, with its table.
         column: String,
     },
+    /// The CSV to load couldn't be read to its end.
+    #[non_exhaustive]
+    Io {
+        /// Of which kind the error was.
+        kind: std::io::ErrorKind,
+        /// What it said.
+        message: String,
+    },
     /// What the program's own type says, in its [`ToValue`](crate::ToValue), or a closure of it.
     Other(String),
     /// The texts of the rows that a select gives are more than 4 GiB together, or the database has 4294967296 statements.
@@ -213,6 +221,7 @@ impl fmt::Display for Error {
             Error::NotAStatement => write!(to, "the line to prepare is no insert, update, delete or select"),
             Error::NotASelect => write!(to, "the line to query is no select"),
             Error::NotAChange => write!(to, "the line to execute is a select, a dump or tables"),
+            Error::Io { message, .. } => write!(to, "the CSV can't be read: {message}"),
             Error::Other(text) => to.write_str(text),
             Error::TooLarge => write!(
                 to,
@@ -228,6 +237,14 @@ impl fmt::Display for Error {
 }
 
 impl Error {
+    /// A CSV that can't be read.
+    pub(crate) fn unread(error: &std::io::Error) -> Error {
+        Error::Io {
+            kind: error.kind(),
+            message: error.to_string(),
+        }
+    }
+
     /// A line for which memory was wanted and refused, which was written so.
     pub(crate) fn no_memory(line: String, written: String) -> Error {
         Error::Refused {

@@ -1,25 +1,37 @@
-//! What is done again and again takes no block of memory but for what it hands out.
+//! What is done again and again takes no block of memory but for what it hands out, and a load no more than for its blocks.
 
 use std::alloc::{GlobalAlloc, Layout, System};
 use std::cell::Cell;
+use std::io::Read;
 
-use mmdb::{named_params, params, Database, Row};
+use mmdb::{named_params, params, Database, Limits, Policy, Row};
 
-/// Counts the blocks that a thread takes by Rust's allocator. The library's own aren't.
+/// Counts the blocks that a thread takes by Rust's allocator, and their bytes. The library's own aren't counted.
 struct Counting;
 
 thread_local! {
     static TAKEN: Cell<usize> = const { Cell::new(0) };
+    static HELD: Cell<isize> = const { Cell::new(0) };
+    static MOST_HELD: Cell<isize> = const { Cell::new(0) };
+}
+
+fn count(bytes: isize) {
+    let _ = HELD.try_with(|held| {
+        held.set(held.get() + bytes);
+        let _ = MOST_HELD.try_with(|most| most.set(most.get().max(held.get())));
+    });
 }
 
 // SAFETY: the allocator is the system's.
 unsafe impl GlobalAlloc for Counting {
     unsafe fn alloc(&self, layout: Layout) -> *mut u8 {
         let _ = TAKEN.try_with(|taken| taken.set(taken.get() + 1));
+        count(layout.size() as isize);
         System.alloc(layout)
     }
 
     unsafe fn dealloc(&self, block: *mut u8, layout: Layout) {
+        count(-(layout.size() as isize));
         System.dealloc(block, layout)
     }
 }
@@ -79,4 +91,45 @@ fn rows_of_ones_own_take_two() {
     let db = filled();
     let taken = taken_by(|| assert_eq!(db.query("select * from t where id >= ?", [0]).unwrap().len(), 100));
     assert_eq!(taken, 200);
+}
+
+/// Rows of a CSV, each made as it is read.
+struct Endless {
+    id: usize,
+    row: Vec<u8>,
+}
+
+impl Read for Endless {
+    fn read(&mut self, to: &mut [u8]) -> std::io::Result<usize> {
+        let count = self.row.len().min(to.len());
+        to[..count].copy_from_slice(&self.row[..count]);
+        self.row.drain(..count);
+        if self.row.is_empty() {
+            self.row.extend_from_slice(format!("{},a text\n", self.id).as_bytes());
+            self.id += 1;
+        }
+        Ok(count)
+    }
+}
+
+/// A CSV of 4 MB is loaded in some blocks of 64 KiB.
+#[test]
+fn a_load_takes_as_much_as_its_blocks() {
+    let limits = Limits {
+        block: 65_536,
+        ..Limits::default()
+    };
+    let db = Database::open(Policy::Auto, limits).unwrap();
+    db.execute("table t (id int, s text)", []).unwrap();
+    let csv = Endless {
+        id: 0,
+        row: b"id,s\n".to_vec(),
+    };
+    let before = HELD.with(Cell::get);
+    MOST_HELD.with(|most| most.set(before));
+    let refused = db.load_csv_from("t", csv.take(4_000_000)).unwrap_err();
+    assert_eq!(refused.text(), Some("bad record 293651"));
+    assert_eq!(db.load("t", (0..200_000).map(|id| (id, "a text"))), Ok(200_000));
+    let most = MOST_HELD.with(Cell::get) - before;
+    assert!(most < 400_000, "{most} bytes");
 }

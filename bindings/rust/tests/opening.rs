@@ -7,14 +7,19 @@ use mmdb::{named_params, params, params_from_iter, Database, Error, Limits, Poli
 
 #[test]
 fn limits() {
-    let db = Database::open(Policy::Tree, Limits { rows: 2, block: 6 }).unwrap();
+    let mut db = Database::open(Policy::Tree, Limits { rows: 2, block: 6 }).unwrap();
     db.execute("table t (id int)", []).unwrap();
     assert_eq!(db.load("t", [[1]]), Ok(1));
     assert_eq!(db.execute("insert t (2)", []), Ok(1));
     assert_eq!(number(db.execute("insert t (3)", [])), Some(43));
     assert_eq!(number(db.command("dump t", [])), Some(64));
     assert_eq!(db.dump("t").unwrap().len(), 2);
-    assert_eq!(number(db.load("t", [[3], [4], [5]])), Some(12));
+    assert_eq!(number(db.load("t", [[3], [4], [5]])), Some(43));
+    assert_eq!(number(db.load("t", [[1234]])), Some(12));
+    assert_eq!(
+        db.answer_to_load(b"load t 7", b"id\n1234"),
+        Ok(&b"error 12 block too long\n"[..])
+    );
     for (rows, block) in [(0, 1), (MOST + 1, 1), (1, MOST + 1)] {
         let opened = Database::open(Policy::Auto, Limits { rows, block });
         assert_eq!(opened.err(), Some(Error::OutOfRange));

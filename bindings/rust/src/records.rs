@@ -1,0 +1,155 @@
+//! The records of a CSV that is read piece by piece.
+
+use std::io::{ErrorKind, Read};
+use std::ops::Range;
+
+use crate::error::{Error, Result};
+use crate::fields::Fields;
+
+/// How many bytes are asked for at once.
+const PIECE: usize = 1 << 16;
+/// What a file of UTF-8 may begin with.
+const MARK: &[u8] = b"\xef\xbb\xbf";
+
+/// The records of a CSV. A quote mark opens a quoted field only at its front, and a record ends at a line feed or a carriage
+/// return. So an empty line is a record of one empty field here, which a load skips.
+pub(crate) struct Records<R> {
+    from: R,
+    piece: Box<[u8]>,
+    /// What of the piece wasn't taken yet.
+    left: Range<usize>,
+}
+
+/// Where in a field a byte is.
+#[derive(Clone, Copy, PartialEq, Eq)]
+enum Within {
+    Front,
+    Plain,
+    Quoted,
+    /// Behind a quote mark that closes the field, or is the first of two.
+    Closed,
+}
+
+/// What ended a record.
+#[derive(Clone, Copy, Debug, PartialEq, Eq)]
+pub(crate) enum End {
+    /// The end of its line.
+    Line(u8),
+    /// That of the file. Where there are no fields, there was no record.
+    File,
+    /// The record is longer than it may be, and isn't ended.
+    TooLong,
+}
+
+impl<R: Read> Records<R> {
+    pub(crate) fn of(from: R) -> Records<R> {
+        Records {
+            from,
+            piece: vec![0; PIECE].into_boxed_slice(),
+            left: 0..0,
+        }
+    }
+
+    /// The mark that the file begins with, or nothing. It is no part of the first record.
+    pub(crate) fn mark(&mut self) -> Result<&'static [u8]> {
+        let mut end = 0;
+        while end < MARK.len() {
+            match self.read(end)? {
+                0 => break,
+                more => end += more,
+            }
+        }
+        let is_marked = self.piece[..end].starts_with(MARK);
+        let mark = if is_marked { MARK } else { &[] };
+        self.left = mark.len()..end;
+        Ok(mark)
+    }
+
+    /// Reads the next record into fields, of so many bytes at most.
+    pub(crate) fn next(&mut self, most: usize, fields: &mut Fields) -> Result<End> {
+        fields.clear();
+        let mut within = Within::Front;
+        while self.has_more()? {
+            let left = &self.piece[self.left.clone()];
+            let run = within.run(left);
+            fields.push(&left[..run]);
+            if run > 0 && within != Within::Quoted {
+                within = Within::Plain;
+            }
+            let next = left.get(run).copied();
+            self.left.start += run + usize::from(next.is_some());
+            if fields.size() + fields.len() > most {
+                return Ok(End::TooLong);
+            }
+            match next {
+                Some(b'"') => {
+                    fields.push(b"\"");
+                    within = within.behind_mark();
+                }
+                Some(b',') => {
+                    fields.end();
+                    within = Within::Front;
+                }
+                Some(end) => {
+                    fields.end();
+                    return Ok(End::Line(end));
+                }
+                None => {}
+            }
+        }
+        within.end_file(fields);
+        Ok(End::File)
+    }
+
+    /// Whether a byte is left, which is asked for if the piece has none.
+    fn has_more(&mut self) -> Result<bool> {
+        if self.left.is_empty() {
+            self.left = 0..self.read(0)?;
+        }
+        Ok(!self.left.is_empty())
+    }
+
+    /// Reads into the piece from a place on, and returns how many bytes that were.
+    fn read(&mut self, at: usize) -> Result<usize> {
+        loop {
+            match self.from.read(&mut self.piece[at..]) {
+                Err(error) if error.kind() == ErrorKind::Interrupted => {}
+                read => return read.map_err(|error| Error::unread(&error)),
+            }
+        }
+    }
+}
+
+impl Within {
+    /// How many of the bytes are simply the next ones of the field. A quote mark is at the front of a field, or in a quoted one,
+    /// more than that.
+    fn run(self, bytes: &[u8]) -> usize {
+        let ends = |byte: &u8| match self {
+            Within::Quoted => *byte == b'"',
+            _ => matches!(*byte, b',' | b'\r' | b'\n'),
+        };
+        let is_plain = matches!(self, Within::Plain | Within::Quoted);
+        match bytes.first() {
+            Some(b'"') if !is_plain => 0,
+            _ => bytes.iter().position(ends).unwrap_or(bytes.len()),
+        }
+    }
+
+    /// Ends the last record, if there is one, and the quoted field that isn't closed.
+    fn end_file(self, fields: &mut Fields) {
+        if self == Within::Quoted {
+            fields.push(b"\"");
+        }
+        if fields.size() + fields.len() > 0 {
+            fields.end();
+        }
+    }
+
+    /// Where the byte is behind a quote mark that ended a run.
+    fn behind_mark(self) -> Within {
+        match self {
+            Within::Quoted => Within::Closed,
+            _ => Within::Quoted,
+        }
+    }
+}
