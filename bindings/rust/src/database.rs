@@ -336,8 +336,16 @@ impl Database {
 
     /// Another database that shares the tables.
     pub(crate) fn reader(&self) -> Result<Database> {
-        let reader = self.handle().share()?;
-        Ok(Database::over(reader, self.limits))
+        let reader = Database::over(self.handle().share()?, self.limits);
+        reader.known.follow(&self.known);
+        Ok(reader)
+    }
+
+    /// Has another database share the tables, in the place of its own.
+    pub(crate) fn share_with(&self, reader: &Database) -> Result<()> {
+        self.handle().share_with(reader.handle())?;
+        reader.known.follow(&self.known);
+        Ok(())
     }
 
     pub(crate) fn session(&self) -> &Session {
@@ -357,7 +365,7 @@ impl Database {
         &self.session.handle
     }
 
-    /// How many declarations and drops there were.
+    /// The number of the declarations as they are.
     pub(crate) fn declared(&self) -> u64 {
         self.known.declared()
     }

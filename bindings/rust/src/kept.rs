@@ -21,7 +21,7 @@ pub(crate) struct Kept {
     written: Written,
     /// The names of the columns that its rows have.
     names: Arc<Vec<String>>,
-    /// How many declarations there were when the names were asked for.
+    /// The number of the declarations when the names were asked for.
     named_at: Option<u64>,
 }
 
@@ -72,8 +72,7 @@ impl Kept {
         }
     }
 
-    /// The rows of a select, which are lent. The names of its columns are asked for where there were declarations
-    /// since.
+    /// The rows of a select, which are lent. The names of its columns are asked for where the declarations are others.
     pub(crate) fn rows<'k, P: Params>(
         &'k mut self,
         handle: &'k Handle,

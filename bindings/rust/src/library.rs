@@ -127,6 +127,7 @@ extern "C" {
     fn mmdb_rollback(db: *mut Inside) -> u32;
     fn mmdb_transactions(db: *mut Inside) -> usize;
     fn mmdb_share(db: *mut Inside, reader: *mut Inside) -> u32;
+    fn mmdb_leave(reader: *mut Inside) -> u32;
     fn mmdb_close(db: *mut Inside);
 }
 
@@ -170,8 +171,8 @@ pub(crate) struct Handle {
 }
 
 // SAFETY: what the pointers lead to belongs to this handle alone, but for tables that handles share, which none of them changes
-// then. That both may go to another thread is proved of the library. It asks only that the calls on one handle come one after
-// another. They do, as the handle isn't `Sync`, and no call is made out of another.
+// then. The library lets a handle go to another thread (docs/threads.md says what of that is proved), and asks only that the
+// calls on one handle come one after another. They do, as the handle isn't `Sync`, and no call is made out of another.
 unsafe impl Send for Handle {}
 
 impl Handle {
@@ -193,6 +194,21 @@ impl Handle {
         };
         // SAFETY: this handle is open, and the other, which is another, is closed, as null says.
         without_line(unsafe { mmdb_share(self.inside.get(), &mut reader) }).map(|()| Handle::over(reader))
+    }
+
+    /// Has another open handle share the tables, in the place of its own.
+    pub(crate) fn share_with(&self, reader: &Handle) -> Result<(), Error> {
+        if ptr::eq(self, reader) {
+            return Ok(());
+        }
+        // SAFETY: both handles are open, and one isn't the other. What the reader has lent stays as it is.
+        without_line(unsafe { mmdb_share(self.inside.get(), reader.inside.get()) })
+    }
+
+    /// Leaves the tables: it has none then.
+    pub(crate) fn leave(&self) -> Result<(), Error> {
+        // SAFETY: the handle is open. What it has lent stays as it is.
+        without_line(unsafe { mmdb_leave(self.inside.get()) })
     }
 
     fn over(inside: Inside) -> Handle {

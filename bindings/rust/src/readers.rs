@@ -46,6 +46,20 @@ pub struct Reader<'r> {
     lent: PhantomData<&'r ()>,
 }
 
+impl Reader<'static> {
+    /// Over a database of its own, which only reads.
+    pub(crate) fn over(database: Database) -> Reader<'static> {
+        Reader {
+            database,
+            lent: PhantomData,
+        }
+    }
+
+    pub(crate) fn database(&self) -> &Database {
+        &self.database
+    }
+}
+
 impl Reader<'_> {
     /// Prepares a select, to be executed more than once.
     pub fn prepare(&self, line: &str) -> Result<Statement<'_>> {
