@@ -1,7 +1,7 @@
 /* Refuses one call for memory. Preloaded into a program, it counts the calls for memory that the program makes, and
  * lets the one of the number in REFUSE_NTH find none. It says so by a byte to the open file whose number is in
  * REFUSE_TOLD. Without REFUSE_NTH it refuses nothing. A program that it is linked with says by refuse_nth which of the
- * calls from now on is refused, or by 0 that none is, and hears how many there were to it yet. */
+ * calls from now on is refused, or by 0 that none is, and hears how many there were to it yet. Several threads may call. */
 #include <errno.h>
 #include <stddef.h>
 #include <stdlib.h>
@@ -37,7 +37,7 @@ __attribute__((constructor)) static void begin(void)
 
 static int is_refused(void)
 {
-    if (left == 0 || --left > 0)
+    if (__atomic_load_n(&left, __ATOMIC_RELAXED) <= 0 || __atomic_sub_fetch(&left, 1, __ATOMIC_RELAXED) != 0)
         return 0;
     if (told >= 0 && write(told, "!", 1) != 1)
         abort();

@@ -1,6 +1,6 @@
 /* Counts the blocks of memory that are given and given back, and refuses the calls for memory that it is told to, or
  * the one of the number in REFUSE_NTH. At the end of the program it says the counts on standard error, but where UNTOLD is
- * defined. */
+ * defined. Several threads may call. */
 #include "allocations.h"
 
 #include <stdio.h>
@@ -52,22 +52,32 @@ __attribute__((destructor)) static void tell(void)
 }
 #endif
 
+static void add(long *count, long more)
+{
+    __atomic_fetch_add(count, more, __ATOMIC_RELAXED);
+}
+
+/* Takes one of those that are left, if there is one. */
+static int takes(long *left)
+{
+    long seen = __atomic_load_n(left, __ATOMIC_RELAXED);
+    while (seen > 0)
+        if (__atomic_compare_exchange_n(left, &seen, seen - 1, 0, __ATOMIC_RELAXED, __ATOMIC_RELAXED))
+            return 1;
+    return 0;
+}
+
 static int is_refused(void)
 {
-    if (left_to_meet > 0) {
-        left_to_meet--;
+    if (takes(&left_to_meet) || !takes(&left_to_refuse))
         return 0;
-    }
-    if (left_to_refuse == 0)
-        return 0;
-    left_to_refuse--;
-    refused_calls++;
+    add(&refused_calls, 1);
     return 1;
 }
 
 static void *counted(void *block)
 {
-    given_blocks += block != NULL;
+    add(&given_blocks, block != NULL);
     return block;
 }
 
@@ -89,6 +99,6 @@ void *__wrap_realloc(void *block, size_t size)
 
 void __wrap_free(void *block)
 {
-    returned_blocks += block != NULL;
+    add(&returned_blocks, block != NULL);
     __real_free(block);
 }
