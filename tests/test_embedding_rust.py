@@ -48,8 +48,8 @@ class Cargo(unittest.TestCase):
         self.assertEqual(ended.out.count("test result:"), len(PASSED.findall(ended.out)), ended.out)
         self.assertGreater(sum(map(int, PASSED.findall(ended.out))), 0, ended.out)
 
-    def check_run(self, at, printed):
-        ended = self.cargo(at, "run", "--quiet")
+    def check_run(self, at, printed, *words):
+        ended = self.cargo(at, "run", "--quiet", *words)
         self.assertEqual((ended.err, ended.out, ended.status), ("", printed, 0))
 
     def test_the_crate(self):
@@ -58,6 +58,7 @@ class Cargo(unittest.TestCase):
     def test_the_example(self):
         self.check_tests(EXAMPLE)
         self.check_run(EXAMPLE, (EXAMPLE / "expected.txt").read_text())
+        self.check_run(EXAMPLE, (EXAMPLE / "fixtures.txt").read_text(), "--bin", "fixtures")
 
     def check_program(self, name, program, printed):
         self.check_run(embedding.crate(self.folder, name, program), printed)
