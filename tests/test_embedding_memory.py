@@ -37,8 +37,8 @@ def built(crate, program, *words):
 
 
 class Statements(unittest.TestCase):
-    """Each call for memory of each call on a statement is refused in turn, and nothing has changed then. In C it is done by
-    tests/test_embedding_c.py."""
+    """Each call for memory of each call on a statement is refused in turn, and nothing has changed then; in Rust also those of
+    transactions, of loads of many blocks, and of readers. In C it is done by tests/test_embedding_c.py."""
 
     def check(self, *words):
         how = {**os.environ, "MMDB_LIBRARY": str(ROOM.path), "PYTHONPATH": str(BINDING)}
@@ -53,9 +53,15 @@ class Statements(unittest.TestCase):
     def test_in_python(self):
         self.check(sys.executable, compiling.PROGRAMS / "statements_refused.py")
 
+    def check_in_rust(self, name):
+        crate = embedding.crate(ROOM.path, name, (compiling.PROGRAMS / f"{name}.rs").read_text())
+        self.check(built(crate, name))
+
     def test_in_rust(self):
-        crate = embedding.crate(ROOM.path, "statements_refused", (compiling.PROGRAMS / "statements_refused.rs").read_text())
-        self.check(built(crate, "statements_refused"))
+        self.check_in_rust("statements_refused")
+
+    def test_transactions_loads_and_readers_in_rust(self):
+        self.check_in_rust("loads_refused")
 
 
 class Examples(unittest.TestCase):
