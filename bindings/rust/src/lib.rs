@@ -27,6 +27,9 @@
 //! Lines with values are read once: [`Database::prepare`] returns a [`Statement`], and [`Database::execute`] and
 //! [`Database::query`] keep those of their lines.
 //!
+//! [`Database::transaction`] begins a transaction, [`Database::load`] and [`Database::load_csv_from`] insert any number of rows or
+//! none, and threads read a [`Shared`] database at the same time.
+//!
 //! The archive `libmmdb.a` is linked from the folder that the environment variable `MMDB_LIBRARY` names when the crate
 //! is built, else from `release` of a clone, else from where pkg-config knows `mmdb`.
 

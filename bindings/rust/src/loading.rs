@@ -11,6 +11,7 @@ use crate::params::Values;
 use crate::records::{End, Records};
 
 const BLOCK_TOO_LONG: u32 = 12;
+const KEY_EXISTS: u32 = 41;
 const TABLE_FULL: u32 = 43;
 const BAD_HEADER: u32 = 61;
 
@@ -187,26 +188,15 @@ impl<'d, R: Read> Csv<'d, R> {
 
     /// The names for each block, where those of the first record are as they are given.
     fn names_of(&self, given: &Given<'_>) -> Result<Vec<u8>> {
-        if self
-            .fields
-            .iter()
-            .map(said)
-            .eq(given.names().map(|name| name.as_bytes().to_vec()))
-        {
+        let found: Vec<Vec<u8>> = self.fields.iter().map(said).collect();
+        if found.iter().map(Vec::as_slice).eq(given.names().map(str::as_bytes)) {
             return Ok((given.names_of_table() + "\n").into_bytes());
         }
+        let (names, line) = (record_of(given.names()), format!("load {}", self.table));
         let found = String::from_utf8_lossy(&self.record);
         let found = found.trim_end_matches(&['\r', '\n'][..]);
-        let reason = format!(
-            "the names are {}, and the first record is {found}",
-            record_of(given.names())
-        );
-        Err(refused(
-            BAD_HEADER,
-            "bad header",
-            format!("load {}", self.table),
-            reason,
-        ))
+        let reason = format!("the names are {names}, and the first record is {found}");
+        Err(refused(BAD_HEADER, "bad header", line, reason))
     }
 }
 
@@ -222,7 +212,7 @@ struct Load<'d> {
     before: Option<usize>,
     /// How many records there were.
     records: usize,
-    /// How many of these are in blocks that were sent.
+    /// How many rows were loaded of blocks that were sent.
     sent: usize,
 }
 
@@ -254,14 +244,14 @@ impl<'d> Load<'d> {
         Ok(())
     }
 
-    /// Sends what is left, and keeps all. Returns the number of records.
+    /// Sends what is left, and keeps all. Returns the number of rows.
     fn end(mut self) -> Result<usize> {
         self.send()?;
         if let Some(before) = self.before {
             self.database.handle().commit_to(before)?;
             self.before = None;
         }
-        Ok(self.records)
+        Ok(self.sent)
     }
 
     /// Begins a transaction, if there is none yet.
@@ -276,9 +266,8 @@ impl<'d> Load<'d> {
 
     fn send(&mut self) -> Result<()> {
         let sent = self.database.load_block(self.table, &self.block);
-        sent.map_err(|why| self.in_the_whole(why))?;
+        self.sent += sent.map_err(|why| self.in_the_whole(why))?;
         self.block.truncate(self.names);
-        self.sent = self.records;
         Ok(())
     }
 
@@ -312,24 +301,31 @@ impl<'d> Load<'d> {
 
     /// The reason of a refusal of a block, told of the whole.
     fn reason_in_the_whole(&self, number: u32, text: &str, reason: String) -> String {
+        match number {
+            KEY_EXISTS => self.other_record(&reason).unwrap_or(reason),
+            TABLE_FULL => self.rows_before(text).unwrap_or(reason),
+            _ => reason,
+        }
+    }
+
+    /// Which record, or which row, has the key too.
+    fn other_record(&self, reason: &str) -> Option<String> {
         let table = self.table;
-        if number == TABLE_FULL {
-            let (before, most) = (record_in(text).unwrap_or(1) - 1, self.database.limits().rows as usize);
-            let held = most.saturating_sub(before);
-            return format!(
-                "{table} has {held} rows, {before} records come before this one, and a table has at most {most} rows"
-            );
-        }
         if let Some(key) = reason.strip_prefix(&format!("{table} has a row with the key ")) {
-            return format!("{table} or an earlier record has the key {key}");
+            return Some(format!("{table} or an earlier record has the key {key}"));
         }
-        match reason.split_once(" has the key ") {
-            Some((record, key)) => match with_number(record, self.sent) {
-                Some(record) => format!("{record} has the key {key}"),
-                None => reason,
-            },
-            None => reason,
-        }
+        let (record, key) = reason.split_once(" has the key ")?;
+        Some(format!("{} has the key {key}", with_number(record, self.sent)?))
+    }
+
+    /// How many rows there were before the load, and how many records of it came before the one of a refusal.
+    fn rows_before(&self, text: &str) -> Option<String> {
+        let (table, most) = (self.table, self.database.limits().rows as usize);
+        let before = record_in(text)?.checked_sub(1)?;
+        let held = most.checked_sub(before)?;
+        Some(format!(
+            "{table} has {held} rows, {before} records come before this one, and a table has at most {most} rows"
+        ))
     }
 }
 

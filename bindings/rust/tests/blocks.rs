@@ -102,6 +102,9 @@ fn a_refusal_names_the_record_in_the_whole() {
         let bad = refused(load(&db, csv(0..700) + "700\n"));
         assert_eq!((bad.0, bad.1.as_str()), (62, "bad record 701"));
         assert_eq!(bad.2, refused(load(&db, "id,s\n700\n".to_string())).2);
+        let quoted = "record 3 has the key 4,a\n";
+        let bad = refused(load(&db, csv(0..700) + quoted));
+        assert_eq!((bad.0, bad.2), (62, refused(load(&db, format!("id,s\n{quoted}"))).2));
         assert_eq!(number(load(&db, csv(0..700).replacen("id", "di", 1))), Some(61));
         assert_eq!((rows_of(&db).len(), db.transactions()), (1, 0));
     }
