@@ -69,6 +69,14 @@ class Errors(unittest.TestCase):
         for each in (mmdb.Refused, mmdb.OperationalError, MemoryError):
             self.assertTrue(issubclass(mmdb.NoMemory, each))
 
+    def test_what_is_declined_has_its_class(self):
+        for each, above in (
+            (mmdb.NoTransaction, mmdb.ProgrammingError),
+            (mmdb.InTransaction, mmdb.NotSupportedError),
+            (mmdb.Shared, mmdb.OperationalError),
+        ):
+            self.assertEqual(each.__bases__, (above,))
+
     def test_wrong_use_is_an_error_of_both_kinds(self):
         with mmdb.Database() as db:
             db.execute("table t (id int, s text)")

@@ -96,6 +96,19 @@ class Others(binding.WithDatabase):
 
         self.check(reason)
 
+    def test_a_rollback(self):
+        new = [(number, 1, "y") for number in range(ROWS, 2 * ROWS)]
+
+        def roll_back():
+            self.is_under_way = False
+            self.db.begin()
+            self.db.load("t", new)
+            self.is_under_way = True
+            self.db.rollback()
+
+        self.check(roll_back)
+        self.assertEqual(len(self.db.select("select id from t")), ROWS)
+
     def test_a_close(self):
         def close():
             self.is_under_way = False

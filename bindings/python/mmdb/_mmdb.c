@@ -353,6 +353,42 @@ static PyObject *handle_reason(PyObject *self, PyObject *given)
     return PyUnicode_DecodeUTF8((const char *)words.at, (Py_ssize_t)words.length, "strict");
 }
 
+/* Begins or ends a transaction, by one of the calls of the library. */
+static PyObject *stepped(PyObject *self, mmdb_status (*step)(mmdb *))
+{
+    Handle *handle = (Handle *)self;
+    uint32_t status;
+    Py_BEGIN_ALLOW_THREADS
+    status = step(&handle->db);
+    Py_END_ALLOW_THREADS
+    if (status == MMDB_DONE)
+        return none();
+    handle_failed(handle, status);
+    return NULL;
+}
+
+static PyObject *handle_begin(PyObject *self, PyObject *Py_UNUSED(none))
+{
+    return stepped(self, mmdb_begin);
+}
+
+static PyObject *handle_commit(PyObject *self, PyObject *Py_UNUSED(none))
+{
+    return stepped(self, mmdb_commit);
+}
+
+static PyObject *handle_rollback(PyObject *self, PyObject *Py_UNUSED(none))
+{
+    /* (rows that come back may make a statement last that was quick) */
+    ((Handle *)self)->commands++;
+    return stepped(self, mmdb_rollback);
+}
+
+static PyObject *handle_transactions(PyObject *self, PyObject *Py_UNUSED(none))
+{
+    return PyLong_FromSize_t(mmdb_transactions(&((Handle *)self)->db));
+}
+
 static PyObject *handle_forget(PyObject *self, PyObject *Py_UNUSED(none))
 {
     ((Handle *)self)->declarations++;
@@ -378,6 +414,11 @@ static PyMethodDef handle_methods[] = {
     { "_load", handle_load, METH_VARARGS, "What is answered to a line with its block." },
     { "_indexes", handle_indexes, METH_VARARGS, "What is answered to who asks how the indexes of a table stand." },
     { "_reason", handle_reason, METH_VARARGS, "Why the line that was just answered was refused, with its block." },
+    { "_begin", handle_begin, METH_NOARGS, "Begins a transaction." },
+    { "_commit", handle_commit, METH_NOARGS, "Ends the innermost transaction, and keeps what was done in it." },
+    { "_rollback", handle_rollback, METH_NOARGS,
+      "Ends the innermost transaction, and restores the tables that it began with." },
+    { "_transactions", handle_transactions, METH_NOARGS, "How many transactions are open." },
     { "_forget", handle_forget, METH_NOARGS, "Forgets what is known of the columns of statements." },
     { NULL, NULL, 0, NULL },
 };

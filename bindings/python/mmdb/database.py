@@ -2,12 +2,24 @@
 
 from __future__ import annotations
 
+import contextlib
 import functools
 import warnings
-from typing import TYPE_CHECKING, Any, Callable, Dict, Iterable, List, Mapping, NoReturn, Optional, Sequence, Tuple, Union
+from typing import TYPE_CHECKING, Any, Callable, Dict, Iterable, Iterator, List, Mapping, NoReturn, Optional, Sequence, Tuple, Union
 
 from .conversions import Converter, converter_of
-from .errors import CsvWarning, NoMemory, OperationalError, WrongType, WrongUse, WrongValue, refusal_of
+from .errors import (
+    CsvWarning,
+    InTransaction,
+    NoMemory,
+    NoTransaction,
+    OperationalError,
+    Shared,
+    WrongType,
+    WrongUse,
+    WrongValue,
+    refusal_of,
+)
 from .handles import Handle
 from .indexes import Index, indexes_of
 from .lines import CHANGES, Placed, check_kind, check_line, one_line, placed
@@ -30,6 +42,7 @@ _TAKEN = {"select": ("select",), "change": CHANGES}
 
 # The statuses of mmdb.h for a call that isn't done.
 _NOT_OPEN, _NOT_ONE_REQUEST, _NO_MEMORY, _NO_SUCH_STATEMENT, _TOO_LARGE = 1, 6, 7, 9, 13
+_SHARED, _NO_TRANSACTION, _IN_TRANSACTION = 14, 15, 16
 
 
 class Database(Handle):
@@ -118,6 +131,57 @@ class Database(Handle):
         lines = [encoded(at.filled(values)) for values in stored_rows(given)]
         with self._turn:
             return sum(map(self._counted, lines))
+
+    def begin(self) -> None:
+        """Begins a transaction, which `commit` or `rollback` ends. In another it is a savepoint of that.
+
+        It is one of the database, for all threads. Raises `Shared` while readers share the tables.
+        """
+        with self._turn:
+            self._begin()
+
+    def commit(self) -> None:
+        """Ends the innermost transaction, and keeps what was done in it.
+
+        A rollback of an outer one still undoes it. Raises `NoTransaction` if none is open.
+        """
+        with self._turn:
+            self._commit()
+
+    def rollback(self) -> None:
+        """Ends the innermost transaction, and restores the tables that it began with, for which it needs no memory.
+
+        Raises `NoTransaction` if none is open.
+        """
+        with self._turn:
+            self._rollback()
+
+    @property
+    def in_transaction(self) -> bool:
+        """Whether a transaction is open."""
+        with self._turn:
+            return self._transactions() > 0
+
+    @contextlib.contextmanager
+    def transaction(self) -> Iterator[None]:
+        """A transaction for a `with`, at whose end it is committed. At an exception it is rolled back.
+
+        Those that were begun in it and are still open end with it. Raises what `begin` raises, and at its end
+        `NoTransaction` if it was ended before.
+        """
+        with self._turn:
+            self._begin()
+            depth = self._transactions()
+        try:
+            yield
+        except BaseException:
+            with self._turn:
+                self._end(depth, self._rollback)
+            raise
+        with self._turn:
+            if self._transactions() < depth:
+                self._failed(_NO_TRANSACTION)
+            self._end(depth, self._commit)
 
     def load(self, table: str, rows: Iterable[Iterable[Any]]) -> int:
         """Puts these rows into a table, all of them or none, and gives how many they are.
@@ -281,9 +345,20 @@ class Database(Handle):
             raise WrongUse("mmdb: a line has no line feed, and a load has a block as long as it says")
         if status == _TOO_LARGE:
             raise OperationalError("mmdb: the texts of the rows are more than 4 GiB, or there are 4294967296 statements")
+        if status == _SHARED:
+            raise Shared("mmdb: readers share the tables, and nothing changes them until all have left")
+        if status == _NO_TRANSACTION:
+            raise NoTransaction("mmdb: no transaction is open")
+        if status == _IN_TRANSACTION:
+            raise InTransaction("mmdb: this isn't done in a transaction: commit it or roll it back first")
         raise WrongUse(f"mmdb: the library answers {status}")
 
     # The calls below need their turn held.
+
+    def _end(self, depth: int, end: Callable[[], None]) -> None:
+        """Ends the transactions from this one on, the innermost first."""
+        while self._transactions() >= depth:
+            end()
 
     def _answer(self, line: bytes, block: Optional[bytes] = None) -> bytes:
         """What is answered. After a declaration, and a call that was interrupted, the columns are known no longer."""

@@ -110,6 +110,18 @@ class NoMemory(Refused, OperationalError, MemoryError):
     """The refusal 90. Memory ran out, for opening a database or for a request."""
 
 
+class Shared(OperationalError):
+    """Other handles share the tables, so that nobody changes them. Nothing has changed."""
+
+
+class NoTransaction(ProgrammingError):
+    """No transaction is open that could be committed or rolled back. Nothing has changed."""
+
+
+class InTransaction(NotSupportedError):
+    """A transaction is open, and this isn't done in one. Nothing has changed, and the transaction stays open."""
+
+
 class WrongUse(ProgrammingError, ValueError):
     """Parameters that don't fit the line, a line that is none, a closed database."""
 

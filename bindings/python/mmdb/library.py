@@ -121,6 +121,10 @@ _ANSWER = _call(_LIBRARY, "mmdb_answer", _NUMBER, _ADDRESS, _ADDRESS)
 _REASON = _call(_LIBRARY, "mmdb_reason", _NUMBER, _ADDRESS, _ADDRESS, _SIZE, _ADDRESS, _SIZE, _ADDRESS)
 _PREPARE_REASON = _call(_LIBRARY, "mmdb_prepare_reason", _NUMBER, _ADDRESS, _ADDRESS, _SIZE, _ADDRESS)
 _STATEMENT_REASON = _call(_LIBRARY, "mmdb_statement_reason", _NUMBER, _ADDRESS, _NUMBER, _ADDRESS)
+_BEGIN = _call(_LIBRARY, "mmdb_begin", _NUMBER, _ADDRESS)
+_COMMIT = _call(_LIBRARY, "mmdb_commit", _NUMBER, _ADDRESS)
+_ROLLBACK = _call(_LIBRARY, "mmdb_rollback", _NUMBER, _ADDRESS)
+_TRANSACTIONS = _call(_LIBRARY, "mmdb_transactions", _SIZE, _ADDRESS)
 _CLOSE = _call(_LIBRARY, "mmdb_close", None, _ADDRESS)
 _PREPARE = _call(_LIBRARY, "mmdb_prepare", _NUMBER, _ADDRESS, _ADDRESS, _SIZE, _ADDRESS)
 _BIND_INTEGER = _call(_LIBRARY, "mmdb_bind_integer", _NUMBER, _ADDRESS, _NUMBER, _NUMBER, ctypes.c_int64)
@@ -252,6 +256,28 @@ class Handle:
             return None
         words = self._unanswered(status) if status else self._told_bytes()
         return words.decode() or None
+
+    def _begin(self) -> None:
+        """Begins a transaction."""
+        self._check(_BEGIN(self._at))
+
+    def _commit(self) -> None:
+        """Ends the innermost transaction, and keeps what was done in it."""
+        self._check(_COMMIT(self._at))
+
+    def _rollback(self) -> None:
+        """Ends the innermost transaction, and restores the tables that it began with."""
+        self._check(_ROLLBACK(self._at))
+
+    def _transactions(self) -> int:
+        """How many transactions are open."""
+        count: int = _TRANSACTIONS(self._at)
+        return count
+
+    def _check(self, status: int) -> None:
+        """Raises what a status says, unless the call was done."""
+        if status:
+            self._failed(status)
 
     def _forget(self) -> None:
         """Forgets what is known of the columns of statements, which may have been declared anew."""

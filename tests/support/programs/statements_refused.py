@@ -31,6 +31,10 @@ class Kept:
         self.join = self.db.prepare("select distinct t.s, u.k from t join u on t.c = u.k where t.s <> ?")
         self.more = []
 
+    def insert_in_transaction(self):
+        with self.db.transaction():
+            self.insert.execute(4, LONG)
+
     def prepare(self):
         self.more.append(self.db.prepare("select s, c from t where s = ? and id < ? and c <> 'a text that is given'"))
 
@@ -48,6 +52,8 @@ STEPS = (
     lambda of: of.join.execute(LONG),
     lambda of: of.select.names,
     lambda of: of.db.select("select s from t where s <> ? and id < ?", LONG, 3),
+    lambda of: of.db.begin(),
+    lambda of: of.insert_in_transaction(),
     lambda of: of.db.change("update t set c = ? where id = ?", KEY, 1),
 )
 

@@ -1,0 +1,209 @@
+"""The binding for Python: transactions, one in another too, and what is raised of them."""
+
+import random
+import threading
+
+from support import binding, sizes
+from support.binding import mmdb
+
+SEED = 20261204
+ORDERS = sizes.size(200, 5_000)
+STEPS = 60
+
+
+class Stop(Exception):
+    """What ends a block."""
+
+
+class Transactions(binding.WithDatabase):
+    """What begins and ends them."""
+
+    def setUp(self):
+        super().setUp()
+        self.db.execute("table t (id int, s text)")
+        self.db.execute("insert t (1, 'a')")
+
+    def ids(self):
+        return [row.id for row in self.db.select("select id from t")]
+
+    def test_a_commit_keeps_and_a_rollback_restores(self):
+        for end, ids in ((self.db.commit, [1, 2, 3]), (self.db.rollback, [1, 2, 3])):
+            self.assertFalse(self.db.in_transaction)
+            self.assertIsNone(self.db.begin())
+            self.assertTrue(self.db.in_transaction)
+            first = len(self.ids()) + 1
+            self.db.execute("insert t (?, 'b')", first)
+            self.db.load("t", [(first + 1, "c")])
+            self.assertEqual(self.ids(), [*range(1, first + 2)])
+            self.assertIsNone(end())
+            self.assertEqual(self.ids(), ids)
+        self.assertFalse(self.db.in_transaction)
+
+    def test_one_in_another_is_a_savepoint(self):
+        self.db.begin()
+        self.db.execute("insert t (2, 'b')")
+        self.db.begin()
+        self.db.execute("insert t (3, 'c')")
+        self.db.rollback()
+        self.assertEqual((self.ids(), self.db.in_transaction), ([1, 2], True))
+        self.db.begin()
+        self.db.execute("insert t (4, 'd')")
+        self.db.commit()
+        self.assertEqual((self.ids(), self.db.in_transaction), ([1, 2, 4], True))
+        self.db.rollback()
+        self.assertEqual((self.ids(), self.db.in_transaction), ([1], False))
+
+    def test_each_order_is_as_of_plain_lists(self):
+        draw = random.Random(SEED)
+        for _ in range(ORDERS):
+            with mmdb.Database() as db:
+                self.check_order(db, draw)
+
+    def check_order(self, db, draw):
+        db.execute("table t (id int, s text)")
+        insert, select = db.prepare("insert t (?, ?)"), db.prepare("select * from t")
+        rows, saved = [], []
+        for number in range(STEPS):
+            step = draw.choice(("insert", "load", "twice", "begin", "begin", "commit", "rollback"))
+            new = (number, str(number))
+            if step == "insert":
+                rows = [*rows, new]
+                insert.execute(*new)
+            elif step == "load":
+                rows = [*rows, new, (number + STEPS, "")]
+                self.assertEqual(db.load("t", [new, (number + STEPS, "")]), 2)
+            elif step == "twice" and rows:
+                self.refused(41, insert.execute, rows[0][0], "")
+                self.refused(41, db.load, "t", [new, rows[0]])
+            elif step == "begin":
+                saved.append(rows)
+                db.begin()
+            elif step == "commit" and saved:
+                saved.pop()
+                db.commit()
+            elif step == "rollback" and saved:
+                rows = saved.pop()
+                db.rollback()
+            self.assertEqual(select.execute(), sorted(rows))
+            self.assertEqual(db.in_transaction, bool(saved))
+
+    def test_the_end_of_a_block_commits(self):
+        with self.db.transaction() as given:
+            self.assertTrue(self.db.in_transaction)
+            self.db.execute("insert t (2, 'b')")
+        self.assertEqual((given, self.ids(), self.db.in_transaction), (None, [1, 2], False))
+
+    def test_an_exception_rolls_back(self):
+        for raised in (Stop, KeyboardInterrupt, GeneratorExit, StopIteration):
+            with self.assertRaises(raised), self.db.transaction():
+                self.db.execute("insert t (2, 'b')")
+                raise raised
+            self.assertEqual((self.ids(), self.db.in_transaction), ([1], False))
+        with self.assertRaises(mmdb.IntegrityError), self.db.transaction():
+            self.db.executemany("insert t (?, '')", [(2,), (3,), (1,)])
+        self.assertEqual(self.ids(), [1])
+
+    def test_a_block_in_a_block(self):
+        with self.db.transaction():
+            self.db.execute("insert t (2, 'b')")
+            with self.assertRaises(Stop), self.db.transaction():
+                self.db.execute("insert t (3, 'c')")
+                raise Stop
+            with self.db.transaction():
+                self.db.execute("insert t (4, 'd')")
+            self.assertEqual((self.ids(), self.db.in_transaction), ([1, 2, 4], True))
+        self.assertEqual((self.ids(), self.db.in_transaction), ([1, 2, 4], False))
+
+    def test_what_is_still_open_ends_with_its_block(self):
+        self.db.begin()
+        with self.db.transaction():
+            self.db.begin()
+            self.db.execute("insert t (2, 'b')")
+            self.db.begin()
+            self.db.execute("insert t (3, 'c')")
+        self.assertEqual((self.ids(), self.db.in_transaction), ([1, 2, 3], True))
+        with self.assertRaises(Stop), self.db.transaction():
+            self.db.begin()
+            self.db.execute("insert t (4, 'd')")
+            self.db.commit()
+            self.db.begin()
+            raise Stop
+        self.assertEqual((self.ids(), self.db.in_transaction), ([1, 2, 3], True))
+        self.db.rollback()
+        self.assertEqual((self.ids(), self.db.in_transaction), ([1], False))
+
+    def test_a_block_whose_transaction_was_ended_before(self):
+        with self.assertRaises(mmdb.NoTransaction), self.db.transaction():
+            self.db.execute("insert t (2, 'b')")
+            self.db.rollback()
+        self.db.begin()
+        with self.assertRaises(Stop), self.db.transaction():
+            self.db.commit()
+            raise Stop
+        self.assertTrue(self.db.in_transaction)
+        self.db.commit()
+        self.assertEqual(self.ids(), [1])
+        with self.assertRaisesRegex(ValueError, "the database is closed"), self.db.transaction():
+            self.db.close()
+        with mmdb.Database() as db, self.assertRaises(Stop), db.transaction():
+            db.close()
+            raise Stop
+
+    def test_none_is_open(self):
+        for end in (self.db.commit, self.db.rollback):
+            with self.assertRaisesRegex(mmdb.NoTransaction, "^mmdb: no transaction is open$") as raised:
+                end()
+            self.assertIsInstance(raised.exception, mmdb.ProgrammingError)
+        self.assertEqual(self.ids(), [1])
+
+    def test_what_is_not_done_in_one(self):
+        with self.db.transaction():
+            self.db.execute("insert t (2, 'b')")
+            for call in (
+                lambda: self.db.execute("table u (id int)"),
+                lambda: self.db.execute("drop table ?", None),
+                lambda: self.db.answer("index t s hash"),
+            ):
+                with self.assertRaisesRegex(mmdb.InTransaction, "^mmdb: this isn't done in a transaction") as raised:
+                    call()
+                self.assertIsInstance(raised.exception, mmdb.NotSupportedError)
+            self.assertEqual(self.db.execute("tables"), "table t (id int, s text)\n")
+        self.assertIsNone(self.db.execute("table u (id int)"))
+        self.assertEqual(self.ids(), [1, 2])
+
+    def test_a_closed_database(self):
+        self.db.begin()
+        self.db.close()
+        self.assertFalse(self.db.in_transaction)
+        for call in (self.db.begin, self.db.commit, self.db.rollback, lambda: self.db.transaction().__enter__()):
+            with self.assertRaisesRegex(ValueError, "the database is closed"):
+                call()
+
+    def test_rows_and_statements_stay(self):
+        insert, select = self.db.prepare("insert t (?, ?)"), self.db.prepare("select * from t where id >= ?")
+        found = [select.execute(0)]
+        for step in (self.db.begin, self.db.begin, self.db.commit, self.db.rollback):
+            insert.execute(len(found) + 1, "b")
+            found.append(select.execute(0))
+            step()
+            self.assertEqual(self.db.select("select * from t where id >= ?", 0), select.execute(0))
+        self.assertEqual([len(rows) for rows in found], [1, 2, 3, 4, 5])
+        self.assertEqual([row.id for row in found[-1]], [1, 2, 3, 4, 5])
+        self.assertEqual((self.ids(), select.names), ([1, 2], ("t.id", "t.s")))
+
+    def test_what_can_be_read_in_one(self):
+        with self.db.transaction():
+            self.db.load_dicts("t", [{"s": "b", "id": 2}])
+            self.db.load_csv("t", "id,s\n3,c\n")
+            self.assertEqual(self.db.dump("t"), [(1, "a"), (2, "b"), (3, "c")])
+            self.assertEqual(self.db.execute("dump t"), "load t 17\nid,s\n1,a\n2,b\n3,c\n")
+            self.assertEqual([index.rows for index in self.db.indexes("t")], [3])
+            self.assertEqual(self.db.answer("insert t (1, 'b')"), b"error 41 key exists\n")
+            self.assertEqual(self.db.reason("insert t (1, 'b')"), "t has a row with the key 1")
+
+    def test_it_is_of_all_threads(self):
+        for call in (self.db.begin, lambda: self.db.execute("insert t (2, 'b')"), self.db.begin, self.db.commit, self.db.rollback):
+            thread = threading.Thread(target=call)
+            thread.start()
+            thread.join()
+        self.assertEqual((self.ids(), self.db.in_transaction), ([1], False))
