@@ -278,7 +278,7 @@ class Calls(binding.WithDatabase):
             self.refused(43, db.execute, "insert t (3)")
             self.refused(64, db.execute, "dump t")
             self.assertEqual(db.dump("t"), [[1], [2]])
-            self.refused(12, db.load, "t", [(3,), (4,), (5,)])
+            self.refused(12, db.load, "t", [(1_000,)])
         for how in ({"rows": 0}, {"rows": mmdb.MOST + 1}, {"block": -1}, {"block": mmdb.MOST + 1}, {"rows": 2**32 + 1}):
             with self.assertRaises(ValueError):
                 mmdb.Database(**how)

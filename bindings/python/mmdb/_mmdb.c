@@ -6,16 +6,19 @@
 typedef struct Turn {
     PyObject_HEAD
     PyThread_type_lock lock;
+    PyThread_type_lock reserved; /* is held while one thread has all turns, by it */
+    unsigned long owner;         /* that thread, or 0 */
+    unsigned depth;              /* how often it has reserved them */
 } Turn;
 
 static PyTypeObject *turn_type;
 
-static void take(Turn *turn)
+static void wait_for(PyThread_type_lock lock)
 {
-    if (PyThread_acquire_lock(turn->lock, NOWAIT_LOCK))
+    if (PyThread_acquire_lock(lock, NOWAIT_LOCK))
         return;
     Py_BEGIN_ALLOW_THREADS
-    PyThread_acquire_lock(turn->lock, WAIT_LOCK);
+    PyThread_acquire_lock(lock, WAIT_LOCK);
     Py_END_ALLOW_THREADS
 }
 
@@ -24,13 +27,25 @@ static void give(Turn *turn)
     PyThread_release_lock(turn->lock);
 }
 
+static void take(Turn *turn)
+{
+    wait_for(turn->lock);
+    while (turn->owner != 0 && turn->owner != PyThread_get_thread_ident()) {
+        give(turn);
+        wait_for(turn->reserved);
+        PyThread_release_lock(turn->reserved);
+        wait_for(turn->lock);
+    }
+}
+
 static PyObject *new_turn(void)
 {
     Turn *turn = (Turn *)PyType_GenericAlloc(turn_type, 0);
     if (turn == NULL)
         return NULL;
     turn->lock = PyThread_allocate_lock();
-    if (turn->lock == NULL) {
+    turn->reserved = PyThread_allocate_lock();
+    if (turn->lock == NULL || turn->reserved == NULL) {
         Py_DECREF(turn);
         return PyErr_NoMemory();
     }
@@ -50,6 +65,8 @@ static void turn_dealloc(PyObject *self)
     Turn *turn = (Turn *)self;
     if (turn->lock != NULL)
         PyThread_free_lock(turn->lock);
+    if (turn->reserved != NULL)
+        PyThread_free_lock(turn->reserved);
     free_object(self);
 }
 
@@ -65,9 +82,37 @@ static PyObject *turn_exit(PyObject *self, PyObject *Py_UNUSED(why))
     return none();
 }
 
+static PyObject *turn_reserve(PyObject *self, PyObject *Py_UNUSED(none))
+{
+    Turn *turn = (Turn *)self;
+    unsigned long thread = PyThread_get_thread_ident();
+    if (turn->owner != thread) {
+        wait_for(turn->reserved);
+        wait_for(turn->lock);
+        turn->owner = thread;
+        give(turn);
+    }
+    turn->depth++;
+    return none();
+}
+
+static PyObject *turn_free(PyObject *self, PyObject *Py_UNUSED(none))
+{
+    Turn *turn = (Turn *)self;
+    if (turn->depth == 0 || --turn->depth > 0)
+        return none();
+    wait_for(turn->lock);
+    turn->owner = 0;
+    give(turn);
+    PyThread_release_lock(turn->reserved);
+    return none();
+}
+
 static PyMethodDef turn_methods[] = {
     { "__enter__", turn_enter, METH_NOARGS, "Waits for its turn." },
     { "__exit__", turn_exit, METH_VARARGS, "Ends it." },
+    { "reserve", turn_reserve, METH_NOARGS, "Has all turns be of this thread alone, which the others wait for." },
+    { "free", turn_free, METH_NOARGS, "Ends that." },
     { NULL, NULL, 0, NULL },
 };
 

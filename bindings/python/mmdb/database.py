@@ -4,29 +4,35 @@ from __future__ import annotations
 
 import contextlib
 import functools
-import warnings
-from typing import TYPE_CHECKING, Any, Callable, Dict, Iterable, Iterator, List, Mapping, NoReturn, Optional, Sequence, Tuple, Union
+import itertools
+import sys
+from typing import (
+    TYPE_CHECKING,
+    Any,
+    Callable,
+    Dict,
+    Iterable,
+    Iterator,
+    List,
+    Mapping,
+    NoReturn,
+    Optional,
+    Sequence,
+    Tuple,
+    Union,
+)
 
 from .conversions import Converter, converter_of
-from .errors import (
-    CsvWarning,
-    InTransaction,
-    NoMemory,
-    NoTransaction,
-    OperationalError,
-    Shared,
-    WrongType,
-    WrongUse,
-    WrongValue,
-    refusal_of,
-)
+from .csvs import Picked, Readable, Watch, cut, front_of, pieces_of
+from .errors import InTransaction, NoMemory, NoTransaction, OperationalError, Refused, Shared, WrongType, WrongUse, refusal_of
 from .handles import Handle
 from .indexes import Index, indexes_of
 from .lines import CHANGES, Placed, check_kind, check_line, one_line, placed
-from .quotes import first_odd
+from .loads import CHUNK, Arrange, blocks_of_rows, by_name, by_order, chunked, header_of, in_whole, kept_names
+from .quotes import Form, form_of
 from .rows import Rows, Shape, shape_of
 from .statement import Statement
-from .values import Column, Value, as_bytes, block_of, columns_of, encoded, rows_of, rows_of_dicts, stored_rows, stored_values
+from .values import Column, Value, as_bytes, columns_of, encoded, stored_rows, stored_values
 
 #: How plans are chosen. No policy changes an answer.
 POLICIES = ("auto", "scan", "hash", "tree", "merge")
@@ -62,6 +68,7 @@ class Database(Handle):
             raise WrongUse(f"mmdb: rows lie from 1 to {MOST}, and block from 0 to {MOST}")
         self._declared: Optional[Dict[str, List[Column]]] = None
         self._converters: Dict[str, Converter] = {}
+        self._block = block
         super().__init__(POLICIES.index(policy), rows, block)
 
     def __enter__(self) -> Database:
@@ -183,57 +190,136 @@ class Database(Handle):
                 self._failed(_NO_TRANSACTION)
             self._end(depth, self._commit)
 
-    def load(self, table: str, rows: Iterable[Iterable[Any]]) -> int:
+    def load(self, table: str, rows: Iterable[Iterable[Any]], columns: Optional[Sequence[Optional[str]]] = None) -> int:
         """Puts these rows into a table, all of them or none, and gives how many they are.
 
-        Each row has a value for each column, in their order. A text may have line feeds here.
+        Each row has a value for each column, in their order, or in that of `columns`: the names of the columns, or None
+        for a value that is left out. Columns that aren't named get nulls. A text may have line feeds here.
+
+        The rows may be any number. They are taken from an iterator one after another, and sent in blocks. If these are
+        several, they are one transaction. Other threads wait with their calls while many rows are taken, so the iterator
+        must not wait for them.
 
         Raises `Refused` as the language says. Raises ValueError if a row has another number of values, a text has a
         lone surrogate, an integer has more than 64 bits, or an empty text would go into a reference that takes nulls,
         where a load would read null. Raises TypeError if a value has another type than its column, and if a row is a
-        str, a dict or no row at all.
+        str, a dict or no row at all. Whatever is raised, also by the iterator, no row has gone in.
         """
-        given = rows_of(rows)
-        return self._load_rows(table, lambda columns: given)
+        names = kept_names(columns)
+        return self._load_rows(table, rows, lambda declared: by_order(table, declared, names))
 
-    def load_dicts(self, table: str, dicts: Iterable[Mapping[str, Any]]) -> int:
+    def load_dicts(self, table: str, dicts: Iterable[Mapping[str, Any]], columns: Optional[Sequence[str]] = None) -> int:
         """Puts rows into a table that are given by the names of its columns, all of them or none.
 
-        Raises what `load` raises, and ValueError if a dict lacks a column or has a key that is none.
+        With `columns` only these are taken of each dict, and others get nulls. Raises what `load` raises, and ValueError
+        if a dict lacks a column or, without `columns`, has a key that is none.
         """
-        given = list(dicts)
-        return self._load_rows(table, lambda columns: rows_of_dicts(table, columns, given))
+        names = kept_names(columns)
+        return self._load_rows(table, dicts, lambda declared: by_name(table, declared, names))
 
-    def load_csv(self, table: str, block: Union[str, bytes], strict: bool = False) -> int:
+    def load_csv(
+        self,
+        table: str,
+        block: Union[str, bytes, Readable, Iterable[Union[str, bytes]]],
+        strict: bool = False,
+        *,
+        columns: Optional[Sequence[str]] = None,
+        separator: str = ",",
+        quote: Optional[str] = '"',
+    ) -> int:
         """Puts the rows of a CSV into a table, all of them or none, and gives how many they are.
 
-        The first record has the names of all columns, in their order. Raises `Refused` as the language says.
+        It is text or bytes, a file, or an iterable of pieces, as lines are, of any size. Its first record has the names of
+        all columns, in their order. With `columns` it has the names of its own columns, in any order: those that are
+        named are taken, and columns of the table that aren't named get nulls. Fields are separated by `separator`, and
+        those that `quote` encloses may have any character; without it none do. Raises what `load` raises.
 
         A field whose quote mark is never closed holds all that follows, and `"x"y` is read as `xy`. The first such field is
         warned of by a `CsvWarning`. With `strict` it raises ValueError, and no row goes in.
         """
-        content = as_bytes(block)
-        odd = first_odd(content)
-        if odd is not None and strict:
-            raise WrongValue(odd.told())
-        if odd is not None:
-            warnings.warn(CsvWarning(odd.told(), odd.record), stacklevel=2)
-        with self._turn:
-            return self._loaded(table, content)
+        form, pieces = form_of(separator, quote), pieces_of(block)
+        watch = Watch(form, strict, sys._getframe(1))
+        if columns is None and form == Form():
+            return self._load_file(table, pieces, watch)
+        with self._alone():
+            picked = Picked(table, self._known(table), columns, form)
+            return self._load_blocks(table, picked.blocks(pieces, watch, self._block))
 
-    def _load_rows(self, table: str, rows: Callable[[List[Column]], List[Tuple[Any, ...]]]) -> int:
-        """Puts rows into a table, which a function gives in the order of its columns.
+    def _load_rows(self, table: str, rows: Iterable[Any], arranged: Callable[[List[Column]], Arrange]) -> int:
+        """Puts rows into a table, which a function arranges in the order of its columns."""
+        rest = iter(rows)
+        given = list(itertools.islice(rest, CHUNK))
+        if len(given) < CHUNK:
+            count = self._load_few(table, given, arranged)
+            if count is not None:
+                return count
+        with self._alone():
+            declared = self._known(table)
+            return self._load_blocks(table, blocks_of_rows(declared, arranged(declared), chunked(given, rest), self._block))
 
-        Their block is made while other threads may use the database, and again if the table was declared anew meanwhile.
+    def _load_few(self, table: str, rows: List[Any], arranged: Callable[[List[Column]], Arrange]) -> Optional[int]:
+        """Puts rows into a table. Does nothing, and gives None, if they are more than one block.
+
+        It is made while other threads may use the database, and again if the table was declared anew meanwhile.
         """
-        with self._turn:
-            columns = self._columns(table)
+        columns = self._known(table)
         while True:
-            block = block_of(columns, rows(columns)) if columns else b""
+            blocks = list(blocks_of_rows(columns, arranged(columns), [rows], self._block))
+            if len(blocks) > 1:
+                return None
             with self._turn:
                 before, columns = columns, self._columns(table)
                 if columns == before:
-                    return self._loaded(table, block)
+                    return self._loaded(table, blocks[0])
+
+    def _load_file(self, table: str, pieces: Iterator[bytes], watch: Watch) -> int:
+        """Puts in a CSV that is in the form of a load."""
+        front = front_of(pieces, self._block)
+        if len(front) <= self._block:
+            watch.look(front, 0)
+            with self._turn:
+                return self._loaded(table, front)
+        count, names = 0, b""
+        with self._alone(), self.transaction():
+            names_of_others = encoded(header_of(self._known(table))) + b"\n"
+            for chunk in cut(itertools.chain((front,), pieces), self._block, self._block - len(names_of_others)):
+                watch.look(chunk, count + 1 if names else 0)
+                count += self._load_more(table, names + chunk, count)
+                names = names_of_others
+        return count
+
+    def _load_blocks(self, table: str, blocks: Iterator[bytes]) -> int:
+        """Puts in some blocks, in a transaction if they are several."""
+        first, second = next(blocks), next(blocks, None)
+        if second is None:
+            return self._load_more(table, first, 0)
+        count = 0
+        with self.transaction():
+            for block in itertools.chain((first, second), blocks):
+                count += self._load_more(table, block, count)
+        return count
+
+    def _load_more(self, table: str, block: bytes, before: int) -> int:
+        """Puts in a block, before which so many records went in."""
+        try:
+            with self._turn:
+                return self._loaded(table, block)
+        except Refused as why:
+            raise in_whole(why, before) from None
+
+    def _known(self, table: str) -> List[Column]:
+        """The columns of a table. None where there is no such table."""
+        with self._turn:
+            return self._columns(table)
+
+    @contextlib.contextmanager
+    def _alone(self) -> Iterator[None]:
+        """Has other threads wait with their calls."""
+        self._turn.reserve()
+        try:
+            yield
+        finally:
+            self._turn.free()
 
     def convert(self, column: str, to: Union[None, type, Converter]) -> None:
         """Has a column read as a type, in the rows of selects and dumps from now on.

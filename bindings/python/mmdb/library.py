@@ -139,6 +139,47 @@ class _Unstored(Exception):
     """A value isn't stored as it is. (It is put into that form when no call has its turn, since that may call the database.)"""
 
 
+class Turn:
+    """The turn of one call, while which no other is done. One thread may reserve all turns."""
+
+    def __init__(self) -> None:
+        self._lock = threading.Lock()
+        #: Is held while one thread has all turns, which is the owner, as often as the depth says.
+        self._reserved = threading.Lock()
+        self._owner = self._depth = 0
+
+    def __enter__(self) -> None:
+        self._lock.acquire()
+        while self._owner and self._owner != threading.get_ident():
+            self._lock.release()
+            with self._reserved:
+                pass
+            self._lock.acquire()
+
+    def __exit__(self, *_: object) -> None:
+        self._lock.release()
+
+    def begins_at_once(self) -> bool:
+        """Takes the turn if no other call has it, and says whether it did."""
+        return self._lock.acquire(blocking=False)
+
+    def reserve(self) -> None:
+        """Has all turns be of this thread alone, which the others wait for."""
+        if self._owner != threading.get_ident():
+            self._reserved.acquire()
+            with self._lock:
+                self._owner = threading.get_ident()
+        self._depth += 1
+
+    def free(self) -> None:
+        """Ends that."""
+        self._depth -= 1
+        if self._depth == 0:
+            with self._lock:
+                self._owner = 0
+            self._reserved.release()
+
+
 class Handle:
     """An open database, of which `mmdb.Database` is made.
 
@@ -153,7 +194,7 @@ class Handle:
     _failed: Any
 
     def __init__(self, policy: int, rows: int, block: int) -> None:
-        self._turn = threading.Lock()
+        self._turn = Turn()
         self._inside = ctypes.c_void_p(None)
         self._at = ctypes.addressof(self._inside)
         self._told = _Bytes(None, 0)
@@ -484,11 +525,11 @@ class Prepared:
         if handle is None or self._statement.number is None:
             return
         # (it is let go at any time, where waiting for its turn could last for ever)
-        if not handle._turn.acquire(blocking=False):
+        if not handle._turn.begins_at_once():
             handle._let_go.append(self._statement.number)
             return
         self._statement.finalize(handle)
-        handle._turn.release()
+        handle._turn.__exit__()
 
     def execute(self, /, *parameters: Any, **named: Any) -> Any:
         """Executes it with these parameters, and returns its rows, or their number."""

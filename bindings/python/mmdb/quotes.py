@@ -2,19 +2,65 @@
 
 from __future__ import annotations
 
+import functools
 import re
-from typing import TYPE_CHECKING, NamedTuple, Optional, Tuple
+from typing import TYPE_CHECKING, Any, NamedTuple, Optional, Pattern, Tuple
 
 from .chosen import extension
+from .errors import WrongType, WrongUse
 
-# A quote mark opens a quoted field only where a field begins. Elsewhere in a field without quotes it is a character.
-_OPENING = re.compile(rb'(?<![^,\r\n])"')
-_TO_ITS_END = re.compile(rb'"[^"]*(?:""[^"]*)*"(?!")')
-_WHOLE = re.compile(rb'(?<![^,\r\n])"[^"]*(?:""[^"]*)*"(?![^,\r\n])')
-# Many fields that are whole, with what stands before each. (One by one they would take several times as long.)
-_MANY = re.compile(rb'(?:[^"]*(?<![^,\r\n])"[^"]*(?:""[^"]*)*"(?![^,\r\n])){1,500}')
 _ENDS = re.compile(rb"[\r\n]+")
-_MARK = b"\xef\xbb\xbf"
+
+#: What marks a text as UTF-8, in front of it.
+MARK = b"\xef\xbb\xbf"
+
+
+class Form(NamedTuple):
+    """How a CSV is written: the byte that separates fields, and that which encloses some, or none."""
+
+    separator: bytes = b","
+    quote: bytes = b'"'
+
+    @property
+    def opening(self) -> Pattern[bytes]:
+        """The marks that open a quoted field."""
+        return _patterns(self).opening
+
+
+class _Patterns(NamedTuple):
+    """What quote marks are searched by."""
+
+    opening: Pattern[bytes]
+    to_its_end: Pattern[bytes]
+    whole: Pattern[bytes]
+    many: Pattern[bytes]
+
+
+@functools.lru_cache(maxsize=16)
+def _patterns(form: Form) -> _Patterns:
+    mark, separator = re.escape(form.quote), re.escape(form.separator)
+    # A quote mark opens a quoted field only where a field begins. Elsewhere in a field without quotes it is a character.
+    before, behind = rb"(?<![^%b\r\n])" % separator, rb"(?![^%b\r\n])" % separator
+    field = rb"%b[^%b]*(?:%b%b[^%b]*)*%b" % ((mark,) * 6)
+    # Many fields that are whole, with what stands before each. (One by one they would take several times as long.)
+    many = rb"(?:[^%b]*%b%b%b){1,500}" % (mark, before, field, behind)
+    patterns = before + mark, field + rb"(?!%b)" % mark, before + field + behind, many
+    return _Patterns(*map(re.compile, patterns))
+
+
+def form_of(separator: Any, quote: Any) -> Form:
+    """The form of a CSV. Raises WrongType and WrongUse where these are no marks of one."""
+    for what, mark in (("separator", separator), ("quote", quote)):
+        if what == "quote" and mark is None:
+            continue
+        if not isinstance(mark, str):
+            raise WrongType(f"mmdb: the {what} of a CSV is a str, not {type(mark).__name__}")
+        if len(mark) != 1 or not mark.isascii() or mark in "\r\n\0":
+            raise WrongUse(f"mmdb: the {what} of a CSV is one character of ASCII and no line end, not {mark!r}")
+    if separator == quote:
+        raise WrongUse("mmdb: a CSV has different characters as its separator and its quote")
+    return Form(separator.encode(), b"" if quote is None else quote.encode())
+
 
 OPEN = "a field whose quote mark is never closed, and which holds all that follows"
 BEHIND = "a field with text behind its closing quote mark, which is read as a part of it"
@@ -32,28 +78,28 @@ class Odd(NamedTuple):
         return f"mmdb: {record} of the CSV has {self.what}"
 
 
-def first_odd(block: bytes) -> Optional[Odd]:
-    """The first field of a CSV whose quote marks are odd. None where there is none."""
-    if b'"' not in block:
+def first_odd(block: bytes, form: Form = Form(), number: int = 0) -> Optional[Odd]:
+    """The first field of a CSV whose quote marks are odd. None where there is none. Its first record has this number."""
+    if not form.quote or form.quote not in block:
         return None
-    content = block[len(_MARK) :] if block.startswith(_MARK) else block
-    found = odd_field(content)
-    return None if found is None else Odd(_record_at(content, found[0]), OPEN if found[1] else BEHIND)
+    content = block[len(MARK) :] if number == 0 and block.startswith(MARK) else block
+    found = odd_field(content) if form == Form() else _odd_field(content, form)
+    return None if found is None else Odd(number + _records_in(content, found[0], form), OPEN if found[1] else BEHIND)
 
 
-def _odd_field(content: bytes) -> Optional[Tuple[int, bool]]:
+def _odd_field(content: bytes, form: Form = Form()) -> Optional[Tuple[int, bool]]:
     """Where the first field begins whose quote marks are odd, and whether it is open. (The extension has the same.)"""
-    at = 0
+    at, patterns, ends = 0, _patterns(form), (b"", form.separator, b"\r", b"\n")
     while True:
-        many = _MANY.match(content, at)
-        opening = _OPENING.search(content, many.end() if many else at)
+        many = patterns.many.match(content, at)
+        opening = patterns.opening.search(content, many.end() if many else at)
         if opening is None:
             return None
-        field = _TO_ITS_END.match(content, opening.start())
+        field = patterns.to_its_end.match(content, opening.start())
         if field is None:
             return opening.start(), True
         at = field.end()
-        if content[at : at + 1] not in (b"", b",", b"\r", b"\n"):
+        if content[at : at + 1] not in ends:
             return opening.start(), False
 
 
@@ -63,7 +109,7 @@ else:
     odd_field = extension.odd_field
 
 
-def _record_at(content: bytes, at: int) -> int:
-    """The number of the record in which a place stands, before which no field is odd."""
-    *before, _ = _ENDS.split(_WHOLE.sub(b"-", content[:at]))
+def _records_in(content: bytes, at: int, form: Form) -> int:
+    """How many records end before a place, before which no field is odd."""
+    *before, _ = _ENDS.split(_patterns(form).whole.sub(b"-", content[:at]))
     return sum(map(bool, before))

@@ -113,7 +113,7 @@ def as_bytes(given: Any) -> bytes:
     raise WrongType(f"mmdb: bytes or a str are wanted, not {type(given).__name__}")
 
 
-def _quoted(text: str) -> str:
+def quoted_field(text: str) -> str:
     """A text as a field of CSV."""
     doubled = str.replace(text, '"', '""')
     return f'"{doubled}"' if _IS_QUOTED(doubled) else doubled
@@ -128,22 +128,27 @@ def _field(value: Any, column: Column) -> str:
     if column.kind is str and isinstance(value, str):
         if column.takes_null and not value:
             raise WrongValue(f"mmdb: in the column {column.name} a load would read the empty text as null")
-        return _quoted(value)
+        return quoted_field(value)
     if type(value) not in PLAIN and has_adapter(value):
         return _field(adapted(value), column)
     taken = column.kind.__name__ + (" or None" if column.takes_null else "")
     raise WrongType(f"mmdb: the column {column.name} takes {taken}, not {type(value).__name__}")
 
 
-def _fields(values: List[Any], column: Column) -> List[str]:
-    """The values of a column as they are spelled in the block of a load."""
+def quoted_fields(texts: Sequence[str]) -> Sequence[str]:
+    """Texts as fields of CSV."""
+    return list(map(quoted_field, texts)) if _IS_QUOTED("".join(texts)) else texts
+
+
+def _fields(values: List[Any], column: Column, before: int) -> Sequence[str]:
+    """The values of a column as they are spelled in the block of a load, of rows before which there are some others."""
     kinds = set(map(type, values))
     if kinds == {int} and column.kind is int and _LEAST <= min(values) and max(values) <= _GREATEST:
         return list(map(str, values))
     if kinds == {str} and column.kind is str and not column.takes_null:
-        return list(map(_quoted, values)) if _IS_QUOTED("".join(values)) else values
+        return quoted_fields(values)
     fields = []
-    for number, value in enumerate(values, 1):
+    for number, value in enumerate(values, before + 1):
         try:
             fields.append(_field(value, column))
         except (WrongType, WrongValue) as why:
@@ -151,23 +156,25 @@ def _fields(values: List[Any], column: Column) -> List[str]:
     return fields
 
 
-def block_of(columns: List[Column], rows: Sequence[Tuple[Any, ...]]) -> bytes:
-    """The block of a load that has these rows."""
-    for number, row in enumerate(rows, 1):
+def records_of(columns: List[Column], rows: Sequence[Tuple[Any, ...]], before: int) -> List[str]:
+    """The records of a load that has these rows, before which there are some others."""
+    for number, row in enumerate(rows, before + 1):
         if len(row) != len(columns):
             raise WrongUse(f"mmdb: row {number} has {len(row)} values for {len(columns)} columns")
-    fields = [_fields(list(map(operator.itemgetter(at), rows)), column) for at, column in enumerate(columns)]
-    records: Iterable[str] = map(",".join, zip(*fields))
-    if len(columns) == 1:
-        # (an empty line would be no record)
-        records = (record or '""' for record in records)
-    return encoded("\n".join([",".join(column.name for column in columns), *records]))
+    fields = [_fields(list(map(operator.itemgetter(at), rows)), column, before) for at, column in enumerate(columns)]
+    return joined_records(fields)
 
 
-def rows_of(rows: Iterable[Any]) -> List[Tuple[Any, ...]]:
-    """Rows whose values have an order, each as a tuple."""
-    taken = list(rows)
-    return taken if set(map(type, taken)) <= {tuple} else [row_of(row, number) for number, row in enumerate(taken, 1)]
+def joined_records(fields: Sequence[Sequence[str]]) -> List[str]:
+    """The records that have these fields in their columns."""
+    records = map(",".join, zip(*fields))
+    # (an empty line would be no record)
+    return [record or '""' for record in records] if len(fields) == 1 else list(records)
+
+
+def rows_of(rows: List[Any], before: int) -> List[Tuple[Any, ...]]:
+    """Rows whose values have an order, each as a tuple. Before them there are some others."""
+    return rows if set(map(type, rows)) <= {tuple} else [row_of(row, number) for number, row in enumerate(rows, before + 1)]
 
 
 def row_of(row: Any, number: int) -> Tuple[Any, ...]:
@@ -178,24 +185,3 @@ def row_of(row: Any, number: int) -> Tuple[Any, ...]:
         more = "; load_dicts takes dicts" if isinstance(row, collections.abc.Mapping) else ""
         raise WrongType(f"mmdb: a row is a list or tuple of values, not {type(row).__name__} (row {number}){more}")
     return tuple(row)
-
-
-def rows_of_dicts(table: str, columns: List[Column], dicts: Iterable[Any]) -> List[Tuple[Any, ...]]:
-    """Rows that are given by the names of the columns, in the order of these."""
-    names = [column.name for column in columns]
-    wanted, rows = set(names), []
-    for number, given in enumerate(dicts, 1):
-        if type(given) is not dict and not isinstance(given, collections.abc.Mapping):
-            raise WrongType(f"mmdb: a row is a dict, not {type(given).__name__} (row {number}); load takes others")
-        if given.keys() != wanted:
-            raise WrongUse(f"mmdb: {_misfit(names, given)} of {table} (row {number})")
-        rows.append(tuple([given[name] for name in names]))
-    return rows
-
-
-def _misfit(names: List[str], given: Mapping[str, Any]) -> str:
-    """Why a dict is no row of these columns."""
-    lacking = [name for name in names if name not in given]
-    if lacking:
-        return f"a row lacks the column {', '.join(lacking)}"
-    return f"a row has {', '.join(str(name) for name in given if name not in names)}, which is no column"

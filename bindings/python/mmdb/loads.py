@@ -1,0 +1,164 @@
+"""Loads of any size: their rows in the order of the columns, cut into blocks, and what is told of a refused one."""
+
+from __future__ import annotations
+
+import collections.abc
+import itertools
+import operator
+import re
+from typing import Any, Callable, Iterable, Iterator, List, Mapping, Optional, Sequence, Tuple
+
+from .errors import Refused, WrongType, WrongUse
+from .values import Column, encoded, records_of, rows_of
+
+#: Puts given rows, before which there are some others, into the order of a table's columns.
+Arrange = Callable[[List[Any], int], List[Tuple[Any, ...]]]
+
+#: How many rows are put into records at once.
+CHUNK = 1_000
+
+# Where the words of a refusal tell of a record, and its reason of another one.
+_OF_A_RECORD = re.compile(r"record \d+\)?\Z")
+_OF_ANOTHER_RECORD = re.compile(r"\Arecord \d+ ")
+_KEY_IN_TABLE = re.compile(r"\A(\w+) has a row with the key ")
+_DIGITS = re.compile(r"\d+")
+
+
+# ---- columns that are named
+
+
+def kept_names(names: Any) -> Any:
+    """The names of columns that a caller gives, in a form in which they can be taken several times."""
+    return list(names) if isinstance(names, collections.abc.Iterator) else names
+
+
+def checked_names(table: str, columns: List[Column], names: Any, takes_none: bool = False) -> List[Optional[str]]:
+    """The names of columns that a caller gives. Raises WrongType and WrongUse where they don't fit those of the table."""
+    if isinstance(names, (str, bytes)) or not isinstance(names, collections.abc.Iterable):
+        raise WrongType(f"mmdb: columns are named by a list or tuple of names, not by {type(names).__name__}")
+    given = list(names)
+    for name in given:
+        if not isinstance(name, str) and not (takes_none and name is None):
+            raise WrongType(f"mmdb: the name of a column is a str, not {type(name).__name__}")
+    known = [column.name for column in columns]
+    named = [name for name in given if name is not None]
+    for name in named:
+        if name not in known:
+            raise WrongUse(f"mmdb: {name} is no column of {table}")
+        if named.count(name) > 1:
+            raise WrongUse(f"mmdb: the column {name} is named twice")
+    for column in columns:
+        if column.name not in named and not column.takes_null:
+            raise WrongUse(f"mmdb: {table} has no row without a value for {column.name}, which isn't named")
+    return given
+
+
+def by_order(table: str, columns: List[Column], names: Optional[Sequence[Optional[str]]]) -> Arrange:
+    """How rows are arranged whose values are in the order of these names, or of the columns."""
+    if names is None or not columns:
+        return rows_of
+    given = checked_names(table, columns, names, takes_none=True)
+    # (a value that isn't given is the null behind the row)
+    places = [given.index(column.name) if column.name in given else len(given) for column in columns]
+    arranged = operator.itemgetter(*places, 0)
+
+    def arrange(rows: List[Any], before: int) -> List[Tuple[Any, ...]]:
+        taken = rows_of(rows, before)
+        for number, row in enumerate(taken, before + 1):
+            if len(row) != len(given):
+                raise WrongUse(f"mmdb: row {number} has {len(row)} values for {len(given)} columns")
+        return [arranged((*row, None))[:-1] for row in taken]
+
+    return arrange
+
+
+def by_name(table: str, columns: List[Column], names: Optional[Sequence[str]]) -> Arrange:
+    """How dicts are arranged, of which these names are taken, or those of all columns, which are all that they have."""
+    known = [column.name for column in columns]
+    wanted = checked_names(table, columns, names) if names is not None and columns else known
+    nulls = dict.fromkeys(known)
+    all_names = set(known)
+
+    def has_them(given: Mapping[str, Any]) -> bool:
+        return given.keys() == all_names if names is None else all(name in given for name in wanted)
+
+    def arrange(dicts: List[Any], before: int) -> List[Tuple[Any, ...]]:
+        rows = []
+        for number, given in enumerate(dicts, before + 1):
+            if type(given) is not dict and not isinstance(given, collections.abc.Mapping):
+                raise WrongType(f"mmdb: a row is a dict, not {type(given).__name__} (row {number}); load takes others")
+            if not has_them(given):
+                raise WrongUse(f"mmdb: {_misfit(wanted, given)} of {table} (row {number})")
+            if len(wanted) < len(known):
+                given = {**nulls, **{name: given[name] for name in wanted}}
+            rows.append(tuple([given[name] for name in known]))
+        return rows
+
+    return arrange
+
+
+def _misfit(names: Sequence[Any], given: Mapping[str, Any]) -> str:
+    """Why a dict is no row of these columns."""
+    lacking = [name for name in names if name not in given]
+    if lacking:
+        return f"a row lacks the column {', '.join(lacking)}"
+    return f"a row has {', '.join(str(name) for name in given if name not in names)}, which is no column"
+
+
+# ---- blocks
+
+
+def header_of(columns: Iterable[Column]) -> str:
+    """The names of columns, as the first record of a block has them."""
+    return ",".join(column.name for column in columns)
+
+
+def blocks_of_rows(columns: List[Column], arrange: Arrange, chunks: Iterable[List[Any]], limit: int) -> Iterator[bytes]:
+    """The blocks of a load of these rows, each of at most so many bytes. Without columns there is no table, as the library
+    says of an empty one."""
+    if not columns:
+        return iter([b""])
+
+    def records() -> Iterator[List[str]]:
+        before = 0
+        for rows in chunks:
+            yield records_of(columns, arrange(rows, before), before)
+            before += len(rows)
+
+    return blocks(encoded(header_of(columns)), records(), limit, encoded)
+
+
+def chunked(given: List[Any], rows: Iterator[Any]) -> Iterator[List[Any]]:
+    """Some rows, and all further ones, in lists."""
+    while given:
+        yield given
+        given = list(itertools.islice(rows, CHUNK))
+
+
+def blocks(header: bytes, chunks: Iterable[List[str]], limit: int, encode: Callable[[str], bytes]) -> Iterator[bytes]:
+    """These records in blocks of at most so many bytes. One that has no room in any has a block of its own."""
+    pieces, size = [header], len(header)
+    for records in filter(None, chunks):
+        content = encode("\n".join(records))
+        # (mostly a chunk has room, and is one piece)
+        for piece in [content] if size + 1 + len(content) <= limit else map(encode, records):
+            if size + 1 + len(piece) > limit and len(pieces) > 1:
+                yield b"\n".join(pieces)
+                pieces, size = [header], len(header)
+            pieces.append(piece)
+            size += 1 + len(piece)
+    yield b"\n".join(pieces)
+
+
+def in_whole(why: Refused, before: int) -> Refused:
+    """A refusal of a block, told of a load in which so many records are before it."""
+    if not before:
+        return why
+
+    def moved(found: re.Match[str]) -> str:
+        return _DIGITS.sub(lambda number: str(before + int(number[0])), found[0])
+
+    reason = why.reason
+    if reason:
+        reason = _OF_ANOTHER_RECORD.sub(moved, _KEY_IN_TABLE.sub(r"\1 or an earlier record has the key ", reason))
+    return type(why)(why.number, _OF_A_RECORD.sub(moved, why.text), why.line, reason, why.written)
