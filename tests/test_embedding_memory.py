@@ -64,6 +64,17 @@ class Statements(unittest.TestCase):
         self.check_in_rust("loads_refused")
 
 
+class Readers(unittest.TestCase):
+    """All memory comes back of handles that share tables in threads, in whichever order they are closed."""
+
+    def test_in_python(self):
+        how = {**os.environ, "MMDB_LIBRARY": str(ROOM.path), "PYTHONPATH": str(BINDING)}
+        ended = compiling.ran([sys.executable, compiling.PROGRAMS / "readers.py"], env=how)
+        count = compiling.COUNT.fullmatch(ended.err)
+        self.assertIsNotNone(count, ended.err.decode(errors="replace"))
+        self.assertEqual((ended.status, ended.out, count[1], count[3]), (0, b"", count[2], b"0"))
+
+
 class Examples(unittest.TestCase):
     """Each writes what it shall, or ends for want of memory."""
 

@@ -51,11 +51,7 @@ class Whole(Loads):
             self.assertEqual([row.id for row in db.select("select id from t")], [*range(MANY)])
             block = "id,s\n" + "".join(f"{number},{LONG}\n" for number in range(MANY, 2 * MANY))
             self.assertGreater(len(block), mmdb.MOST)
-            db.begin()
-            self.assertEqual(db.load_csv("t", block), MANY)
-            self.assertEqual(db.select("select id from t where id >= ?", MANY).column("id"), [*range(MANY, 2 * MANY)])
-            db.rollback()
-            why = self.refused(41, db.load_csv, "t", f"{block}7,y\n".splitlines(True))
+            why = self.refused(41, db.load_csv, "t", io.StringIO(f"{block}7,y\n"))
             self.assertEqual((why.text, why.reason), (f"key exists (record {MANY + 1})", "t or an earlier record has the key 7"))
             self.assertEqual(len(db.select("select id from t")), MANY)
 
@@ -188,7 +184,7 @@ class Whole(Loads):
             lambda db, rows: db.load_csv("t", lines("id,s\n", rows, "{},{}\n")),
             lambda db, rows: db.load_csv("t", lines("s,id\n", rows, "{1},{0}\n"), columns=("id", "s")),
         ):
-            few, many = (self.peak_of(load, count) for count in (3_000, 9_000))
+            few, many = (self.peak_of(load, count) for count in (2_500, 6_000))
             self.assertLess(many, few * 1.3)
 
     def peak_of(self, load, count):

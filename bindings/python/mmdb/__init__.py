@@ -12,7 +12,7 @@ beside it, else from where the system keeps libraries.
 """
 
 from .conversions import Adapter, Converter, register_adapter, register_converter
-from .database import MOST, POLICIES, Database, Parameters
+from .database import MOST, POLICIES, Database, Parameters, Reader
 from .dbapi import (
     BINARY,
     DATETIME,
@@ -88,6 +88,7 @@ __all__ = [
     "OperationalError",
     "Parameters",
     "ProgrammingError",
+    "Reader",
     "Refused",
     "Row",
     "Rows",

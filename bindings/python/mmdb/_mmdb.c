@@ -398,7 +398,7 @@ static PyObject *handle_reason(PyObject *self, PyObject *given)
     return PyUnicode_DecodeUTF8((const char *)words.at, (Py_ssize_t)words.length, "strict");
 }
 
-/* Begins or ends a transaction, by one of the calls of the library. */
+/* Takes a step with a handle, by one of the calls of the library. */
 static PyObject *stepped(PyObject *self, mmdb_status (*step)(mmdb *))
 {
     Handle *handle = (Handle *)self;
@@ -427,6 +427,27 @@ static PyObject *handle_rollback(PyObject *self, PyObject *Py_UNUSED(none))
     /* (rows that come back may make a statement last that was quick) */
     ((Handle *)self)->commands++;
     return stepped(self, mmdb_rollback);
+}
+
+static PyObject *handle_leave(PyObject *self, PyObject *Py_UNUSED(none))
+{
+    return stepped(self, mmdb_leave);
+}
+
+static PyObject *handle_share(PyObject *self, PyObject *given)
+{
+    Handle *handle = (Handle *)self;
+    PyObject *reader;
+    uint32_t status;
+    if (!PyArg_ParseTuple(given, "O!", handle_type, &reader))
+        return NULL;
+    Py_BEGIN_ALLOW_THREADS
+    status = mmdb_share(&handle->db, &((Handle *)reader)->db);
+    Py_END_ALLOW_THREADS
+    if (status == MMDB_DONE)
+        return none();
+    handle_failed(handle, status);
+    return NULL;
 }
 
 static PyObject *handle_transactions(PyObject *self, PyObject *Py_UNUSED(none))
@@ -464,6 +485,8 @@ static PyMethodDef handle_methods[] = {
     { "_rollback", handle_rollback, METH_NOARGS,
       "Ends the innermost transaction, and restores the tables that it began with." },
     { "_transactions", handle_transactions, METH_NOARGS, "How many transactions are open." },
+    { "_share", handle_share, METH_VARARGS, "Has another handle share the tables, in the place of its own." },
+    { "_leave", handle_leave, METH_NOARGS, "Leaves the tables, and has none then." },
     { "_forget", handle_forget, METH_NOARGS, "Forgets what is known of the columns of statements." },
     { NULL, NULL, 0, NULL },
 };

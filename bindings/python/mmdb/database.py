@@ -333,10 +333,15 @@ class Database(Handle):
             self._converters.pop(column, None)
         else:
             self._converters[column] = converter_of(to)
-        # (it stands in the place of the method, so that it costs nothing where no column is converted)
-        setattr(self, "_shaped", functools.partial(_shape_with, dict(self._converters)))
+        self._read_by(self._converters)
         with self._turn:
             self._forget()
+
+    def _read_by(self, converters: Dict[str, Converter]) -> None:
+        """Has columns read by these from now on."""
+        self._converters = dict(converters)
+        # (it stands in the place of the method, so that it costs nothing where no column is converted)
+        setattr(self, "_shaped", functools.partial(_shape_with, dict(converters)))
 
     def dump(self, table: str) -> Rows:
         """All rows of a table by rising keys, with the bare names of its columns.
@@ -344,10 +349,7 @@ class Database(Handle):
         They are no block, whose bytes are limited. Raises `Refused` if there is no such table.
         """
         with self._turn:
-            columns = self._columns(table)
-            if not columns:
-                # (the library says what is wrong, or that the name has blanks around it)
-                table = self._accepted(encoded(f"dump {table}")).decode().split(" ", 2)[1]
+            table = self._named(table)
         line = f"select * from {table}"
         rows: Rows = self._done(line, placed(line), ())
         rows.names = tuple(name.rpartition(".")[2] for name in rows.names)
@@ -358,13 +360,25 @@ class Database(Handle):
 
         Raises `Refused` if there is no such table; its line is the name.
         """
-        name = encoded(table)
         with self._turn:
-            answer = self._indexes(name)
-            if answer.startswith(b"error "):
-                # (a dump is refused for the same reason)
-                raise refusal_of(answer, name, self._reason(b"dump " + name, b""))
-            return indexes_of(answer.decode())
+            return self._indexes_of(table)
+
+    def reader(self) -> Reader:
+        """A reader of these tables, for a thread that reads while others do.
+
+        While there is one, a change of the tables raises `Shared`. Raises `InTransaction` if a transaction is open.
+        """
+        return Reader(self)
+
+    def share(self, reader: Reader) -> None:
+        """Has a reader that has left its tables share these. Its statements stay. Raises what `reader` raises."""
+        if not isinstance(reader, Reader):
+            raise WrongType(f"mmdb: a reader shares tables, not a {type(reader).__name__}")
+        with self._turn, reader._turn:
+            if reader.closed:
+                raise WrongUse("mmdb: the reader is closed")
+            self._share(reader)
+            reader._forget_columns()
 
     def answer(self, line: Union[str, bytes], block: Optional[bytes] = None) -> bytes:
         """The bytes that the library answers to a line, refusals too. They are empty for comments and blank lines.
@@ -473,6 +487,30 @@ class Database(Handle):
         """Loads a block. It is empty for a missing table, and the library says what is wrong."""
         return self._counted(encoded(f"load {table} {len(block)}"), block)
 
+    def _named(self, table: str) -> str:
+        """The name of a table that is there, without blanks around it. The library says what is wrong with another."""
+        try:
+            if self._columns(table):
+                return table
+            return self._accepted(encoded(f"dump {table}")).decode().split(" ", 2)[1]
+        except Shared:
+            # (no line is answered while tables are shared)
+            return self._named_by_indexes(table)
+
+    def _named_by_indexes(self, table: str) -> str:
+        name = table.strip(" \t")
+        self._indexes_of(name)
+        return name
+
+    def _indexes_of(self, table: str) -> List[Index]:
+        """The state of the indexes of a table."""
+        name = encoded(table)
+        answer = self._indexes(name)
+        if answer.startswith(b"error "):
+            # (a dump is refused for the same reason)
+            raise refusal_of(answer, name, self._reason(b"dump " + name, b""))
+        return indexes_of(answer.decode())
+
     def _forget_columns(self) -> None:
         """Forgets what is known of the columns, which may have been declared anew."""
         self._declared = None
@@ -483,6 +521,53 @@ class Database(Handle):
         if self._declared is None:
             self._declared = columns_of(self._accepted(b"tables").decode())
         return self._declared.get(table, [])
+
+
+class Reader(Database):
+    """A handle that shares the tables of a database, for selects in another thread at the same time.
+
+    `Database.reader` makes one. It has the calls of a database, but changes nothing and answers no lines: these raise
+    `Shared`. It reads columns as that database did when it was made. Used as a context manager, it is closed at the end.
+    """
+
+    def __init__(self, database: Database) -> None:
+        super().__init__()
+        if database._converters:
+            self._read_by(database._converters)
+        try:
+            database.share(self)
+        except BaseException:
+            self.close()
+            raise
+
+    def __enter__(self) -> Reader:
+        return self
+
+    def leave(self) -> None:
+        """Leaves the tables, so that they can be changed once all readers have. It has none until it shares some again.
+
+        Its rows and its statements stay. A call of it that is under way is waited for.
+        """
+        with self._turn:
+            self._leave()
+            self._forget_columns()
+
+    def reader(self) -> NoReturn:
+        """Raises ValueError: readers are made by the database."""
+        raise WrongUse("mmdb: a reader has no readers: its database has")
+
+    def share(self, reader: Reader) -> NoReturn:
+        """Raises ValueError: readers share the tables of a database."""
+        raise WrongUse("mmdb: a reader has no readers: its database has")
+
+    def _command(self, line: bytes) -> bytes:
+        self._failed(_NOT_OPEN if self.closed else _SHARED)
+
+    def _load(self, line: bytes, block: bytes) -> bytes:
+        self._failed(_NOT_OPEN if self.closed else _SHARED)
+
+    def _named(self, table: str) -> str:
+        return self._named_by_indexes(table)
 
 
 def _shape_with(converters: Dict[str, Converter], names: Tuple[str, ...], kinds: Tuple[int, ...]) -> Shape:

@@ -125,6 +125,8 @@ _BEGIN = _call(_LIBRARY, "mmdb_begin", _NUMBER, _ADDRESS)
 _COMMIT = _call(_LIBRARY, "mmdb_commit", _NUMBER, _ADDRESS)
 _ROLLBACK = _call(_LIBRARY, "mmdb_rollback", _NUMBER, _ADDRESS)
 _TRANSACTIONS = _call(_LIBRARY, "mmdb_transactions", _SIZE, _ADDRESS)
+_SHARE = _call(_LIBRARY, "mmdb_share", _NUMBER, _ADDRESS, _ADDRESS)
+_LEAVE = _call(_LIBRARY, "mmdb_leave", _NUMBER, _ADDRESS)
 _CLOSE = _call(_LIBRARY, "mmdb_close", None, _ADDRESS)
 _PREPARE = _call(_LIBRARY, "mmdb_prepare", _NUMBER, _ADDRESS, _ADDRESS, _SIZE, _ADDRESS)
 _BIND_INTEGER = _call(_LIBRARY, "mmdb_bind_integer", _NUMBER, _ADDRESS, _NUMBER, _NUMBER, ctypes.c_int64)
@@ -314,6 +316,14 @@ class Handle:
         """How many transactions are open."""
         count: int = _TRANSACTIONS(self._at)
         return count
+
+    def _share(self, reader: Handle) -> None:
+        """Has another handle share the tables, in the place of its own. It wants the turns of both."""
+        self._check(_SHARE(self._at, reader._at))
+
+    def _leave(self) -> None:
+        """Leaves the tables, and has none then."""
+        self._check(_LEAVE(self._at))
 
     def _check(self, status: int) -> None:
         """Raises what a status says, unless the call was done."""

@@ -24,6 +24,12 @@ with mmdb.Database() as database:
         names: Tuple[str, ...] = statement.names
         first: mmdb.Row = statement.execute(1)[0]
         print(count, names, first.name, first[0], {first: 1}, hired(database, datetime.date(2027, 1, 1)))
+    with database.transaction():
+        count += database.load("emp", iter([(100, "Di", "2026-01-04", 4)]), ("pay", "name", "hired", "id"))
+    with database.reader() as reader:
+        found: mmdb.Rows = reader.select("select name from emp where id > ?", 1)
+        reader.leave()
+        database.share(reader)
     for name, group in database.dump("emp").group("name").items():
         print(name, group.sum("pay"), group.column("id"), group.names)
     mmdb.register_adapter(complex, str)
