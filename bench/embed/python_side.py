@@ -37,6 +37,7 @@ def ours(db):
         "range": lambda least, most: execute("select * from t where id >= ? and id < ?", least, most),
         "put in": lambda rows: db.executemany(insert, rows),
         "take out": lambda rows: db.executemany(delete, rows),
+        "load": lambda dicts: db.load_dicts("t", dicts),
     }
 
 
@@ -58,6 +59,7 @@ def theirs(text, kept):
         "range": lambda least, most: execute("select * from t where id >= ? and id < ?", (least, most)).fetchall(),
         "put in": lambda rows: in_one_transaction(kept, insert, rows),
         "take out": lambda rows: in_one_transaction(kept, delete, rows),
+        "load": lambda dicts: in_one_transaction(kept, "insert into t values (:id, :n, :s)", dicts),
     }
     return {**{(kind, "prepared"): found[kind, "parameters"] for kind in KINDS}, **found}
 
@@ -118,12 +120,12 @@ class Comparison:
             side["range"](least, least + 2 * RANGE)
         return (took + time.process_time_ns()) / 1e9 / len(begins)
 
-    def seconds_of_many(self, side):
-        """The seconds of a row where many are put in by one call."""
+    def seconds_of_many(self, side, call="put in"):
+        """The seconds of a row where many are put in by one call: of a list of tuples, or by a load of an iterator of dicts."""
         keys = [2 * key + 1 for key in self.draw.sample(range(max(self.rows, MANY)), MANY)]
         rows = [(key, key, "abcdefgh") for key in keys]
         took = -time.process_time_ns()
-        side["put in"](rows)
+        side[call](rows if call == "put in" else ({"id": id, "n": n, "s": s} for id, n, s in rows))
         took += time.process_time_ns()
         side["take out"]([(key,) for key in keys])
         return took / 1e9 / MANY
@@ -140,6 +142,7 @@ class Comparison:
         if self.rows >= RANGE:
             self.best(f"select {RANGE:,} rows", "parameters", self.seconds_of_a_range)
         self.best("insert of many", "a row", self.seconds_of_many)
+        self.best("load of dicts", "a row", lambda side: self.seconds_of_many(side, "load"))
         self.db.close()
         for connection in self.connections:
             connection.close()

@@ -74,10 +74,13 @@ def by_order(table: str, columns: List[Column], names: Optional[Sequence[Optiona
 
 def by_name(table: str, columns: List[Column], names: Optional[Sequence[str]]) -> Arrange:
     """How dicts are arranged, of which these names are taken, or those of all columns, which are all that they have."""
+    if not columns:
+        return rows_of
     known = [column.name for column in columns]
-    wanted = checked_names(table, columns, names) if names is not None and columns else known
-    nulls = dict.fromkeys(known)
-    all_names = set(known)
+    wanted = known if names is None else checked_names(table, columns, names)
+    nulls, all_names = dict.fromkeys(known), set(known)
+    # (with one more it gives a tuple of a single column too)
+    values = operator.itemgetter(*known, known[0])
 
     def has_them(given: Mapping[str, Any]) -> bool:
         return given.keys() == all_names if names is None else all(name in given for name in wanted)
@@ -91,7 +94,7 @@ def by_name(table: str, columns: List[Column], names: Optional[Sequence[str]]) -
                 raise WrongUse(f"mmdb: {_misfit(wanted, given)} of {table} (row {number})")
             if len(wanted) < len(known):
                 given = {**nulls, **{name: given[name] for name in wanted}}
-            rows.append(tuple([given[name] for name in known]))
+            rows.append(values(given)[:-1])
         return rows
 
     return arrange
