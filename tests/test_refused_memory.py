@@ -44,12 +44,13 @@ TESTED = re.compile(r"(?:[=!]= |matches!.*)$")
 CONVERTS = re.compile(r"^impl\b.*\bFrom<(?:NoMemory|AllocError|AllocFailed<T>)> for\b")
 
 # How many variants a file gives that are made of no other: of a call that a growth alone can be refused to, or of what another library says
-# of a growth. execute.rt of mm_session refuses so what is not done in a transaction. answered.rt and blocks.rt of language_tests name one
-# beside others.
+# of a growth. execute.rt of mm_session refuses so what is not done in a transaction, and hiding.rt of mm_catalog where too many rows are
+# owed. answered.rt and blocks.rt of language_tests name one beside others.
 PASSED_ON = {
     "language_tests/src/blocks.rt": 1,
     "mm_batch/src/fault.rt": 1,
     "mm_batch/src/watched.rt": 3,
+    "mm_catalog/src/hiding.rt": 1,
     "mm_csv/src/rows.rt": 1,
     "mm_lang/src/stops.rt": 1,
     "mm_reason/src/answered.rt": 1,

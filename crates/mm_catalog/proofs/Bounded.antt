@@ -26,7 +26,7 @@ length-flat_map f most (x ∷ xs) few =
     let rest = length-flat_map f most xs (λ k d l. few (suc k) d (omega arith)) in
     omega (arith, rest, few 0 x (omega arith), length-append (f x) (flat_map f xs))
 
-length-row_links : (targets : List (Option ℕ)) (row : Row) → length (row_links targets row) ≤ length targets
+pub length-row_links : (targets : List (Option ℕ)) (row : Row) → length (row_links targets row) ≤ length targets
 unfolding row_links
 length-row_links targets row =
     omega (arith, length-filter_map_within (link_at targets row) (range_with_len 0 (length targets)), length-range_with_len 0 (length targets))

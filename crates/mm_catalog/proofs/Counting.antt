@@ -13,9 +13,9 @@ use Rattle.part_raw.proofs.Tuples.{get-insert_same}
 use Rattle.part_raw.specs.declared.tuple_ref.TupleRef.{TupleRef}
 use Rattle.mm_index.specs.Order.{insert_placed}
 use Rattle.mm_relation.specs.Rows.{Row}
-use Rattle.mm_relation.specs.Changes.{IsInserted}
 use Rattle.mm_relation.specs.State.{tree_list, RelationState, IsKept, HasKey}
 use Rattle.mm_relation.proofs.KeyOrder.{same_elsewhere}
+use Rattle.mm_catalog.specs.Hidden.{IsMore}
 use Rattle.mm_catalog.specs.Linked.{Linked, row_links, relation_links}
 use Rattle.mm_catalog.proofs.Keyed.{place_beside, none_equal, keys_inserted}
 
@@ -59,7 +59,7 @@ one_side Less h = refl
 one_side Equal h = absurd (h refl)
 one_side Greater h = refl
 
-module _ (old new : RelationState) (kept : IsKept old) (now : IsKept new) (r : TupleRef) (row : Row) (inserted : IsInserted old new r row) (absent : HasKey old.rows row.key → ⊥) (test : Linked → Bool) where
+module _ (old new : RelationState) (kept : IsKept old) (now : IsKept new) (r : TupleRef) (row : Row) (inserted : IsMore old new r row) (absent : HasKey old.rows row.key → ⊥) (test : Linked → Bool) where
   abbrev before : TupleRef → List Linked
   before q = option_map_or (row_links old.targets) (get old.rows q) []
 

@@ -17,7 +17,6 @@ use Rattle.plain_tables.specs.References.{IsSound}
 use Rattle.plain_tables.specs.declared.schema.Schema.{Schema}
 use Rattle.plain_tables.specs.declared.value.Value.{Value}
 use Rattle.mm_relation.specs.Agreement.{stays_current, reads_alike}
-use Rattle.mm_relation.specs.Changes.{KeepsSchema}
 use Rattle.mm_relation.specs.Rows.{Row, referrers_at}
 use Rattle.mm_relation.specs.Reading.{Keys, AgreeOnLinks, key_at, link_in, row_value}
 use Rattle.mm_relation.specs.State.{tree_list, RelationState, IsKept, IsCurrent, linked_keys}
@@ -26,7 +25,7 @@ use Rattle.mm_catalog.specs.Seen.{database_of, table_of, rows_of, values_of, row
 use Rattle.mm_catalog.specs.Linked.{target_of, target_at, relation_links, links, is_link_to, links_to, HasLinksOrNulls}
 use Rattle.mm_catalog.specs.Consistent.{IsAmong, IsConsistent, AreCounted}
 use Rattle.mm_catalog.specs.Changes.{IsCurrentAt}
-use Rattle.mm_catalog.specs.Recounted.{IsRecounted, AreRecounted, HaveReferrers, IsRewritten}
+use Rattle.mm_catalog.specs.Recounted.{IsRecounted, AreRecounted, HaveReferrers, IsRewritten, KeepsColumns}
 use Rattle.mm_catalog.proofs.Lists.{get-take, flat_map_alike, map-zip-all}
 use Rattle.mm_catalog.proofs.Outlines.{LeadBack, keys_before}
 use Rattle.mm_catalog.proofs.Back.{lead_back}
@@ -57,7 +56,7 @@ length-joined before xs n a e l =
     omega (arith, e, l, both, rest, behind)
 
 -- the relations before one, recounted; that one, another; and those behind it
-pub rewritten_from : (old before : List RelationState) (n : ℕ) (b a : RelationState) → slice_get old n ≡ Some b → AreRecounted (take n old) before → KeepsSchema b a → ((r : TupleRef) → IsSome (get b.rows r) → 0 < referrers_at b.referrers r → key_at a.rows r ≡ key_at b.rows r) → IsRewritten old (before ++ set (drop n old) 0 a) n b a
+pub rewritten_from : (old before : List RelationState) (n : ℕ) (b a : RelationState) → slice_get old n ≡ Some b → AreRecounted (take n old) before → KeepsColumns b a → ((r : TupleRef) → IsSome (get b.rows r) → 0 < referrers_at b.referrers r → key_at a.rows r ≡ key_at b.rows r) → IsRewritten old (before ++ set (drop n old) 0 a) n b a
 rewritten_from old before n b a there counts keeps keys =
     let within = slice_get_within old n b there in
     let front : length before ≡ n = let taken = length-take n old in omega (arith, within, counts.count, taken) in

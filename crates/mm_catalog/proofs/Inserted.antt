@@ -45,6 +45,7 @@ use Rattle.mm_catalog.proofs.Outlines.{keys_before}
 use Rattle.mm_catalog.proofs.Back.{lead_back}
 use Rattle.mm_catalog.proofs.Among.{among_at, named_at, table_at, some_columns}
 use Rattle.mm_catalog.proofs.Counting.{links_inserted}
+use Rattle.mm_catalog.proofs.Kept.{columns_kept, row_more}
 use Rattle.mm_catalog.proofs.Shown.{rows_inserted}
 use Rattle.mm_catalog.proofs.LinksHeld.{link_held}
 use Rattle.mm_catalog.proofs.Elsewhere.{rewritten_from, kept_from, database_rewritten, consistent_rewritten, current_beside_old, counted_from}
@@ -138,7 +139,7 @@ module _ (c : CatalogState) (ok : IsConsistent c) (n : TableNumber) (key : Value
 
   rewritten : IsRewritten c.relations new n.0 b a
   rewritten =
-      rewritten_from c.relations front n.0 b a there taken.counted.recounted taken.inserted.keeps
+      rewritten_from c.relations front n.0 b a there taken.counted.recounted (columns_kept b a taken.inserted.keeps)
       (λ r held some. ap (option_and_then (λ (v : Row). Some v.key)) (other_rows r (not_new r held)))
 
   keys_here : linked_keys b.targets (take n.0 c.relations) ≡ linked_keys b.targets c.relations
@@ -192,7 +193,7 @@ module _ (c : CatalogState) (ok : IsConsistent c) (n : TableNumber) (key : Value
 
   counts : (table : ℕ) (r : TupleRef) → table < n.0 → count table r + count_by (is_link_to table r) (relation_links b) ≡ links_to c.relations table r + count_by (is_link_to table r) (relation_links a)
   counts table r below =
-      omega (arith, links_inserted b a (among_at c ok n.0 b there).kept taken.kept q t taken.inserted fresh (is_link_to table r))
+      omega (arith, links_inserted b a (among_at c ok n.0 b there).kept taken.kept q t (row_more b a q t taken.inserted) fresh (is_link_to table r))
 
   own : (r : TupleRef) → IsSome (get a.rows r) → referrers_at a.referrers r ≡ links_to c.relations n.0 r
   own r held = ap (λ (numbers : Tuples ℕ). referrers_at numbers r) taken.inserted.referrers ∙ elim (same_or_other r q) [

@@ -11,11 +11,12 @@ use Rattle.part_raw.specs.Store.{Tuples}
 use Rattle.mm_index.specs.Order.{insert_placed, remove_by}
 use Rattle.plain_tables.specs.Values.{value_cmp}
 use Rattle.mm_relation.specs.Rows.{Row}
-use Rattle.mm_relation.specs.Changes.{IsInserted, IsRemoved}
 use Rattle.mm_relation.specs.Order.{column_cmp, column_cmp_total}
 use Rattle.mm_relation.specs.Reading.{value_at}
 use Rattle.mm_relation.specs.State.{tree_list, RelationState, IsKept, IsKeyed, HasKey, no_keys}
 use Rattle.mm_relation.proofs.KeyOrder.{has_key, keyed_with, keyed_without}
+use Rattle.mm_catalog.specs.Deleted.{IsGone}
+use Rattle.mm_catalog.specs.Hidden.{IsMore}
 use Rattle.mm_catalog.proofs.Rising.{rising_same}
 
 pub keyed_unique : (rows : Tuples Row) (xs ys : List TupleRef) → IsKeyed rows xs → IsKeyed rows ys → xs ≡ ys
@@ -29,7 +30,7 @@ abbrev pub place_beside : Tuples Row → TupleRef → Row → TupleRef → Order
 place_beside rows r row q = option_cmp value_cmp (value_at no_keys 0 (insert rows r row) q) (Some row.key)
 
 module _ (old new : RelationState) (kept : IsKept old) (now : IsKept new) (r : TupleRef) where
-  module _ (row : Row) (inserted : IsInserted old new r row) (absent : HasKey old.rows row.key → ⊥) where
+  module _ (row : Row) (inserted : IsMore old new r row) (absent : HasKey old.rows row.key → ⊥) where
     pub none_equal : All (λ q. place_beside old.rows r row q ≢ Equal) (tree_list old.by_key)
     none_equal = λ k d l e. absent (has_key old.rows (tree_list old.by_key) r row kept.keyed inserted.free (get_or (tree_list old.by_key) k d) (All-contains_itself (tree_list old.by_key) k d l) e)
 
@@ -41,7 +42,7 @@ module _ (old new : RelationState) (kept : IsKept old) (now : IsKept new) (r : T
         (keyed_with old.rows (tree_list old.by_key) r row kept.keyed inserted.free none_equal (insert_placed (place_beside old.rows r row) r (tree_list old.by_key)) refl)
 
   -- one that goes out is the only one to go
-  pub keys_removed : IsSome (get old.rows r) → IsRemoved old new r → (tree_list new.by_key) ≡ remove_by (column_cmp no_keys 0 old.rows) r (tree_list old.by_key)
+  pub keys_removed : IsSome (get old.rows r) → IsGone old new r → (tree_list new.by_key) ≡ remove_by (column_cmp no_keys 0 old.rows) r (tree_list old.by_key)
   keys_removed held removed =
       keyed_unique (remove old.rows r) (tree_list new.by_key) (remove_by (column_cmp no_keys 0 old.rows) r (tree_list old.by_key))
       (subst (λ rows. IsKeyed rows (tree_list new.by_key)) removed.rows now.keyed)

@@ -11,6 +11,7 @@ pub mod Created
 pub mod Gaining
 pub mod Aimed
 pub mod Rising
+pub mod Kept
 pub mod Keyed
 pub mod Shown
 pub mod Counting
@@ -47,6 +48,11 @@ pub mod Loaded
 pub mod TakenBack
 pub mod Outlined
 pub mod Unnamed
+pub mod HiddenRows
+pub mod HideSteps
+pub mod Owing
+pub mod ShownAgain
+pub mod HideDone
 pub mod LoadSteps
 pub mod NamedTables
 pub mod UpdateNeeds

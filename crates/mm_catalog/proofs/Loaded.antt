@@ -14,15 +14,16 @@ use Rattle.part_raw.specs.declared.tuple_ref.TupleRef.{TupleRef}
 use Rattle.part_raw.proofs.Tuples.{get-insert_same, get-insert_other}
 use Rattle.plain_tables.specs.declared.value.Value.{Value}
 use Rattle.mm_relation.specs.Rows.{Row, referrers_at}
-use Rattle.mm_relation.specs.Changes.{KeepsSchema, new_row}
+use Rattle.mm_relation.specs.Changes.{new_row}
 use Rattle.mm_relation.specs.Reading.{key_at}
 use Rattle.mm_relation.specs.State.{RelationState}
 use Rattle.mm_catalog.specs.State.{CatalogState}
 use Rattle.mm_catalog.specs.Deleted.{IsFree}
 use Rattle.mm_catalog.specs.Loaded.{HasCome, HasMore}
-use Rattle.mm_catalog.specs.Recounted.{IsRewritten}
+use Rattle.mm_catalog.specs.Recounted.{IsRewritten, KeepsColumns, KeepsAside}
 use Rattle.mm_catalog.proofs.Elsewhere.{rewritten_from}
 use Rattle.mm_catalog.proofs.Counted.{AreRecounted-refl, IsRecounted-trans}
+use Rattle.mm_catalog.proofs.Kept.{columns_kept, aside_kept}
 
 -- ---- one relation is another one, twice
 
@@ -39,8 +40,6 @@ rewritten_then old mid new n b m a h l keys = record {
     targets = l.keeps.targets ∙ h.keeps.targets;
     declared = l.keeps.declared ∙ h.keeps.declared;
     counted = l.keeps.counted ∙ h.keeps.counted;
-    hidden = l.keeps.hidden ∙ h.keeps.hidden;
-    owed = l.keeps.owed ∙ h.keeps.owed;
   };
   keys = λ r held some. keys r held;
 }
@@ -56,9 +55,10 @@ more_none c n s there = record {
     here = there;
     count = refl;
     others = λ k t u other at now. (AreRecounted-refl c.relations).each k t u at now;
-    keeps = record { schema = refl; targets = refl; declared = refl; counted = refl; hidden = refl; owed = refl };
+    keeps = record { schema = refl; targets = refl; declared = refl; counted = refl };
     keys = λ r held some. refl;
   };
+  aside = record { hidden = refl; owed = refl };
   same = refl;
   held = λ k d l. absurd (omega arith);
   free = λ k d l. absurd (omega arith);
@@ -89,8 +89,11 @@ module _ (c d e : CatalogState) (n : ℕ) (values : List Value) (refs : List Tup
   rows_now : a.rows ≡ insert m.rows r row
   rows_now = come.inserted.taken.inserted.rows ∙ ap (λ (s : RelationState). insert s.rows r row) this
 
-  keeps : KeepsSchema m a
-  keeps = subst (λ s. KeepsSchema s a) this come.inserted.taken.inserted.keeps
+  keeps : KeepsColumns m a
+  keeps = subst (λ s. KeepsColumns s a) this (columns_kept come.inserted.before a come.inserted.taken.inserted.keeps)
+
+  aside : KeepsAside m a
+  aside = subst (λ s. KeepsAside s a) this (aside_kept come.inserted.before a come.inserted.taken.inserted.keeps)
 
   stays : (q : TupleRef) → q ≢ r → get a.rows q ≡ get m.rows q
   stays q other = ap (λ rows. get rows q) rows_now ∙ get-insert_other m.rows r q row other
@@ -126,6 +129,7 @@ module _ (c d e : CatalogState) (n : ℕ) (values : List Value) (refs : List Tup
     before = b;
     after = a;
     rewritten = rewritten_then c.relations d.relations e.relations n b m a h.rewritten step (λ q held. ap (option_and_then (λ (u : Row). Some u.key)) (old_rows q held));
+    aside = record { hidden = aside.hidden ∙ h.aside.hidden; owed = aside.owed ∙ h.aside.owed };
     same = come.same ∙ ap (λ (x : CatalogState). record x { relations = e.relations }) h.same;
     held = All-push (λ q. IsSome (get a.rows q)) refs r
         (λ k d l. subst IsSome (sym (still (get_or refs k d) (h.held k d l))) (h.held k d l))

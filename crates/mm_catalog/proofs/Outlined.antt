@@ -16,14 +16,13 @@ use Rattle.part_raw.proofs.Refs.{ref_cmp_exact}
 use Rattle.part_raw.proofs.Tuples.{same_ref, same_ref_self, same_ref_true, same_tuples}
 use Rattle.plain_tables.specs.declared.refusal.Refusal.{Refusal}
 use Rattle.plain_tables.specs.declared.value.Value.{Value}
-use Rattle.mm_relation.specs.Changes.{KeepsSchema}
 use Rattle.mm_relation.specs.Rows.{Row, referrers_at}
 use Rattle.mm_relation.specs.State.{RelationState}
 use Rattle.mm_catalog.specs.State.{CatalogState}
-use Rattle.mm_catalog.specs.Deleted.{AreRemoved, IsFree}
+use Rattle.mm_catalog.specs.Deleted.{AllFree, AreDeleted, AreRemoved, IsFree}
 use Rattle.mm_catalog.specs.Loaded.{AreFreeRows, HasCome, HasMore, HaveGone}
 use Rattle.mm_catalog.specs.Outline.{HasRowsMore, RelationOutline, changed_at, is_among, outline_of, relation_outline, without, without_rows}
-use Rattle.mm_catalog.specs.Recounted.{IsRecounted, IsRewritten}
+use Rattle.mm_catalog.specs.Recounted.{IsRecounted, IsRewritten, KeepsColumns, KeepsAside}
 use Rattle.mm_catalog.proofs.Elsewhere.{rewritten_from}
 use Rattle.mm_catalog.proofs.Lists.{map_alike}
 use Rattle.mm_catalog.proofs.Loaded.{more_none, more_then}
@@ -38,7 +37,7 @@ among_contains refs q e =
 pub contains_among : (refs : List TupleRef) (q : TupleRef) → Contains refs q → is_among refs q ≡ true
 contains_among refs q there = list_any-from_Any (same_ref q) refs (there.0, q, there.1, there.2, same_ref_self q)
 
-none_among : (refs : List TupleRef) (q : TupleRef) → is_among refs q ≡ false → Contains refs q → ⊥
+pub none_among : (refs : List TupleRef) (q : TupleRef) → is_among refs q ≡ false → Contains refs q → ⊥
 none_among refs q e there = false≢true (sym e ∙ contains_among refs q there)
 
 get-without : (refs : List TupleRef) (rows : Tuples Row) (q : TupleRef) → get (without refs rows) q ≡ cond (not (is_among refs q)) (get rows q) None
@@ -58,6 +57,13 @@ gone_without refs rows q there =
     elim (is_among refs q) as (λ b. is_among refs q ≡ b → get (without refs rows) q ≡ None) [
       | true ↦ λ e. get-without refs rows q ∙ ap (λ b. cond (not b) (get rows q) None) e
       | false ↦ λ e. absurd (none_among refs q e there)
+    ] refl
+
+pub still_without : (refs : List TupleRef) (rows : Tuples Row) (q : TupleRef) → (Contains refs q → ⊥) → get (without refs rows) q ≡ get rows q
+still_without refs rows q other =
+    elim (is_among refs q) as (λ b. is_among refs q ≡ b → get (without refs rows) q ≡ get rows q) [
+      | true ↦ λ e. absurd (other (among_contains refs q e))
+      | false ↦ λ e. get-without refs rows q ∙ ap (λ b. cond (not b) (get rows q) None) e
     ] refl
 
 -- ---- one relation is another one
@@ -88,16 +94,34 @@ module _ (old new : List RelationState) (n : ℕ) (b a : RelationState) (h : IsR
   pub outline_here : slice_get (map relation_outline new) n ≡ Some (relation_outline a)
   outline_here = slice_get-map relation_outline new n ∙ ap (option_map relation_outline) h.here
 
+  module _ (f : RelationOutline → RelationOutline) where
+    -- one that leads back to the other
+    pub changed_back : f (relation_outline a) ≡ relation_outline b → changed_at f n (map relation_outline new) ≡ map relation_outline old
+    changed_back again =
+        changed_here f n (map relation_outline new) (relation_outline a) outline_here
+        ∙ ap (λ (os : List RelationOutline). set os n (f (relation_outline a))) outlines_rewritten
+        ∙ set-set (map relation_outline old) n (relation_outline a) (f (relation_outline a))
+        ∙ ap (set (map relation_outline old) n) again
+        ∙ set_itself (map relation_outline old) n (relation_outline b) outline_there
+
+    -- one to which the other leads
+    pub changed_forth : relation_outline a ≡ f (relation_outline b) → map relation_outline new ≡ changed_at f n (map relation_outline old)
+    changed_forth next =
+        outlines_rewritten ∙ ap (set (map relation_outline old) n) next
+        ∙ sym (changed_here f n (map relation_outline old) (relation_outline b) outline_there)
+
 abbrev rows_go : List TupleRef → RelationOutline → RelationOutline
 rows_go refs s = record s { rows = without refs s.rows }
 
 -- a relation over the same columns, of which just these rows are gone
-outline_without : (refs : List TupleRef) (b a : RelationState) → KeepsSchema b a → without refs b.rows ≡ a.rows → rows_go refs (relation_outline b) ≡ relation_outline a
-outline_without refs b a keeps rows =
+outline_without : (refs : List TupleRef) (b a : RelationState) → KeepsColumns b a → KeepsAside b a → without refs b.rows ≡ a.rows → rows_go refs (relation_outline b) ≡ relation_outline a
+outline_without refs b a keeps aside rows =
     let schema = sym keeps.schema in
     let targets = sym keeps.targets in
     let declared = sym keeps.declared in
-    λ i. record { schema = schema i; targets = targets i; declared = declared i; rows = rows i }
+    let hidden = sym aside.hidden in
+    let owed = sym aside.owed in
+    λ i. record { schema = schema i; targets = targets i; declared = declared i; rows = rows i; hidden = hidden i; owed = owed i }
 
 -- ---- rows that came
 
@@ -124,33 +148,35 @@ more_outlined c d n refs h = record {
           targets = sym h.rewritten.keeps.targets;
           declared = sym h.rewritten.keeps.declared;
           counted = sym h.rewritten.keeps.counted;
-          hidden = sym h.rewritten.keeps.hidden;
-          owed = sym h.rewritten.keeps.owed;
         })
+        (record { hidden = sym h.aside.hidden; owed = sym h.aside.owed })
         (without_is refs h.after.rows h.before.rows (λ q there. All-contains (λ p. get h.before.rows p ≡ None) refs q h.fresh there) (λ q no. sym (h.others q no)))
 
     relations : changed_at (rows_go refs) n (map relation_outline d.relations) ≡ map relation_outline c.relations
-    relations =
-        changed_here (rows_go refs) n (map relation_outline d.relations) (relation_outline h.after) here
-        ∙ ap (λ (os : List RelationOutline). set os n (rows_go refs (relation_outline h.after))) (outlines_rewritten c.relations d.relations n h.before h.after h.rewritten)
-        ∙ set-set (map relation_outline c.relations) n (relation_outline h.after) (rows_go refs (relation_outline h.after))
-        ∙ ap (set (map relation_outline c.relations) n) again
-        ∙ set_itself (map relation_outline c.relations) n (relation_outline h.before) (outline_there c.relations d.relations n h.before h.after h.rewritten)
+    relations = changed_back c.relations d.relations n h.before h.after h.rewritten (rows_go refs) again
 
 -- ---- rows that went
+
+-- free rows that go leave the keys of those that have referrers
+pub deleted_rewritten : (old new : List RelationState) (n : ℕ) (refs : List TupleRef) (h : AreDeleted old new n refs) → AllFree old n refs → IsRewritten old new n h.before h.after
+deleted_rewritten old new n refs h free =
+    subst (λ rs. IsRewritten old rs n h.before h.after) (sym h.list)
+    (rewritten_from old h.front n h.before h.after h.there h.unlinked.counted.recounted h.removed.keeps
+    (λ q held some. ap (option_and_then (λ (u : Row). Some u.key))
+    (h.removed.others q (λ there. let zero : referrers_at h.before.referrers q ≡ 0 = All-contains (IsFree h.before) refs q (free h.before h.there) there in absurd (omega (arith, zero, some))))))
 
 -- free rows that went are those by which the outline differs
 pub gone_outlined : (c d : CatalogState) (n : ℕ) (refs : List TupleRef) → HaveGone c d n refs → AreFreeRows c n refs → outline_of d ≡ without_rows n refs (outline_of c)
 gone_outlined c d n refs gone free = λ i. record { limits = limits i; names = names i; relations = relations i }
   where
     b : RelationState
-    b = gone.deleted.before
+    b = gone.out.deleted.before
 
     a : RelationState
-    a = gone.deleted.after
+    a = gone.out.deleted.after
 
     removed : AreRemoved b a refs
-    removed = gone.deleted.removed
+    removed = gone.out.deleted.removed
 
     limits : d.limits ≡ c.limits
     limits = ap (λ (x : CatalogState). x.limits) gone.same
@@ -158,21 +184,10 @@ gone_outlined c d n refs gone free = λ i. record { limits = limits i; names = n
     names : d.names ≡ c.names
     names = ap (λ (x : CatalogState). x.names) gone.same
 
-    rewritten : IsRewritten c.relations d.relations n b a
-    rewritten =
-        subst (λ rs. IsRewritten c.relations rs n b a) (sym gone.deleted.list)
-        (rewritten_from c.relations gone.deleted.front n b a gone.deleted.there gone.deleted.unlinked.counted.recounted removed.keeps
-        (λ q held some. ap (option_and_then (λ (u : Row). Some u.key))
-        (removed.others q (λ there. let zero : referrers_at b.referrers q ≡ 0 = All-contains (IsFree b) refs q (free b gone.deleted.there) there in absurd (omega (arith, zero, some))))))
-
-    there : slice_get (map relation_outline c.relations) n ≡ Some (relation_outline b)
-    there = outline_there c.relations d.relations n b a rewritten
-
     relations : map relation_outline d.relations ≡ changed_at (rows_go refs) n (map relation_outline c.relations)
     relations =
-        outlines_rewritten c.relations d.relations n b a rewritten
-        ∙ ap (set (map relation_outline c.relations) n) (sym (outline_without refs b a removed.keeps (without_is refs b.rows a.rows removed.gone removed.others)))
-        ∙ sym (changed_here (rows_go refs) n (map relation_outline c.relations) (relation_outline b) there)
+        changed_forth c.relations d.relations n b a (deleted_rewritten c.relations d.relations n refs gone.out.deleted free) (rows_go refs)
+        (sym (outline_without refs b a removed.keeps gone.out.aside (without_is refs b.rows a.rows removed.gone removed.others)))
 
 -- ---- a row that came
 

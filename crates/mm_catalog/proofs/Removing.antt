@@ -15,16 +15,15 @@ use Rattle.part_raw.proofs.Lookup.{same_or_other}
 use Rattle.part_raw.proofs.Tuples.{get-remove_same, get-remove_other, held_tuple}
 use Rattle.mm_index.proofs.Placed.{remove_by_member}
 use Rattle.mm_relation.specs.Rows.{Row, referrers_at}
-use Rattle.mm_relation.specs.Changes.{IsRemoved}
 use Rattle.mm_relation.specs.Order.{column_cmp, column_cmp_strict}
 use Rattle.mm_relation.specs.Reading.{key_at, row_value, value_at}
-use Rattle.mm_relation.specs.State.{tree_list, RelationState, IsKept, IsCurrent, linked_keys, no_keys}
+use Rattle.mm_relation.specs.State.{tree_list, RelationState, IsKept, IsCurrent, IsReadable, linked_keys, no_keys}
 use Rattle.mm_relation.proofs.KeyOrder.{key_readable}
 use Rattle.mm_relation.proofs.Setting.{not_before}
 use Rattle.mm_catalog.specs.Linked.{links, Linked, target_at, link_at, row_links, relation_links, is_link_to}
 use Rattle.mm_catalog.specs.Recounted.{AreRecounted}
 use Rattle.mm_catalog.specs.Counted.{IsHeldIn, HaveAtLeast, AreCountedBy, naming, none, LeadIntoCounted}
-use Rattle.mm_catalog.specs.Deleted.{AreRemoved, AreUnlinked}
+use Rattle.mm_catalog.specs.Deleted.{AreRemoved, AreUnlinked, IsGone}
 use Rattle.mm_catalog.proofs.Keyed.{keys_removed}
 use Rattle.mm_catalog.proofs.LinksHeld.{linked_value, target_within}
 use Rattle.mm_catalog.proofs.RowLinks.{All-filter_map, link_parts}
@@ -67,7 +66,7 @@ links_within test relations n s there =
     let it : count_by test (relation_links (get_or relations n s)) ≡ count_by test (relation_links s) = ap (λ t. count_by test (relation_links t)) (get_or_from_slice_get relations n s s there) in
     omega (arith, part, it, count_by-flat_map test relation_links relations)
 
-module _ (old new : RelationState) (kept : IsKept old) (now : IsKept new) (r : TupleRef) (row : Row) (at : get old.rows r ≡ Some row) (removed : IsRemoved old new r) (test : Linked → Bool) where
+module _ (old new : RelationState) (kept : IsKept old) (now : IsKept new) (r : TupleRef) (row : Row) (at : get old.rows r ≡ Some row) (removed : IsGone old new r) (test : Linked → Bool) where
   left : (k : ℕ) (d : TupleRef) → k < length (tree_list new.by_key) → get new.rows (get_or (tree_list new.by_key) k d) ≡ get old.rows (get_or (tree_list new.by_key) k d)
   left k d l =
       let q = get_or (tree_list new.by_key) k d in
@@ -108,10 +107,10 @@ AreRemoved-none s = record {
   gone = λ r h. absurd (omega (arith, h.1));
   others = λ r h. refl;
   counts = λ r h. refl;
-  keeps = record { schema = refl; targets = refl; declared = refl; counted = refl; hidden = refl; owed = refl };
+  keeps = record { schema = refl; targets = refl; declared = refl; counted = refl };
 }
 
-pub AreRemoved-more : (s t u : RelationState) (refs : List TupleRef) (i : ℕ) (r : TupleRef) → i < length refs → get_or refs i r ≡ r → AreRemoved s t (take i refs) → IsRemoved t u r → AreRemoved s u (take (i + 1) refs)
+pub AreRemoved-more : (s t u : RelationState) (refs : List TupleRef) (i : ℕ) (r : TupleRef) → i < length refs → get_or refs i r ≡ r → AreRemoved s t (take i refs) → IsGone t u r → AreRemoved s u (take (i + 1) refs)
 AreRemoved-more s t u refs i r within is so_far removed =
     let list : take (i + 1) refs ≡ take i refs ++ r ∷ [] = take_more refs i r within ∙ ap (λ q. take i refs ++ q ∷ []) is in
     let other : (q : TupleRef) → q ≢ r → get u.rows q ≡ get t.rows q = λ q ne. ap (λ (tuples : Tuples Row). get tuples q) removed.rows ∙ get-remove_other t.rows r q ne in
@@ -139,8 +138,6 @@ AreRemoved-more s t u refs i r within is so_far removed =
         targets = removed.keeps.targets ∙ so_far.keeps.targets;
         declared = removed.keeps.declared ∙ so_far.keeps.declared;
         counted = removed.keeps.counted ∙ so_far.keeps.counted;
-        hidden = removed.keeps.hidden ∙ so_far.keeps.hidden;
-        owed = removed.keeps.owed ∙ so_far.keeps.owed;
       };
     })
 
@@ -154,7 +151,7 @@ still_there s t refs i r within is once so_far =
 pub AreUnlinked-none : (relations : List RelationState) (s : RelationState) → All IsKept relations → AreUnlinked relations relations s s
 AreUnlinked-none relations s kept = record { fewer = none; counted = counted_none relations kept; links = λ table r. zero-add (naming (relation_links s) table r) }
 
-pub AreUnlinked-more : (old mid new : List RelationState) (s t u : RelationState) (r : TupleRef) (row : Row) → IsKept t → IsKept u → get t.rows r ≡ Some row → IsRemoved t u r → AreUnlinked old mid s t → AreCountedBy mid new none (naming (row_links t.targets row)) → AreUnlinked old new s u
+pub AreUnlinked-more : (old mid new : List RelationState) (s t u : RelationState) (r : TupleRef) (row : Row) → IsKept t → IsKept u → get t.rows r ≡ Some row → IsGone t u r → AreUnlinked old mid s t → AreCountedBy mid new none (naming (row_links t.targets row)) → AreUnlinked old new s u
 AreUnlinked-more old mid new s t u r row kept now at removed so_far counted = record {
   fewer = λ table q. so_far.fewer table q + naming (row_links t.targets row) table q;
   counted = down_then old mid new so_far.fewer (naming (row_links t.targets row)) _ (λ table q. refl) so_far.counted counted;
@@ -184,7 +181,7 @@ recounted_keys targets old new h = λ i column to. recounted_keys_at old new to 
 
 -- ---- rows that are named are held
 
-held_from_key : (rows : Tuples Row) (to : TupleRef) → IsSome (key_at rows to) → IsSome (get rows to)
+pub held_from_key : (rows : Tuples Row) (to : TupleRef) → IsSome (key_at rows to) → IsSome (get rows to)
 held_from_key rows to h = some_from (get rows to) h
   where
     some_from : (o : Option Row) → IsSome (option_and_then (λ (row : Row). Some row.key) o) → IsSome o
@@ -198,17 +195,24 @@ named_at relations to n counted h = at (slice_get relations n) refl h
     at None e h = absurd (cc)
     at (Some s) e h = (s, e, held_from_key s.rows to h, counted s e)
 
--- each link of a row of a relation that is current names a row that is held
-pub link_held_at : (relations : List RelationState) (s : RelationState) (r : TupleRef) (row : Row) → IsCurrent (linked_keys s.targets relations) s → LeadIntoCounted relations s.targets → get s.rows r ≡ Some row → (column : ℕ) (link : Linked) → link_at s.targets row column ≡ Some link → IsHeldIn relations link
-link_held_at relations s r row current counted at column link e =
-    let parts = link_parts s.targets row column link e in
-    let read : IsSome (row_value (linked_keys s.targets relations) column row) = current.readable r row at column (target_within s.targets column link.0 parts.0) in
-    let key : IsSome (linked_keys s.targets relations column link.1) = subst IsSome (linked_value (linked_keys s.targets relations) column row link.1 parts.1) read in
+-- each link of a row that can be read names a row that is held
+link_read_at : (relations : List RelationState) (targets : List (Option ℕ)) (row : Row) → IsReadable (linked_keys targets relations) (length targets) row → LeadIntoCounted relations targets → (column : ℕ) (link : Linked) → link_at targets row column ≡ Some link → IsHeldIn relations link
+link_read_at relations targets row readable counted column link e =
+    let parts = link_parts targets row column link e in
+    let read : IsSome (row_value (linked_keys targets relations) column row) = readable column (target_within targets column link.0 parts.0) in
+    let key : IsSome (linked_keys targets relations column link.1) = subst IsSome (linked_value (linked_keys targets relations) column row link.1 parts.1) read in
     named_at relations link.1 link.0 (λ t. counted column link.0 t parts.0) (subst (λ o. IsSome (option_and_then (λ t. key_at t.rows link.1) (option_and_then (slice_get relations) o))) parts.0 key)
 
-pub links_held : (relations : List RelationState) (s : RelationState) (r : TupleRef) (row : Row) → IsCurrent (linked_keys s.targets relations) s → LeadIntoCounted relations s.targets → get s.rows r ≡ Some row → All (IsHeldIn relations) (row_links s.targets row)
+pub links_read : (relations : List RelationState) (targets : List (Option ℕ)) (row : Row) → IsReadable (linked_keys targets relations) (length targets) row → LeadIntoCounted relations targets → All (IsHeldIn relations) (row_links targets row)
 unfolding row_links
-links_held relations s r row current counted at = All-filter_map (IsHeldIn relations) (link_at s.targets row) (range_with_len 0 (length s.targets)) (λ column link _. link_held_at relations s r row current counted at column link)
+links_read relations targets row readable counted = All-filter_map (IsHeldIn relations) (link_at targets row) (range_with_len 0 (length targets)) (λ column link _. link_read_at relations targets row readable counted column link)
+
+-- so does each link of a row of a relation that is current
+pub link_held_at : (relations : List RelationState) (s : RelationState) (r : TupleRef) (row : Row) → IsCurrent (linked_keys s.targets relations) s → LeadIntoCounted relations s.targets → get s.rows r ≡ Some row → (column : ℕ) (link : Linked) → link_at s.targets row column ≡ Some link → IsHeldIn relations link
+link_held_at relations s r row current counted at = link_read_at relations s.targets row (current.readable r row at) counted
+
+pub links_held : (relations : List RelationState) (s : RelationState) (r : TupleRef) (row : Row) → IsCurrent (linked_keys s.targets relations) s → LeadIntoCounted relations s.targets → get s.rows r ≡ Some row → All (IsHeldIn relations) (row_links s.targets row)
+links_held relations s r row current counted at = links_read relations s.targets row (current.readable r row at) counted
 
 -- the keys that are read beside relations whose numbers of referrers change twice
 pub keys_still : (s t : RelationState) (old mid new : List RelationState) → t.targets ≡ s.targets → AreRecounted old mid → AreRecounted mid new → linked_keys t.targets new ≡ linked_keys s.targets old

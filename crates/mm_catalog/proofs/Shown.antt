@@ -24,6 +24,7 @@ use Rattle.mm_relation.specs.State.{tree_list, RelationState, IsKept, HasKey}
 use Rattle.mm_relation.proofs.KeyOrder.{same_elsewhere}
 use Rattle.mm_catalog.specs.Seen.{row_values, values_of, rows_of}
 use Rattle.mm_catalog.proofs.Keyed.{place_beside, keys_inserted}
+use Rattle.mm_catalog.proofs.Kept.{row_more}
 use Rattle.mm_catalog.proofs.Lists.{map_agree_on}
 
 -- what is made of the elements that pass is what passes of what is made of them
@@ -78,7 +79,7 @@ module _ (old new : RelationState) (kept : IsKept old) (now : IsKept new) (r : T
   pub rows_inserted : rows_of keys (record new { schema = old.schema }) ≡ with_row (row_values keys width row) (rows_of keys old)
   unfolding rows_of insert_placed
   rows_inserted =
-      ap (map after) (keys_inserted old new kept now r row inserted absent)
+      ap (map after) (keys_inserted old new kept now r row (row_more old new r row inserted) absent)
       ∙ map-append after (filter (λ q. is_lt (place_beside old.rows r row q)) (tree_list old.by_key)) (r ∷ filter (λ q. is_gt (place_beside old.rows r row q)) (tree_list old.by_key))
       ∙ ap (λ ys. ys ++ after r ∷ map after (filter (λ q. is_gt (place_beside old.rows r row q)) (tree_list old.by_key)))
       (map_filter after before (λ q. is_lt (place_beside old.rows r row q)) (λ s. is_lt (key_cmp s (row_values keys width row))) (tree_list old.by_key) same_values

@@ -11,7 +11,6 @@ use Rattle.std.proofs.lemmas.Option.{same_Some, slice_get_within, get_or_from_sl
 use Rattle.part_raw.specs.declared.tuple_ref.TupleRef.{TupleRef}
 use Rattle.part_raw.proofs.Tuples.{same_ref, same_ref_self, same_ref_true, same_tuples}
 use Rattle.mm_relation.specs.Rows.{Row, referrers_at}
-use Rattle.mm_relation.specs.Changes.{KeepsSchema}
 use Rattle.mm_relation.specs.Reading.{key_at}
 use Rattle.mm_relation.specs.State.{tree_list, RelationState, IsKeyed, linked_keys}
 use Rattle.mm_catalog.specs.State.{CatalogState}
@@ -20,7 +19,7 @@ use Rattle.mm_catalog.specs.Consistent.{IsConsistent}
 use Rattle.mm_catalog.specs.Changes.{KeepsDatabase}
 use Rattle.mm_catalog.specs.Deleted.{AreRemoved, IsFree}
 use Rattle.mm_catalog.specs.Loaded.{HaveGone, HasMore}
-use Rattle.mm_catalog.specs.Recounted.{IsRewritten}
+use Rattle.mm_catalog.specs.Recounted.{IsRewritten, KeepsColumns}
 use Rattle.mm_catalog.proofs.Among.{among_at, named_at}
 use Rattle.mm_catalog.proofs.Elsewhere.{rewritten_from, database_rewritten}
 use Rattle.mm_catalog.proofs.Loaded.{rewritten_then}
@@ -35,13 +34,13 @@ module _ (c : CatalogState) (ok : IsConsistent c) (d e : CatalogState) (n : ℕ)
   m = h.after
 
   abbrev z : RelationState
-  z = gone.deleted.after
+  z = gone.out.deleted.after
 
-  this : gone.deleted.before ≡ m
-  this = same_Some gone.deleted.before m (sym gone.deleted.there ∙ h.rewritten.here)
+  this : gone.out.deleted.before ≡ m
+  this = same_Some gone.out.deleted.before m (sym gone.out.deleted.there ∙ h.rewritten.here)
 
   removed : AreRemoved m z refs
-  removed = subst (λ s. AreRemoved s z refs) this gone.deleted.removed
+  removed = subst (λ s. AreRemoved s z refs) this gone.out.deleted.removed
 
   by_member : (q : TupleRef) (among : Bool) → list_any (same_ref q) refs ≡ among → get z.rows q ≡ get b.rows q
   by_member q true e =
@@ -57,23 +56,21 @@ module _ (c : CatalogState) (ok : IsConsistent c) (d e : CatalogState) (n : ℕ)
 
   keys_again : (tree_list z.by_key) ≡ (tree_list b.by_key)
   keys_again =
-      keyed_unique b.rows (tree_list z.by_key) (tree_list b.by_key) (subst (λ rows. IsKeyed rows (tree_list z.by_key)) rows_again gone.deleted.kept.keyed)
+      keyed_unique b.rows (tree_list z.by_key) (tree_list b.by_key) (subst (λ rows. IsKeyed rows (tree_list z.by_key)) rows_again gone.out.deleted.kept.keyed)
       (among_at c ok n b h.rewritten.there).kept.keyed
 
-  keeps : KeepsSchema b z
+  keeps : KeepsColumns b z
   keeps = record {
     schema = removed.keeps.schema ∙ h.rewritten.keeps.schema;
     targets = removed.keeps.targets ∙ h.rewritten.keeps.targets;
     declared = removed.keeps.declared ∙ h.rewritten.keeps.declared;
     counted = removed.keeps.counted ∙ h.rewritten.keeps.counted;
-    hidden = removed.keeps.hidden ∙ h.rewritten.keeps.hidden;
-    owed = removed.keeps.owed ∙ h.rewritten.keeps.owed;
   }
 
   step : IsRewritten d.relations e.relations n m z
   step =
-      subst (λ rs. IsRewritten d.relations rs n m z) (sym gone.deleted.list)
-      (rewritten_from d.relations gone.deleted.front n m z h.rewritten.here gone.deleted.unlinked.counted.recounted removed.keeps
+      subst (λ rs. IsRewritten d.relations rs n m z) (sym gone.out.deleted.list)
+      (rewritten_from d.relations gone.out.deleted.front n m z h.rewritten.here gone.out.deleted.unlinked.counted.recounted removed.keeps
       (λ q held some. ap (option_and_then (λ (u : Row). Some u.key))
       (removed.others q (λ there. let zero : referrers_at m.referrers q ≡ 0 = All-contains (IsFree m) refs q h.free there in absurd (omega (arith, zero, some))))))
 

@@ -38,6 +38,7 @@ use Rattle.mm_catalog.specs.State.{CatalogState}
 use Rattle.mm_catalog.proofs.Back.{lead_back}
 use Rattle.mm_catalog.proofs.Bounded.{few_columns, few_links}
 use Rattle.mm_catalog.proofs.Among.{among_at, current_at}
+use Rattle.mm_catalog.proofs.Kept.{columns_kept}
 use Rattle.mm_catalog.proofs.Elsewhere.{counted_from, current_beside_old, kept_from, rewritten_from}
 use Rattle.mm_catalog.proofs.Counted as later
 use Rattle.mm_catalog.proofs.Counted.{AreRecounted-trans, all_held_still}
@@ -234,7 +235,7 @@ module _ (k : CatalogState) (ok : IsConsistent k) (n : ℕ) (b : RelationState) 
             new = lowered ++ set (drop n k.relations) 0 a
 
             rewritten : IsRewritten k.relations new n b a
-            rewritten = rewritten_from k.relations lowered n b a there recounted changed.keeps (λ r named some. keys_set b a rs sets changed r)
+            rewritten = rewritten_from k.relations lowered n b a there recounted (columns_kept b a changed.keeps) (λ r named some. keys_set b a rs sets changed r)
 
             -- rows that no cell of a link touches keep their numbers
             own_counts : (r : TupleRef) → IsSome (get a.rows r) → referrers_at a.referrers r ≡ links_to k.relations n r

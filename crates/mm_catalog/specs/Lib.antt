@@ -6,6 +6,7 @@ pub mod Created
 pub mod Deleted
 pub mod Dropped
 pub mod Inserted
+pub mod Hidden
 pub mod Linked
 pub mod Loaded
 pub mod Outline

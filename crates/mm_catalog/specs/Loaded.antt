@@ -6,18 +6,18 @@ use Rattle.part_raw.specs.declared.tuple_ref.TupleRef.{TupleRef}
 use Rattle.plain_tables.specs.declared.value.Value.{Value}
 use Rattle.mm_relation.specs.State.{RelationState}
 use Rattle.mm_catalog.specs.State.{CatalogState}
-use Rattle.mm_catalog.specs.Deleted.{IsFree, AreDeleted}
+use Rattle.mm_catalog.specs.Deleted.{IsFree, AreTakenOut}
 use Rattle.mm_catalog.specs.Inserted.{IsInsertedAt}
-use Rattle.mm_catalog.specs.Recounted.{IsRewritten}
+use Rattle.mm_catalog.specs.Recounted.{IsRewritten, KeepsAside}
 
 -- the row of these values came into the table of a number under this reference, and names and limits stay
 pub record HasCome (old new : CatalogState) (n : ℕ) (values : List Value) (r : TupleRef) : Type 0 where
   pub inserted : IsInsertedAt old.relations new.relations n old.limits.rows values r
   pub same : new ≡ record old { relations = new.relations }
 
--- the rows of these references went out of the table of a number, and names and limits stay
+-- the rows of these references went for good out of the table of a number, and names and limits stay
 pub record HaveGone (old new : CatalogState) (n : ℕ) (refs : List TupleRef) : Type 0 where
-  pub deleted : AreDeleted old.relations new.relations n refs
+  pub out : AreTakenOut old.relations new.relations n refs
   pub same : new ≡ record old { relations = new.relations }
 
 -- no link names any of the rows of the table of a number that are held under these references
@@ -30,6 +30,7 @@ pub record HasMore (old new : CatalogState) (n : ℕ) (refs : List TupleRef) : T
   pub before : RelationState
   pub after : RelationState
   pub rewritten : IsRewritten old.relations new.relations n before after
+  pub aside : KeepsAside before after
   pub same : new ≡ record old { relations = new.relations }
   pub held : All (λ r. IsSome (finite.get after.rows r)) refs
   pub free : All (IsFree after) refs

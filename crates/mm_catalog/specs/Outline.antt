@@ -1,5 +1,5 @@
 -- What of a catalog an undone change restores: all but the shape of the indexes and the numbers of referrers.
-use Rattle.std.specs.Prelude.{◌≡◌, ◌≢◌, ℕ, not, Bool, List, Option, Some, IsSome, All, ◌++◌, map, slice_get, slice_set}
+use Rattle.std.specs.Prelude.{◌≡◌, ◌≢◌, ℕ, ◌+◌, ◌-◌, ◌≤◌, not, Bool, List, [], ◌∷◌, Option, Some, IsSome, All, ◌++◌, length, map, slice_get, slice_set}
 use Rattle.std.specs.List.{AllPairs, list_any}
 use Rattle.std.specs.Option.{option_map_or}
 use Rattle.std.specs.Ordering.{eq_by_cmp}
@@ -12,14 +12,17 @@ use Rattle.plain_tables.specs.declared.schema.Schema.{Schema}
 use Rattle.mm_relation.specs.Rows.{Row}
 use Rattle.mm_relation.specs.State.{RelationState}
 use Rattle.mm_relation.specs.declared.numbers.DeclaredIndex.{DeclaredIndex}
+use Rattle.mm_catalog.specs.Consistent.{IsConsistent}
 use Rattle.mm_catalog.specs.State.{CatalogState}
 
--- the schema; the table that each column's links lead into; the declared indexes; the rows
+-- the schema; the table that each column's links lead into; the declared indexes; the rows; the hidden rows; how many rows are owed
 pub record RelationOutline : Type 0 where
   pub schema : Schema
   pub targets : List (Option ℕ)
   pub declared : List DeclaredIndex
   pub rows : Tuples Row
+  pub hidden : Tuples Row
+  pub owed : ℕ
 
 -- the limits, the names, and the outline of each relation
 pub record Outline : Type 0 where
@@ -28,7 +31,7 @@ pub record Outline : Type 0 where
   pub relations : List RelationOutline
 
 abbrev pub relation_outline : RelationState → RelationOutline
-relation_outline s = record { schema = s.schema; targets = s.targets; declared = s.declared; rows = s.rows }
+relation_outline s = record { schema = s.schema; targets = s.targets; declared = s.declared; rows = s.rows; hidden = s.hidden; owed = s.owed }
 
 abbrev pub outline_of : CatalogState → Outline
 outline_of c = record { limits = c.limits; names = c.names; relations = map relation_outline c.relations }
@@ -37,9 +40,18 @@ outline_of c = record { limits = c.limits; names = c.names; relations = map rela
 abbrev pub is_among : List TupleRef → TupleRef → Bool
 is_among refs r = list_any (eq_by_cmp ref_cmp r) refs
 
+-- it is the outline of a catalog that is consistent
+abbrev pub IsOutline : Outline → Type 0
+IsOutline o = (c : CatalogState) × IsConsistent c × (outline_of c ≡ o)
+
 -- the rows without those of these references
 abbrev pub without : List TupleRef → Tuples Row → Tuples Row
 without refs rows = finite.retain_keys rows (λ r. not (is_among refs r))
+
+-- the rows, and with them those that others have under these references
+abbrev pub with_those : List TupleRef → Tuples Row → Tuples Row → Tuples Row
+with_those [] others rows = rows
+with_those (r ∷ refs) others rows = option_map_or (λ row. finite.insert (with_those refs others rows) r row) (finite.get others r) (with_those refs others rows)
 
 -- the list with another element in the place of a number, if there is one
 abbrev pub changed_at : {A : Type 0} → (A → A) → ℕ → List A → List A
@@ -48,6 +60,20 @@ changed_at change n xs = option_map_or (λ x. slice_set xs n (change x)) (slice_
 -- the outline without the rows of these references of the table of a number
 abbrev pub without_rows : ℕ → List TupleRef → Outline → Outline
 without_rows n refs o = record o { relations = changed_at (λ s. record s { rows = without refs s.rows }) n o.relations }
+
+-- the hidden rows of these references are rows again, or are dropped; either way they are owed no longer
+abbrev pub shown : List TupleRef → RelationOutline → RelationOutline
+shown refs s = record s { rows = with_those refs s.hidden s.rows; hidden = without refs s.hidden; owed = s.owed - length refs }
+
+abbrev pub dropped : List TupleRef → RelationOutline → RelationOutline
+dropped refs s = record s { hidden = without refs s.hidden; owed = s.owed - length refs }
+
+-- the outline where the hidden rows of these references of the table of a number are shown, or dropped
+abbrev pub with_shown : ℕ → List TupleRef → Outline → Outline
+with_shown n refs o = record o { relations = changed_at (shown refs) n o.relations }
+
+abbrev pub with_dropped : ℕ → List TupleRef → Outline → Outline
+with_dropped n refs o = record o { relations = changed_at (dropped refs) n o.relations }
 
 -- the table of a number has a row under each of these references, each given once
 pub record HoldsOnce (o : Outline) (n : ℕ) (refs : List TupleRef) : Type 0 where
@@ -66,3 +92,16 @@ pub record HaveCome (old new : CatalogState) (n : ℕ) (before after : List Tupl
   pub refs : List TupleRef
   pub more : HasRowsMore (outline_of old) (outline_of new) n refs
   pub list : after ≡ before ++ refs
+
+-- The table of a number hides a row under each of these references, each given once. They are owed beside the other hidden rows.
+pub record HidesOnce (o : Outline) (n : ℕ) (refs : List TupleRef) : Type 0 where
+  pub relation : RelationOutline
+  pub there : slice_get o.relations n ≡ Some relation
+  pub hidden : All (λ r. IsSome (finite.get relation.hidden r)) refs
+  pub once : AllPairs (λ q r. q ≢ r) refs
+  pub owed : length refs + finite.len (without refs relation.hidden) ≤ relation.owed
+
+-- the rows of these references of the table of a number are hidden now, and nothing else differs
+pub record HasRowsHidden (old new : Outline) (n : ℕ) (refs : List TupleRef) : Type 0 where
+  pub hides : HidesOnce new n refs
+  pub others : with_shown n refs new ≡ old

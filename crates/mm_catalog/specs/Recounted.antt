@@ -3,9 +3,20 @@ use Rattle.std.specs.Prelude.{◌≡◌, ◌≢◌, ℕ, ◌<◌, List, IsSome, 
 use Rattle.std.specs.FinMap as finite
 use Rattle.part_raw.specs.declared.tuple_ref.TupleRef.{TupleRef}
 use Rattle.mm_relation.specs.Rows.{referrers_at}
-use Rattle.mm_relation.specs.Changes.{KeepsSchema}
 use Rattle.mm_relation.specs.Reading.{key_at}
 use Rattle.mm_relation.specs.State.{RelationState}
+
+-- the columns, where their links lead, the declared indexes, and whether referrers are counted are as they were
+pub record KeepsColumns (old new : RelationState) : Type 0 where
+  pub schema : new.schema ≡ old.schema
+  pub targets : new.targets ≡ old.targets
+  pub declared : new.declared ≡ old.declared
+  pub counted : new.counted ≡ old.counted
+
+-- the hidden rows are as they were, and so is how many rows are owed
+pub record KeepsAside (old new : RelationState) : Type 0 where
+  pub hidden : new.hidden ≡ old.hidden
+  pub owed : new.owed ≡ old.owed
 
 -- the numbers of the rows' referrers are others, and nothing else
 abbrev pub IsRecounted : RelationState → RelationState → Type 0
@@ -28,5 +39,5 @@ pub record IsRewritten (old new : List RelationState) (n : ℕ) (before after : 
   pub here : slice_get new n ≡ Some after
   pub count : length new ≡ length old
   pub others : (k : ℕ) (s t : RelationState) → k ≢ n → slice_get old k ≡ Some s → slice_get new k ≡ Some t → IsRecounted s t
-  pub keeps : KeepsSchema before after
+  pub keeps : KeepsColumns before after
   pub keys : (r : TupleRef) → IsSome (finite.get before.rows r) → 0 < referrers_at before.referrers r → key_at after.rows r ≡ key_at before.rows r

@@ -30,7 +30,7 @@ use std::marker::Model;
 pub struct Catalog {
     pub(crate) limits: Limits,
     names: IndexSet<String>,
-    relations: Vec<Relation>,
+    pub(crate) relations: Vec<Relation>,
     // Where the cells of a row are packed on their way into a table. It keeps its memory from row to row.
     cells: Vec<StoredCell>,
     // Where an update lists the cells that it sets and the links that go. They keep their memory too.

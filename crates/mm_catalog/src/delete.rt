@@ -4,7 +4,8 @@ ghost use Rattle.std.specs.List.{AllPairs};
 ghost use Rattle.std.specs.FinMap as finite;
 ghost use Rattle.mm_relation.specs.State.{RelationState, IsKept, IsCurrent, linked_keys};
 ghost use Rattle.mm_catalog.specs.Standing.{StandsBeside, Stands};
-ghost use Rattle.mm_catalog.specs.Deleted.{AreRemoved, AreUnlinked, AreDeleted, AllFree, AnyReferenced};
+ghost use Rattle.mm_catalog.specs.Deleted.{AreRemoved, AreUnlinked, AreDeleted, AreTakenOut, AllFree, AnyReferenced};
+ghost use Rattle.mm_catalog.specs.Recounted.{KeepsAside};
 
 use crate::before::Before;
 use crate::references::counting::count_down_links;
@@ -21,6 +22,7 @@ fn remove_each(before: &mut [Relation], relation: &mut Relation, rows: &[TupleRe
     requires once { AllPairs (λ q r. q ≢ r) rows.now }
     ensures unlinked { AreUnlinked before.old before.new relation.old relation.new }
     ensures removed { AreRemoved relation.old relation.new rows.now }
+    ensures aside { KeepsAside relation.old relation.new }
     ensures kept { IsKept relation.new }
     ensures current { IsCurrent (linked_keys relation.old.targets before.old) relation.new }
 {
@@ -38,7 +40,7 @@ pub fn take_out(relations: &mut [Relation], table: TableNumber, rows: &[TupleRef
     requires stands { Stands relations.old table.0 }
     requires held { (s : RelationState) → slice_get relations.old table.0 ≡ Some s → All (λ r. IsSome (finite.get s.rows r)) rows.now }
     requires once { AllPairs (λ q r. q ≢ r) rows.now }
-    ensures { AreDeleted relations.old relations.new table.0 rows.now }
+    ensures { AreTakenOut relations.old relations.new table.0 rows.now }
 {
     let (before, rest) = relations.split_at_mut(table.0);
     remove_each(before, &mut rest[0], rows);

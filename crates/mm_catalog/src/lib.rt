@@ -23,6 +23,7 @@ mod catalog;
 mod create;
 mod declare;
 mod delete;
+mod hiding;
 mod indexes;
 mod insert;
 pub mod laws;

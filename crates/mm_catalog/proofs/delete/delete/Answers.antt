@@ -10,3 +10,6 @@ returns-clause-free c s at =
     let d = c.index-relations-table.result in
     let same = same_Some (get_or c.args.relations.now c.args.table.0 d) s (sym (slice_get-get_or c.args.relations.now c.args.table.0 d c.requires.there) ∙ at) in
     subst (λ (t : RelationState). All (IsFree t) c.args.rows.now) same c.if-any_referenced.ensures.free
+
+pub returns-clause-deleted : goal.returns-clause-deleted
+returns-clause-deleted c = c.take_out.ensures.deleted

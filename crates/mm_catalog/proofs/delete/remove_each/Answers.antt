@@ -1,9 +1,10 @@
-use Rattle.std.proofs.Common.{IsSome, get_or, sym, subst}
+use Rattle.std.proofs.Common.{IsSome, get_or, refl, sym, ◌∙◌, subst}
 use Rattle.std.specs.FinMap as finite
 use Rattle.std.proofs.lemmas.List.{get_or_default}
 use Rattle.part_raw.proofs.Tuples.{held_tuple}
 use Rattle.mm_relation.specs.State.{IsCurrent, linked_keys}
 use Rattle.mm_catalog.proofs.Removing.{AreRemoved-none, AreRemoved-more, AreUnlinked-none, AreUnlinked-more, still_there, links_held, enough_for_row, keys_still}
+use Rattle.mm_catalog.proofs.Kept.{row_gone}
 use Rattle.mm_catalog.specs.Linked.{row_links}
 use Rattle.mm_catalog.specs.Counted.{LeadIntoCounted}
 use Rattle.mm_catalog.proofs.Counted.{all_held_still}
@@ -13,6 +14,7 @@ pub loop-r-init : goal.loop-r-init
 loop-r-init c = record {
   unlinked = AreUnlinked-none c.args.before.now c.args.relation.now c.requires.stands.kept;
   removed = AreRemoved-none c.args.relation.now;
+  aside = record { hidden = refl; owed = refl };
   kept = c.a_relation_is_kept.ensures;
   current = c.requires.stands.current;
 }
@@ -67,10 +69,13 @@ loop-r-preserved c =
     (c.requires.held i (record { number = 0 }) c.loop-r-test.true) in
     let row = held_tuple c.loop-r.relation.rows r held in
     let counted = c.count_down_links.ensures row.0 row.1 in
+    let keeps = c.remove_row.ensures.removed.keeps in
+    let gone = row_gone c.loop-r.relation c.remove_row.new.self r c.remove_row.ensures.removed in
     record {
       unlinked = AreUnlinked-more c.args.before.now c.loop-r.before c.count_down_links.new.before c.args.relation.now c.loop-r.relation c.remove_row.new.self r row.0
-          c.loop-r.invariant.kept c.a_relation_is_kept-in-loop-r.ensures row.1 c.remove_row.ensures.removed c.loop-r.invariant.unlinked counted;
-      removed = AreRemoved-more c.args.relation.now c.loop-r.relation c.remove_row.new.self c.args.rows.now i r c.loop-r-test.true itself c.loop-r.invariant.removed c.remove_row.ensures.removed;
+          c.loop-r.invariant.kept c.a_relation_is_kept-in-loop-r.ensures row.1 gone c.loop-r.invariant.unlinked counted;
+      removed = AreRemoved-more c.args.relation.now c.loop-r.relation c.remove_row.new.self c.args.rows.now i r c.loop-r-test.true itself c.loop-r.invariant.removed gone;
+      aside = record { hidden = keeps.hidden ∙ c.loop-r.invariant.aside.hidden; owed = keeps.owed ∙ c.loop-r.invariant.aside.owed };
       kept = c.a_relation_is_kept-in-loop-r.ensures;
       current = subst (λ keys. IsCurrent keys c.remove_row.new.self)
           (keys_still c.args.relation.now c.loop-r.relation c.args.before.now c.loop-r.before c.count_down_links.new.before c.loop-r.invariant.removed.keeps.targets c.loop-r.invariant.unlinked.counted.recounted counted.recounted)

@@ -19,13 +19,16 @@ returns c =
     let s : RelationState = get_or c.split_at_mut-before.result.1.now 0 d in
     let new : RelationState = c.remove_each.new.relation in
     record {
-      front = c.remove_each.new.before;
-      before = s;
-      after = new;
-      there = split_here c.args.relations.now c.split_at_mut-before.result.1.now n d c.requires.there c.split_at_mut-before.ensures.back;
-      list = ap (λ rs. c.remove_each.new.before ++ set rs 0 new) c.split_at_mut-before.ensures.back;
-      unlinked = subst (λ rs. AreUnlinked rs c.remove_each.new.before s new) c.split_at_mut-before.ensures.front c.remove_each.ensures.unlinked;
-      removed = c.remove_each.ensures.removed;
-      kept = c.remove_each.ensures.kept;
-      current = subst (λ rs. IsCurrent (linked_keys s.targets rs) new) c.split_at_mut-before.ensures.front c.remove_each.ensures.current;
+      aside = c.remove_each.ensures.aside;
+      deleted = record {
+        front = c.remove_each.new.before;
+        before = s;
+        after = new;
+        there = split_here c.args.relations.now c.split_at_mut-before.result.1.now n d c.requires.there c.split_at_mut-before.ensures.back;
+        list = ap (λ rs. c.remove_each.new.before ++ set rs 0 new) c.split_at_mut-before.ensures.back;
+        unlinked = subst (λ rs. AreUnlinked rs c.remove_each.new.before s new) c.split_at_mut-before.ensures.front c.remove_each.ensures.unlinked;
+        removed = c.remove_each.ensures.removed;
+        kept = c.remove_each.ensures.kept;
+        current = subst (λ rs. IsCurrent (linked_keys s.targets rs) new) c.split_at_mut-before.ensures.front c.remove_each.ensures.current;
+      };
     }

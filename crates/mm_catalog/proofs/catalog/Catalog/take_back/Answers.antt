@@ -33,14 +33,14 @@ invariant_of-self c =
     let back = whole c.take_out.new.relations (drop (length c.take_out.new.relations) c.self.inside.relations.items) c.self.inside.relations.len (omega (arith, c.take_out.auto.relations, ap length c.as_mut_slice.ensures.value, c.self.inside.relations.ok.0)) in
     subst (λ rs. IsConsistent (record s { relations = rs })) (sym back)
     (taken_out s c.self.invariant c.args.table c.args.rows.now c.take_out.new.relations held c.requires.once free
-    (rw c.as_mut_slice.ensures.value at c.take_out.ensures))
+    (rw c.as_mut_slice.ensures.value at c.take_out.ensures.deleted))
 
 pub returns : goal.returns
 returns c =
     let s : CatalogState = record { limits = c.self.inside.limits; names = map string_bytes c.self.inside.names.keys; relations = c.self.inside.relations.items } in
     let free : AreFreeRows s c.args.table.0 c.args.rows.now = rw (← c.self.view_is) at c.requires.free in
     let back = whole c.take_out.new.relations (drop (length c.take_out.new.relations) c.self.inside.relations.items) c.self.inside.relations.len (omega (arith, c.take_out.auto.relations, ap length c.as_mut_slice.ensures.value, c.self.inside.relations.ok.0)) in
-    let gone : HaveGone s (record s { relations = c.take_out.new.relations }) c.args.table.0 c.args.rows.now = record { deleted = rw c.as_mut_slice.ensures.value at c.take_out.ensures; same = refl } in
+    let gone : HaveGone s (record s { relations = c.take_out.new.relations }) c.args.table.0 c.args.rows.now = record { out = rw c.as_mut_slice.ensures.value at c.take_out.ensures; same = refl } in
     rw (← c.self.view_is) (record {
       gone = subst (λ rs. HaveGone s (record s { relations = rs }) c.args.table.0 c.args.rows.now) (sym back) gone;
       outline =
