@@ -2,3 +2,4 @@ pub mod KeyOrder
 pub mod Tables
 pub mod Undoing
 pub mod Steps
+pub mod Settling

@@ -9,14 +9,14 @@ use Rattle.std.proofs.lemmas.Option.{same_Some, slice_get-map, slice_get_within}
 use Rattle.part_raw.specs.declared.tuple_ref.TupleRef.{TupleRef}
 use Rattle.mm_catalog.specs.Consistent.{IsConsistent}
 use Rattle.mm_catalog.specs.Loaded.{AreFreeRows}
-use Rattle.mm_catalog.specs.Outline.{HoldsOnce, RelationOutline, outline_of, relation_outline, without_rows}
+use Rattle.mm_catalog.specs.Outline.{HoldsOnce, IsOutline, RelationOutline, outline_of, relation_outline, without_rows}
 use Rattle.mm_catalog.specs.Picked.{HoldsRows}
 use Rattle.mm_catalog.specs.Seen.{database_of}
 use Rattle.mm_catalog.specs.State.{CatalogState}
 use Rattle.mm_catalog.proofs.Tables.{database-length}
 use Rattle.mm_catalog.proofs.Unnamed.{free_without}
-use Rattle.mm_transactions.specs.Log.{changes_of}
-use Rattle.mm_transactions.specs.Undoing.{Came, Stands}
+use Rattle.mm_transactions.specs.Log.{change_of, changes_of}
+use Rattle.mm_transactions.specs.Undoing.{Came}
 use Rattle.mm_transactions.specs.declared.log.Step.{Step}
 
 pub length-changes_of : (steps : List Step) (refs : List TupleRef) → length (changes_of steps refs) ≡ length steps
@@ -25,16 +25,16 @@ length-changes_of (step ∷ older) refs = ap suc (length-changes_of older (take 
 
 -- the newest step, of those that stand the oldest first
 pub newest_change : (steps older : List Step) (step : Step) (refs : List TupleRef) → steps ≡ older ++ step ∷ []
-    → changes_of (reverse steps) refs ≡ Came step.table.0 (drop step.start refs) ∷ changes_of (reverse older) (take step.start refs)
+    → changes_of (reverse steps) refs ≡ change_of step.kind step.table.0 (drop step.start refs) ∷ changes_of (reverse older) (take step.start refs)
 newest_change steps older step refs e = ap (λ (ss : List Step). changes_of (reverse ss) refs) e ∙ ap (λ (ss : List Step). changes_of ss refs) (reverse-append older (step ∷ []))
 
 -- a step more, of the references behind those that were there
 pub noted_change : (steps older : List Step) (step : Step) (refs all more : List TupleRef) → steps ≡ older ++ step ∷ [] → all ≡ refs ++ more → step.start ≡ length refs
-    → changes_of (reverse steps) all ≡ Came step.table.0 more ∷ changes_of (reverse older) refs
+    → changes_of (reverse steps) all ≡ change_of step.kind step.table.0 more ∷ changes_of (reverse older) refs
 noted_change steps older step refs all more e f start =
     newest_change steps older step all e
-    ∙ (λ i. Came step.table.0 (drop (start i) (f i)) ∷ changes_of (reverse older) (take (start i) (f i)))
-    ∙ (λ i. Came step.table.0 (drop-append_seam refs more i) ∷ changes_of (reverse older) (take-append_seam refs more i))
+    ∙ (λ i. change_of step.kind step.table.0 (drop (start i) (f i)) ∷ changes_of (reverse older) (take (start i) (f i)))
+    ∙ (λ i. change_of step.kind step.table.0 (drop-append_seam refs more i) ∷ changes_of (reverse older) (take-append_seam refs more i))
 
 -- ---- rows that can be taken back
 
@@ -50,5 +50,5 @@ module _ (c : CatalogState) (ok : IsConsistent c) (n : ℕ) (refs : List TupleRe
       same_Some ready.relation (relation_outline s) (sym ready.there ∙ slice_get-map relation_outline c.relations n ∙ ap (option_map relation_outline) there) in
       subst (λ (o : RelationOutline). All (λ r. IsSome (get o.rows r)) refs) same ready.held
 
-  pub rows_free : Stands (without_rows n refs (outline_of c)) → AreFreeRows c n refs
+  pub rows_free : IsOutline (without_rows n refs (outline_of c)) → AreFreeRows c n refs
   rows_free stands = free_without c stands.0 ok stands.1 n refs stands.2 rows_there

@@ -1,11 +1,12 @@
 -- What stood when so many changes had been noted, as changes are noted and undone.
-use Rattle.std.proofs.Common.{◌≡◌, ◌≢◌, ℕ, suc, ◌<◌, ◌≤◌, true, false, cond, List, [], ◌∷◌, refl, sym, ap, ◌∙◌, subst, arith, length, map}
+use Rattle.std.proofs.Common.{◌≡◌, ◌≢◌, ◌⊎◌, inl, inr, ℕ, suc, ◌<◌, ◌≤◌, true, false, cond, List, [], ◌∷◌, refl, sym, ap, ◌∙◌, subst, arith, length, map}
 use Rattle.std.proofs.lemmas.Bool.{cond-true, cond-false, lt-ltb, le-ltb}
 use Rattle.std.specs.Prelude.{nat_lt, Result, Ok, Err, OnOk, OnErr, IfErr}
 use Rattle.plain_tables.specs.Databases.{Database}
 use Rattle.plain_tables.specs.Effects.{Effect}
 use Rattle.plain_tables.specs.Transactions.{begun, committed, rolled_back}
 use Rattle.plain_tables.specs.declared.refusal.Refusal.{Refusal}
+use Rattle.plain_tables.specs.declared.refusal.Refusal.TheVariants.{NoMemory}
 use Rattle.mm_catalog.specs.Changes.{IsRefusedFor}
 use Rattle.mm_catalog.specs.Consistent.{IsConsistent}
 use Rattle.mm_catalog.specs.Outline.{Outline, outline_of}
@@ -14,7 +15,7 @@ use Rattle.mm_catalog.specs.State.{CatalogState}
 use Rattle.mm_transactions.specs.Log.{IsNoted, IsUndone, LogState}
 use Rattle.mm_transactions.specs.State.{IsUndoable, TransactionalState, database_at, saved_of, transactional_of}
 use Rattle.mm_transactions.specs.Tables.{tables_in}
-use Rattle.mm_transactions.specs.Undoing.{AreMarks, CanUndo, Came, Change, before, undone}
+use Rattle.mm_transactions.specs.Undoing.{AreMarks, CanUndo, Came, Change, Went, before, undone}
 use Rattle.mm_transactions.proofs.Tables.{tables_outlined}
 
 -- where no more changes had been noted since, it is what there is
@@ -28,6 +29,7 @@ undone_newest mark c changes o more = cond-false (nat_lt (length changes) mark) 
 
 before_limits : (c : Change) (o : Outline) → (before c o).limits ≡ o.limits
 before_limits (Came n refs) o = refl
+before_limits (Went n refs) o = refl
 
 undone_limits : (mark : ℕ) (changes : List Change) (o : Outline) → (undone mark changes o).limits ≡ o.limits
 undone_limits mark [] o = refl
@@ -149,9 +151,6 @@ module _ (c : CatalogState) (log now : LogState) where
 
 -- where no transaction is open the steps are forgotten, and else nothing is
 module _ (c : CatalogState) (log now : LogState) (marks : now.marks ≡ log.marks) (inside : log.marks ≢ [] → now ≡ log) (outside : log.marks ≡ [] → now.changes ≡ []) where
-  nothing_undoable : IsUndoable c [] []
-  nothing_undoable = record { ready = tt; marks_lie = refl }
-
   some_open : (m : ℕ) (ms : List ℕ) → log.marks ≡ m ∷ ms → log.marks ≢ []
   some_open m ms e none = absurd (omega (arith, ap length (sym none ∙ e)))
 
@@ -162,24 +161,33 @@ module _ (c : CatalogState) (log now : LogState) (marks : now.marks ≡ log.mark
       λ i. record { changes = changes i; marks = marks i }
   settled_same h (m ∷ ms) e = inside (some_open m ms e)
 
+-- the outermost transaction ends with nothing noted, and an inner one leaves all
+module _ (c d : CatalogState) (log mid now : LogState) (kept_marks : mid.marks ≡ log.marks) (kept : log.marks ≢ [] → (mid ≡ log) × (d ≡ c)) (database : database_of d ≡ database_of c)
+    (marks : now.marks ≡ mid.marks) (inside : mid.marks ≢ [] → now ≡ mid) (outside : mid.marks ≡ [] → now.changes ≡ []) where
   pub committed_so : (old : LogState) (mark : ℕ) → IsUndoable c old.changes old.marks → log.changes ≡ old.changes → old.marks ≡ mark ∷ log.marks → (ms : List ℕ) → log.marks ≡ ms
-      → IsUndoable c now.changes now.marks × (transactional_of (record { catalog = c; changes = now.changes; marks = now.marks }) ≡ committed (transactional_of (record { catalog = c; changes = old.changes; marks = old.marks })))
+      → IsUndoable d now.changes now.marks × (transactional_of (record { catalog = d; changes = now.changes; marks = now.marks }) ≡ committed (transactional_of (record { catalog = c; changes = old.changes; marks = old.marks })))
   committed_so old mark h changes were [] e =
-      let none = marks ∙ e in
+      let none = marks ∙ kept_marks ∙ e in
+      let nothing = outside (kept_marks ∙ e) in
       let one = were ∙ ap (λ ms. mark ∷ ms) e in (
-        subst (IsUndoable c now.changes) (sym none) (subst (λ cs. IsUndoable c cs []) (sym (outside e)) nothing_undoable),
-        ap (λ ms. transactional_of (record { catalog = c; changes = now.changes; marks = ms })) none
+        subst (IsUndoable d now.changes) (sym none) (subst (λ cs. IsUndoable d cs []) (sym nothing) (record { ready = tt; marks_lie = refl })),
+        ap (λ ms. transactional_of (record { catalog = d; changes = now.changes; marks = ms })) none
+            ∙ (λ i. record { database = database i; saved = [] })
             ∙ sym (ap (λ ms. committed (transactional_of (record { catalog = c; changes = old.changes; marks = ms }))) one),
       )
   committed_so old mark h changes were (m ∷ ms) e =
-      let same = inside (some_open m ms e) in
-      let open_still : 0 < length log.marks = omega (arith, ap length e) in (
-        subst (λ (l : LogState). IsUndoable c l.changes l.marks) (sym same)
-            (subst (λ cs. IsUndoable c cs log.marks) (sym changes) (committed_undoable c old.changes mark log.marks (subst (IsUndoable c old.changes) were h) open_still)),
-        ap (λ (l : LogState). transactional_of (record { catalog = c; changes = l.changes; marks = l.marks })) same
-            ∙ ap (λ cs. transactional_of (record { catalog = c; changes = cs; marks = log.marks })) changes
+      let some : log.marks ≢ [] = λ none. absurd (omega (arith, ap length (sym none ∙ e))) in
+      let left = kept some in
+      let same : now ≡ log = inside (λ none. some (sym kept_marks ∙ none)) ∙ left.0 in
+      let open_still : 0 < length log.marks = omega (arith, ap length e) in
+      subst (λ (x : CatalogState). IsUndoable x now.changes now.marks × (transactional_of (record { catalog = x; changes = now.changes; marks = now.marks }) ≡ committed (transactional_of (record { catalog = c; changes = old.changes; marks = old.marks }))))
+      (sym left.1)
+      (subst (λ (l : LogState). IsUndoable c l.changes l.marks × (transactional_of (record { catalog = c; changes = l.changes; marks = l.marks }) ≡ committed (transactional_of (record { catalog = c; changes = old.changes; marks = old.marks }))))
+      (sym same) (
+        subst (λ cs. IsUndoable c cs log.marks) (sym changes) (committed_undoable c old.changes mark log.marks (subst (IsUndoable c old.changes) were h) open_still),
+        ap (λ cs. transactional_of (record { catalog = c; changes = cs; marks = log.marks })) changes
             ∙ sym (ap (λ ms. committed (transactional_of (record { catalog = c; changes = old.changes; marks = ms }))) were),
-      )
+      ))
 
 module _ (c d : CatalogState) (log now : LogState) (h : IsUndoable c log.changes log.marks) where
   pub rolled_back_so : (mark : ℕ) (marks : List ℕ) → IsConsistent d → log.marks ≡ mark ∷ marks → now.marks ≡ marks → CanUndo now.changes (outline_of d) → length now.changes ≡ mark
@@ -204,6 +212,25 @@ module _ (c d : CatalogState) (log now : LogState) (h : IsUndoable c log.changes
   changed_so (Err e) ok some noted outline same =
       subst (λ (l : LogState). IsUndoable d l.changes l.marks × (saved_of (record { catalog = d; changes = l.changes; marks = l.marks }) ≡ saved_of (record { catalog = c; changes = log.changes; marks = log.marks })))
       (sym same) (same_undoable c d outline log.changes log.marks h, same_saves c d outline log.changes log.marks)
+
+-- where a transaction is open, so is what it began with kept
+pub saved_some : (t : TransactionalState) → 0 < length t.marks → saved_of t ≢ []
+saved_some t some none = absurd (omega (arith, some, ap length (no_marks (database_at t) t.marks none)))
+
+-- why a call is refused, outside of transactions and in one
+pub refused_outside : {X : Type 0} (A : Type 0) (P : Refusal → Type 0) (r : Result X Refusal) → IfErr r P → IfErr r (λ refusal. ((refusal ≡ NoMemory) × A) ⊎ P refusal)
+refused_outside A P (Ok x) why = why
+refused_outside A P (Err e) why = inr why
+
+pub refused_inside : {A X : Type 0} (P : Refusal → Type 0) (r : Result X Refusal) → A → IfErr r (λ refusal. (refusal ≡ NoMemory) ⊎ P refusal) → IfErr r (λ refusal. ((refusal ≡ NoMemory) × A) ⊎ P refusal)
+refused_inside P (Ok x) inside why = why
+refused_inside P (Err e) inside (inl memory) = inl (memory, inside)
+refused_inside P (Err e) inside (inr why) = inr why
+
+-- what left the catalog left its outline
+pub kept_outline : (c d : CatalogState) {X Y : Type 0} (r : Result X Y) → OnErr r (d ≡ c) → OnErr r (outline_of d ≡ outline_of c)
+kept_outline c d (Ok x) kept = kept
+kept_outline c d (Err e) kept = ap outline_of kept
 
 -- what was refused left the catalog
 pub refused_outline : (c d : CatalogState) (effect : Effect) {X : Type 0} (r : Result X Refusal) → IfErr r (IsRefusedFor c d effect) → OnErr r (outline_of d ≡ outline_of c)

@@ -1,19 +1,29 @@
 -- What a log of changes is seen as.
-use Rattle.std.specs.Prelude.{◌≡◌, ℕ, ◌≤◌, List, [], ◌∷◌, drop, take}
+use Rattle.std.specs.Prelude.{◌≡◌, ℕ, ◌≤◌, List, [], ◌∷◌, Some, drop, length, slice_get, take}
 use Rattle.part_raw.specs.declared.tuple_ref.TupleRef.{TupleRef}
-use Rattle.mm_catalog.specs.Outline.{Outline}
+use Rattle.mm_relation.specs.State.{RelationState}
+use Rattle.mm_catalog.specs.Changes.{KeepsDatabase}
+use Rattle.mm_catalog.specs.Outline.{Outline, outline_of}
+use Rattle.mm_catalog.specs.State.{CatalogState}
+use Rattle.mm_transactions.specs.declared.log.Kind.{Kind}
+use Rattle.mm_transactions.specs.declared.log.Kind.TheVariants as kind
 use Rattle.mm_transactions.specs.declared.log.Step.{Step}
-use Rattle.mm_transactions.specs.Undoing.{Change, Came, IsReady, before}
+use Rattle.mm_transactions.specs.Undoing.{Change, Came, Went, IsReady, before, settled}
 
 -- the changes of the open transactions, the newest first, and how many there were when each began, the innermost first
 pub record LogState : Type 0 where
   pub changes : List Change
   pub marks : List ℕ
 
+-- the change of a kind
+abbrev pub change_of : Kind → ℕ → List TupleRef → Change
+change_of kind.Came n refs = Came n refs
+change_of kind.Went n refs = Went n refs
+
 -- the changes of steps, the newest first, whose references are these, the oldest first
 abbrev pub changes_of : List Step → List TupleRef → List Change
 changes_of [] refs = []
-changes_of (step ∷ older) refs = Came step.table.0 (drop step.start refs) ∷ changes_of older (take step.start refs)
+changes_of (step ∷ older) refs = change_of step.kind step.table.0 (drop step.start refs) ∷ changes_of older (take step.start refs)
 
 -- the references of each step begin among the first so many, behind those of the steps before it
 abbrev pub AreSteps : List Step → ℕ → Type 0
@@ -34,3 +44,18 @@ pub record IsUndone (old new : Outline) (log now : LogState) : Type 0 where
   pub undone : new ≡ before change old
   pub changes : log.changes ≡ change ∷ now.changes
   pub marks : now.marks ≡ log.marks
+
+-- the catalog differs at most in hidden rows, and in how many rows are owed
+pub record AreSettled (old new : CatalogState) : Type 0 where
+  pub database : KeepsDatabase old new
+  pub names : new.names ≡ old.names
+  pub count : length new.relations ≡ length old.relations
+  pub each : (k : ℕ) (s t : RelationState) → slice_get old.relations k ≡ Some s → slice_get new.relations k ≡ Some t → t ≡ record s { hidden = t.hidden; owed = t.owed }
+
+-- the newest change was settled, and is no longer noted
+pub record IsSettledOnce (old new : CatalogState) (log now : LogState) : Type 0 where
+  pub change : Change
+  pub settled : outline_of new ≡ settled change (outline_of old)
+  pub changes : log.changes ≡ change ∷ now.changes
+  pub marks : now.marks ≡ log.marks
+  pub catalog : AreSettled old new

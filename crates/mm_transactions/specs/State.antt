@@ -1,6 +1,6 @@
 -- What a catalog with transactions is seen as.
-use Rattle.std.specs.Prelude.{◌≡◌, ℕ, List, map, length, refl}
-use Rattle.std.specs.Coded.{Coded, code_by, coded×, coded_list, coded_ℕ}
+use Rattle.std.specs.Prelude.{Bool, true, false, ◌≡◌, ℕ, List, map, length, refl}
+use Rattle.std.specs.Coded.{Coded, code_by, coded×, coded_bool, coded_list, coded_ℕ}
 use Rattle.part_raw.specs.TupleRefs.{ref_code}
 use Rattle.part_raw.specs.declared.tuple_ref.TupleRef.{TupleRef}
 use Rattle.plain_tables.specs.Databases.{Database}
@@ -9,7 +9,7 @@ use Rattle.mm_catalog.specs.Outline.{outline_of}
 use Rattle.mm_catalog.specs.Seen.{database_of}
 use Rattle.mm_catalog.specs.State.{CatalogState}
 use Rattle.mm_transactions.specs.Tables.{tables_in}
-use Rattle.mm_transactions.specs.Undoing.{Change, Came, CanUndo, AreMarks, undone}
+use Rattle.mm_transactions.specs.Undoing.{Change, Came, Went, CanUndo, AreMarks, undone}
 
 -- the tables; the changes of the open transactions, the newest first; how many there were when each began, the innermost first
 pub record TransactionalState : Type 0 where
@@ -17,17 +17,20 @@ pub record TransactionalState : Type 0 where
   pub changes : List Change
   pub marks : List ℕ
 
-abbrev pub as_pair : Change → ℕ × List TupleRef
-as_pair (Came n refs) = (n, refs)
+abbrev pub as_parts : Change → Bool × (ℕ × List TupleRef)
+as_parts (Came n refs) = (true, (n, refs))
+as_parts (Went n refs) = (false, (n, refs))
 
-abbrev pub as_change : ℕ × List TupleRef → Change
-as_change p = Came p.0 p.1
+abbrev pub as_change : Bool × (ℕ × List TupleRef) → Change
+as_change (true, (n, refs)) = Came n refs
+as_change (false, (n, refs)) = Went n refs
 
-pub same_change : (c : Change) → as_change (as_pair c) ≡ c
+pub same_change : (c : Change) → as_change (as_parts c) ≡ c
 same_change (Came n refs) = refl
+same_change (Went n refs) = refl
 
 abbrev pub change_code : Coded Change
-change_code = code_by (ℕ × List TupleRef) (coded× coded_ℕ (coded_list ref_code)) as_pair as_change same_change
+change_code = code_by (Bool × (ℕ × List TupleRef)) (coded× coded_bool (coded× coded_ℕ (coded_list ref_code))) as_parts as_change same_change
 
 abbrev pub state_code : Coded CatalogState → Coded TransactionalState
 state_code catalog =

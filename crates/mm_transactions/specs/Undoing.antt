@@ -1,35 +1,58 @@
 -- What it is to undo changes, the newest first.
-use Rattle.std.specs.Prelude.{◌≡◌, ℕ, ◌≤◌, List, [], ◌∷◌, if◌then◌else◌, length, nat_lt}
+use Rattle.std.specs.Prelude.{◌≡◌, ℕ, ◌≤◌, List, [], ◌∷◌, if◌then◌else◌, length, map, nat_lt}
+use Rattle.part_raw.specs.Store.{Tuples}
 use Rattle.part_raw.specs.declared.tuple_ref.TupleRef.{TupleRef}
-use Rattle.mm_catalog.specs.Consistent.{IsConsistent}
-use Rattle.mm_catalog.specs.Outline.{Outline, HoldsOnce, outline_of, without_rows}
-use Rattle.mm_catalog.specs.State.{CatalogState}
+use Rattle.mm_relation.specs.Rows.{Row}
+use Rattle.mm_catalog.specs.Outline.{Outline, HidesOnce, HoldsOnce, IsOutline, with_dropped, with_shown, without_rows}
 
--- a change: the rows of these references came into the table of a number
+-- a change: the rows of these references came into the table of a number, or went out of it and are hidden
 pub data Change : Type 0 where
   Came : ℕ → List TupleRef → Change
+  Went : ℕ → List TupleRef → Change
 
 -- the outline before a change
 abbrev pub before : Change → Outline → Outline
 before (Came n refs) o = without_rows n refs o
+before (Went n refs) o = with_shown n refs o
 
 -- the outline when so many changes had been noted
 abbrev pub undone : ℕ → List Change → Outline → Outline
 undone mark [] o = o
 undone mark (c ∷ changes) o = if nat_lt (length changes) mark then o else undone mark changes (before c o)
 
--- it is the outline of a catalog that is consistent
-abbrev pub Stands : Outline → Type 0
-Stands o = (c : CatalogState) × IsConsistent c × (outline_of c ≡ o)
-
 -- the rows of a change are as the change left them
 abbrev pub IsReady : Change → Outline → Type 0
 IsReady (Came n refs) o = HoldsOnce o n refs
+IsReady (Went n refs) o = HidesOnce o n refs
 
 -- each change can be undone, once those after it are
 abbrev pub CanUndo : List Change → Outline → Type 0
 CanUndo [] o = Unit {0}
-CanUndo (c ∷ changes) o = IsReady c o × Stands (before c o) × CanUndo changes (before c o)
+CanUndo (c ∷ changes) o = IsReady c o × IsOutline (before c o) × CanUndo changes (before c o)
+
+-- the hidden rows of each table, and how many rows it owes
+abbrev pub set_aside : Outline → List (Tuples Row × ℕ)
+set_aside o = map (λ s. (s.hidden, s.owed)) o.relations
+
+-- the outline once a change is never to be undone: the rows that went are dropped
+abbrev pub settled : Change → Outline → Outline
+settled (Came n refs) o = o
+settled (Went n refs) o = with_dropped n refs o
+
+-- what is hidden for a change is hidden, and owed
+abbrev pub IsOwed : Change → Outline → Type 0
+IsOwed (Came n refs) o = Unit {0}
+IsOwed (Went n refs) o = HidesOnce o n refs
+
+-- so it is for each change, once those after it are settled
+abbrev pub CanSettle : List Change → Outline → Type 0
+CanSettle [] o = Unit {0}
+CanSettle (c ∷ changes) o = IsOwed c o × CanSettle changes (settled c o)
+
+-- the outline once all changes are
+abbrev pub all_settled : List Change → Outline → Outline
+all_settled [] o = o
+all_settled (c ∷ changes) o = all_settled changes (settled c o)
 
 -- Each open transaction began with at most as many changes as the one in it, and the outermost with none. The innermost stands
 -- first, and so many changes there are.

@@ -2,17 +2,19 @@
 //!
 //! ```text
 //!  catalog    the tables as they are
-//!  log        steps   emp: 2 rows came │ dept: 1 row came │ emp: 1 row came     the oldest first
-//!             refs    7 8              │ 3                │ 9
+//!  log        steps   emp: 2 rows came │ dept: 1 row came │ emp: 1 row went     the oldest first
+//!             refs    7 8              │ 3                │ 7
 //!             marks   0                                   2                    where each open transaction begins
 //! ```
 //!
 //! A rollback takes the steps back to the innermost mark, the newest first. Nothing is copied when a transaction begins. It knows
-//! no names and makes no checks: the catalog does the changes, and says of each which rows came.
+//! no names and makes no checks: the catalog does the changes, and says of each which rows came. Rows that went are hidden
+//! there, and keep their references, until the outermost transaction ends.
 //!
 //! - Each open transaction can be rolled back to just the database that it began with, without memory.
 //! - Outside a transaction nothing is noted.
-//! - In a transaction rows are inserted and loaded. All other changes are made outside.
+//! - In a transaction rows are inserted, loaded and deleted. All other changes are made outside.
+//! - A commit of the outermost transaction drops what is hidden.
 #![tactic(auto)]
 
 mod log;

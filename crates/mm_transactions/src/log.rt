@@ -1,5 +1,9 @@
 //! What was done in the open transactions, and how it is undone.
-ghost use Rattle.std.specs.Prelude.{◌≡◌, ◌≢◌, ◌<◌, ◌≤◌, ◌∷◌, ℕ, [], MatchOption, IfErr, OnOk, OnErr, length, vec_capacity};
+ghost use Rattle.std.specs.Prelude.{Bool, ◌≡◌, ◌≢◌, ◌⊎◌, ◌+◌, ◌<◌, ◌≤◌, ◌∷◌, ◌++◌, ℕ, [], MatchOption, IfErr, OnOk, OnErr, length, vec_capacity};
+ghost use Rattle.std.specs.List.{AllPairs};
+ghost use Rattle.mm_catalog.specs.Outline.{IsOutline, outline_of};
+ghost use Rattle.mm_transactions.specs.Log.{AreSettled, change_of};
+ghost use Rattle.mm_transactions.specs.Undoing.{IsOwed, IsReady, before, settled};
 
 use mm_catalog::Catalog;
 use mm_catalog::laws::a_catalog_is_consistent;
@@ -9,9 +13,19 @@ use plain_tables::{Refusal, Sequence, TableNumber, Value};
 use std::alloc::Global;
 use std::marker::Model;
 
-/// A command that was done: rows came into a table. Their references stand in the log's list from `start` to the next step's.
+/// What a command did with rows of a table.
+#[derive(Clone, Copy)]
+pub enum Kind {
+    /// They came in.
+    Came,
+    /// They went out, and are hidden.
+    Went,
+}
+
+/// A command that was done. The references of its rows stand in the log's list from `start` to the next step's.
 #[derive(Clone, Copy)]
 pub struct Step {
+    kind: Kind,
     table: TableNumber,
     start: usize,
 }
@@ -45,10 +59,13 @@ impl UndoLog {
     ghost use Rattle.plain_tables.specs.ResolvedLaws.{IsMeant};
     ghost use Rattle.plain_tables.specs.declared.resolved.Resolved.TheVariants as resolved;
     ghost use Rattle.mm_catalog.specs.Changes.{HasEffect, IsRefusedFor, IsDeclinedFor};
-    ghost use Rattle.mm_catalog.specs.Outline.{outline_of};
+    ghost use Rattle.mm_catalog.specs.Picked.{ArePicked, HoldsRows};
     ghost use Rattle.mm_catalog.specs.Seen.{database_of};
-    ghost use Rattle.mm_transactions.specs.Log.{IsNoted, IsUndone};
-    ghost use Rattle.mm_transactions.specs.Undoing.{CanUndo, undone};
+    ghost use Rattle.plain_tables.specs.Doing as doing;
+    ghost use Rattle.plain_tables.specs.Effects.{Refused};
+    ghost use Rattle.plain_tables.specs.Tables.{Row};
+    ghost use Rattle.mm_transactions.specs.Log.{IsNoted, IsSettledOnce, IsUndone};
+    ghost use Rattle.mm_transactions.specs.Undoing.{CanSettle, CanUndo, all_settled, undone};
 
     /// No steps, and no transaction. It takes no memory.
     pub fn new(alloc: Global) -> UndoLog
@@ -119,9 +136,10 @@ impl UndoLog {
         ensures refused { IfErr result (IsRefusedFor catalog.old catalog.new (done catalog.old.limits (database_of catalog.old) (resolved.Insert table values.now))) }
         ensures unchanged { OnErr result (self.new ≡ self.old) }
     {
-        make_room(&mut self.steps, &mut self.refs)?;
+        make_room(&mut self.steps, &mut self.refs, 1)?;
         let r = catalog.insert_row(table, values)?;
         let step = Step {
+            kind: Kind::Came,
             table,
             start: self.refs.len(),
         };
@@ -144,11 +162,74 @@ impl UndoLog {
         ensures outline { OnErr result (outline_of catalog.new ≡ outline_of catalog.old) }
         ensures unchanged { OnErr result (self.new ≡ self.old) }
     {
-        make_room(&mut self.steps, &mut self.refs)?;
+        make_room(&mut self.steps, &mut self.refs, 0)?;
         let start = self.refs.len();
         catalog.load_listed(table, rows, &mut self.refs)?;
-        self.steps.push_reserved(Step { table, start });
+        self.steps.push_reserved(Step {
+            kind: Kind::Came,
+            table,
+            start,
+        });
         Ok(())
+    }
+
+    /// Deletes rows of a table of a catalog, which are hidden there, and notes them.
+    pub fn delete(
+        &mut self,
+        catalog: &mut Catalog,
+        table: TableNumber,
+        rows: &[TupleRef],
+    ) -> Result<(), Refusal>
+        requires there { table.0 < length (database_of catalog.old) }
+        requires held { HoldsRows catalog.old table.0 rows.now }
+        requires once { AllPairs (λ q r. q ≢ r) rows.now }
+        ensures deleted { OnOk result ((picks : Row → Bool) → ArePicked catalog.old table.0 rows.now picks → HasEffect catalog.old catalog.new (doing.delete (database_of catalog.old) table picks) (length rows.now)) }
+        ensures noted { OnOk result (IsNoted (outline_of catalog.old) (outline_of catalog.new) self.old self.new) }
+        ensures refused { IfErr result (λ refusal. (refusal ≡ Refusal.NoMemory) ⊎ ((picks : Row → Bool) → ArePicked catalog.old table.0 rows.now picks → (doing.delete (database_of catalog.old) table picks).outcome ≡ Refused refusal)) }
+        ensures kept { OnErr result (catalog.new ≡ catalog.old) }
+        ensures unchanged { OnErr result (self.new ≡ self.old) }
+    {
+        make_room(&mut self.steps, &mut self.refs, rows.len())?;
+        catalog.hide(table, rows)?;
+        let start = self.refs.len();
+        note_rows(&mut self.refs, rows);
+        self.steps.push_reserved(Step {
+            kind: Kind::Went,
+            table,
+            start,
+        });
+        Ok(())
+    }
+
+    // Settles the newest step: what it hides is dropped, and it is noted no longer. It takes no memory.
+    fn settle_newest(&mut self, catalog: &mut Catalog)
+        requires some { 0 < length self.old.changes }
+        requires ready { CanSettle self.old.changes (outline_of catalog.old) }
+        ensures settled { IsSettledOnce catalog.old catalog.new self.old self.new }
+    {
+        let Some(step) = self.steps.pop() else {
+            unreachable!();
+        };
+        settle_step(catalog, step.kind, step.table, &self.refs[step.start..]);
+        self.refs.truncate(step.start);
+    }
+
+    /// If no transaction is open, settles all steps: what they hide is dropped, and they are noted no longer. It takes no
+    /// memory, and never fails.
+    pub fn settle_all(&mut self, catalog: &mut Catalog)
+        requires ready { CanSettle self.old.changes (outline_of catalog.old) }
+        ensures marks { self.new.marks ≡ self.old.marks }
+        ensures inside { self.old.marks ≢ [] → (self.new ≡ self.old) × (catalog.new ≡ catalog.old) }
+        ensures outside { self.old.marks ≡ [] → self.new.changes ≡ [] }
+        ensures settled { self.old.marks ≡ [] → outline_of catalog.new ≡ all_settled self.old.changes (outline_of catalog.old) }
+        ensures catalog { AreSettled catalog.old catalog.new }
+    {
+        if !self.marks.is_empty() {
+            return;
+        }
+        while self.len() > 0 {
+            self.settle_newest(catalog);
+        }
     }
 
     // Undoes the newest step. It takes no memory.
@@ -157,11 +238,10 @@ impl UndoLog {
         requires ready { CanUndo self.old.changes (outline_of catalog.old) }
         ensures undone { IsUndone (outline_of catalog.old) (outline_of catalog.new) self.old self.new }
     {
-        a_catalog_is_consistent(catalog);
         let Some(step) = self.steps.pop() else {
             unreachable!();
         };
-        catalog.take_back(step.table, &self.refs[step.start..]);
+        undo_step(catalog, step.kind, step.table, &self.refs[step.start..]);
         self.refs.truncate(step.start);
     }
 
@@ -180,16 +260,51 @@ impl UndoLog {
     }
 }
 
-// Makes sure of room for a step more, and a reference.
-fn make_room(steps: &mut Vec<Step>, refs: &mut Vec<TupleRef>) -> Result<(), NoMemory>
+// Undoes what a step did with rows of a table. It takes no memory.
+fn undo_step(catalog: &mut Catalog, kind: Kind, table: TableNumber, rows: &[TupleRef])
+    requires ready { IsReady (change_of kind table.0 rows.now) (outline_of catalog.old) }
+    requires stands { IsOutline (before (change_of kind table.0 rows.now) (outline_of catalog.old)) }
+    ensures { outline_of catalog.new ≡ before (change_of kind table.0 rows.now) (outline_of catalog.old) }
+{
+    a_catalog_is_consistent(catalog);
+    match kind {
+        Kind::Came => catalog.take_back(table, rows),
+        Kind::Went => catalog.show(table, rows),
+    }
+}
+
+// Settles what a step did with rows of a table. It takes no memory.
+fn settle_step(catalog: &mut Catalog, kind: Kind, table: TableNumber, rows: &[TupleRef])
+    requires { IsOwed (change_of kind table.0 rows.now) (outline_of catalog.old) }
+    ensures outline { outline_of catalog.new ≡ settled (change_of kind table.0 rows.now) (outline_of catalog.old) }
+    ensures catalog { AreSettled catalog.old catalog.new }
+{
+    match kind {
+        Kind::Came => {}
+        Kind::Went => catalog.drop_hidden(table, rows),
+    }
+}
+
+// Makes sure of room for a step more, and so many references.
+fn make_room(steps: &mut Vec<Step>, refs: &mut Vec<TupleRef>, count: usize) -> Result<(), NoMemory>
     ensures steps { steps.new.items ≡ steps.old.items }
     ensures refs { refs.new.items ≡ refs.old.items }
     ensures step_room { OnOk result (length steps.new.items < vec_capacity steps.new) }
-    ensures ref_room { OnOk result (length refs.new.items < vec_capacity refs.new) }
+    ensures ref_room { OnOk result (length refs.new.items + count ≤ vec_capacity refs.new) }
 {
     steps.reserve(1)?;
-    refs.reserve(1)?;
+    refs.reserve(count)?;
     Ok(())
+}
+
+// Puts references behind those of a list, which has room for them.
+fn note_rows(refs: &mut Vec<TupleRef>, rows: &[TupleRef])
+    requires { length refs.old.items + length rows.now ≤ vec_capacity refs.old }
+    ensures { refs.new.items ≡ refs.old.items ++ rows.now }
+{
+    for r in rows {
+        refs.push_reserved(*r);
+    }
 }
 
 // Empties a list, and frees its memory if that is more than is kept.

@@ -1,5 +1,6 @@
 //! A catalog with transactions.
-ghost use Rattle.std.specs.Prelude.{◌≡◌, ◌≢◌, ◌≤◌, [], IfErr, OnOk, OnErr, length};
+ghost use Rattle.std.specs.Prelude.{Bool, ◌≡◌, ◌≢◌, ◌⊎◌, ◌<◌, ◌≤◌, [], IfErr, OnOk, OnErr, length};
+ghost use Rattle.std.specs.List.{AllPairs};
 ghost use Rattle.std.specs.Borrow.{sem};
 
 use crate::log::UndoLog;
@@ -7,6 +8,7 @@ use crate::no_transaction::NoTransaction;
 use mm_catalog::Catalog;
 use mm_catalog::laws::a_catalog_is_consistent;
 use no_memory::NoMemory;
+use part_raw::TupleRef;
 use plain_tables::{Limits, Refusal, Sequence, TableNumber, Value};
 use std::alloc::Global;
 use std::marker::Model;
@@ -37,9 +39,16 @@ impl TransactionalCatalog {
     ghost use Rattle.plain_tables.specs.Transactions.{begun, committed, rolled_back};
     ghost use Rattle.plain_tables.specs.declared.resolved.Resolved.TheVariants as resolved;
     ghost use Rattle.mm_catalog.specs.Changes.{HasEffect, IsRefusedFor, IsDeclinedFor};
+    ghost use Rattle.mm_catalog.specs.Outline.{outline_of};
+    ghost use Rattle.mm_catalog.specs.Picked.{ArePicked, HoldsRows};
     ghost use Rattle.mm_catalog.specs.Seen.{database_of};
+    ghost use Rattle.plain_tables.specs.Doing as doing;
+    ghost use Rattle.plain_tables.specs.Effects.{Refused};
+    ghost use Rattle.plain_tables.specs.Tables.{Row};
     ghost use Rattle.mm_transactions.specs.Lent.{LendsCatalog};
+    ghost use Rattle.mm_transactions.specs.Log.{AreSettled};
     ghost use Rattle.mm_transactions.specs.State.{saved_of, transactional_of};
+    ghost use Rattle.mm_transactions.specs.Undoing.{all_settled};
 
     /// No tables, under these limits, and no transaction. It takes no memory.
     pub fn new(alloc: Global, limits: Limits) -> TransactionalCatalog
@@ -89,9 +98,11 @@ impl TransactionalCatalog {
         self.log.open()
     }
 
-    /// Ends the innermost transaction, and keeps what was done in it.
+    /// Ends the innermost transaction, and keeps what was done in it. The outermost drops the rows that it hides. It takes no
+    /// memory.
     pub fn commit(&mut self) -> Result<(), NoTransaction>
-        ensures catalog { self.new.catalog ≡ self.old.catalog }
+        ensures catalog { AreSettled self.old.catalog self.new.catalog }
+        ensures dropped { OnOk result (saved_of self.new ≡ [] → outline_of self.new.catalog ≡ all_settled self.old.changes (outline_of self.old.catalog)) }
         ensures open { OnOk result (saved_of self.old ≢ []) }
         ensures committed { OnOk result (transactional_of self.new ≡ committed (transactional_of self.old)) }
         ensures none { OnErr result (saved_of self.old ≡ []) }
@@ -100,6 +111,7 @@ impl TransactionalCatalog {
         let Some(_) = self.log.close() else {
             return Err(NoTransaction);
         };
+        self.log.settle_all(&mut self.catalog);
         self.log.settle();
         Ok(())
     }
@@ -154,6 +166,24 @@ impl TransactionalCatalog {
         }
         a_catalog_is_consistent(&self.catalog);
         self.log.load_rows(&mut self.catalog, table, rows)
+    }
+
+    /// Deletes rows of a table, or none where a row of some table refers to one of them. In a transaction it deletes none, too,
+    /// where no memory is found, or where more than 16,777,216 rows of the table are owed then.
+    pub fn delete(&mut self, table: TableNumber, rows: &[TupleRef]) -> Result<(), Refusal>
+        requires there { table.0 < length (database_of self.old.catalog) }
+        requires held { HoldsRows self.old.catalog table.0 rows.now }
+        requires once { AllPairs (λ q r. q ≢ r) rows.now }
+        ensures deleted { OnOk result ((picks : Row → Bool) → ArePicked self.old.catalog table.0 rows.now picks → HasEffect self.old.catalog self.new.catalog (doing.delete (database_of self.old.catalog) table picks) (length rows.now)) }
+        ensures refused { IfErr result (λ refusal. ((refusal ≡ Refusal.NoMemory) × (saved_of self.old ≢ [])) ⊎ ((picks : Row → Bool) → ArePicked self.old.catalog table.0 rows.now picks → (doing.delete (database_of self.old.catalog) table picks).outcome ≡ Refused refusal)) }
+        ensures unchanged { OnErr result (self.new ≡ self.old) }
+        ensures saved { saved_of self.new ≡ saved_of self.old }
+    {
+        if self.log.depth() == 0 {
+            return self.catalog.delete(table, rows);
+        }
+        a_catalog_is_consistent(&self.catalog);
+        self.log.delete(&mut self.catalog, table, rows)
     }
 
     /// The tables, to be changed in any way where no transaction is open.
