@@ -1,5 +1,5 @@
--- Declaring: which lines may change the names and columns of tables, and which may be done in a transaction.
-use Rattle.std.specs.Prelude.{ℕ, List, [], ◌∷◌, Bool, true, false, if◌then◌else◌, ◌||◌, nat_eq, IsTrue}
+-- Declaring: which lines may change the names and columns of tables, and which may declare or drop anything.
+use Rattle.std.specs.Prelude.{ℕ, List, [], ◌∷◌, Bool, true, false, if◌then◌else◌, ◌||◌, nat_eq, not, ◌&&◌, IsTrue}
 use Rattle.std.specs.List.{starts_with}
 use lib.Chars.{codes}
 use Rattle.plain_tables.specs.Spelling.{Spells, is_blank}
@@ -21,9 +21,18 @@ declares c = false
 abbrev pub IsOfTables : List ℕ → Type 0
 IsOfTables line = (c : Command) × Spells line c × IsTrue (declares c)
 
--- whether a text begins with the first word of an insert, a load, a select, a dump or the list of tables
-abbrev pub begins_for_transactions : List ℕ → Bool
-begins_for_transactions text =
-    starts_with nat_eq text (codes "insert")
-    || (starts_with nat_eq text (codes "load")
-    || (starts_with nat_eq text (codes "select") || (starts_with nat_eq text (codes "dump") || starts_with nat_eq text (codes "tables"))))
+-- whether a command declares or drops a table or an index
+abbrev pub is_declaration : Command → Bool
+is_declaration (command.Index table column kind) = true
+is_declaration (command.DropIndex table column kind) = true
+is_declaration c = declares c
+
+-- the line spells a declaration
+abbrev pub IsDeclaration : List ℕ → Type 0
+IsDeclaration line = (c : Command) × Spells line c × IsTrue (is_declaration c)
+
+-- whether a text begins with the first word of a declaration, which is not that of the list of tables
+abbrev pub begins_declaration : List ℕ → Bool
+begins_declaration text =
+    (starts_with nat_eq text (codes "table") && not (starts_with nat_eq text (codes "tables")))
+    || (starts_with nat_eq text (codes "index") || starts_with nat_eq text (codes "drop"))

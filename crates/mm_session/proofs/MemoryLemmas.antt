@@ -1,5 +1,5 @@
 -- What a delete is refused for: never because memory ran out.
-use Rattle.std.proofs.Common.{◌≡◌, ◌≢◌, Bool, true, false, Option, Some, None, cond, length}
+use Rattle.std.proofs.Common.{◌≢◌, Bool, true, false, Option, Some, None, cond, length}
 use Rattle.std.specs.List.{list_any, slice_get}
 use Rattle.std.specs.Option.{option_map_or}
 use Rattle.plain_tables.specs.Databases.{Database}

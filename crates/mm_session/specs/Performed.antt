@@ -14,12 +14,12 @@ pub record HasPerformed (old new : CatalogState) (effect : Effect) (answer : Lis
   pub limits : new.limits ≡ old.limits
   pub told : answer ≡ answer_text effect.outcome
 
--- With these databases saved by open transactions the command can be done: inserts, loads and what only reads always, all others if
--- none is open.
+-- With these databases saved by open transactions the command can be done: declarations and updates if none is open, all
+-- others always.
 abbrev pub CanBeDone : List Database → Resolved → Type 0
-CanBeDone saved (resolved.Insert n row) = Unit {0}
-CanBeDone saved (resolved.Load n rows) = Unit {0}
-CanBeDone saved (resolved.Select query) = Unit {0}
-CanBeDone saved (resolved.Dump n) = Unit {0}
-CanBeDone saved resolved.Tables = Unit {0}
-CanBeDone saved r = saved ≡ []
+CanBeDone saved (resolved.Table name schema) = saved ≡ []
+CanBeDone saved (resolved.DropTable n) = saved ≡ []
+CanBeDone saved (resolved.Index n column kind) = saved ≡ []
+CanBeDone saved (resolved.DropIndex n column kind) = saved ≡ []
+CanBeDone saved (resolved.Update n assignments tests) = saved ≡ []
+CanBeDone saved r = Unit {0}

@@ -83,19 +83,19 @@ impl Executor {
         u64::from(self.tables.catalog().limits().block)
     }
 
-    // Refuses a command that is done outside of transactions alone, while one is open.
+    // Refuses a declaration and an update while a transaction is open.
     fn check_outside(&self, command: &Resolved) -> Result<(), Refusal>
         ensures ok { OnOk result (CanBeDone (saved_of self.now.tables) command.now) }
         ensures refused { IfErr result (λ e. e ≡ refusal.NoMemory) }
         ensures open { OnErr result (saved_of self.now.tables ≢ []) }
     {
         match command {
-            Resolved::Insert { .. }
-            | Resolved::Load { .. }
-            | Resolved::Select(_)
-            | Resolved::Dump { .. }
-            | Resolved::Tables => Ok(()),
-            _ if self.tables.transactions() > 0 => Err(Refusal::NoMemory),
+            Resolved::Table { .. }
+            | Resolved::DropTable { .. }
+            | Resolved::Index { .. }
+            | Resolved::DropIndex { .. }
+            | Resolved::Update { .. }
+                if self.tables.transactions() > 0 => { Err(Refusal::NoMemory) }
             _ => Ok(()),
         }
     }

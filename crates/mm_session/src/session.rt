@@ -53,6 +53,7 @@ impl Session {
     ghost use Rattle.mm_session.specs.IndexAnswers.{AnswersIndexes};
     ghost use Rattle.plain_tables.specs.Doing.{done};
     ghost use Rattle.plain_tables.specs.Transactions.{begun, committed, rolled_back};
+    ghost use Rattle.mm_transactions.specs.Log.{AreSettled};
     ghost use Rattle.plain_tables.specs.ResolvedLaws.{IsMeant};
     ghost use Rattle.plain_tables.specs.declared.refusal.Refusal.TheVariants as refusal;
     ghost use Rattle.plain_tables.specs.declared.resolved.Resolved.TheVariants as resolved;
@@ -115,7 +116,7 @@ impl Session {
     pub fn commit(&mut self) -> Result<(), NoTransaction>
         ensures open { OnOk result (self.old.saved ≢ []) }
         ensures committed { OnOk result (tables_of self.new ≡ committed (tables_of self.old)) }
-        ensures catalog { self.new.catalog ≡ self.old.catalog }
+        ensures catalog { AreSettled self.old.catalog self.new.catalog }
         ensures none { OnErr result (self.old.saved ≡ []) }
         ensures unchanged { OnErr result (self.new ≡ self.old) }
         ensures stream { IsAtSamePlace self.old self.new }

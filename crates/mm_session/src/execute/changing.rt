@@ -14,6 +14,7 @@ ghost use Rattle.mm_session.specs.Changing.{IsChange, IsDeleteByKey};
 use super::Executor;
 use super::search::rows_passing;
 use mm_catalog::Catalog;
+use mm_transactions::TransactionalCatalog;
 use plain_tables::{Assignment, Refusal, Resolved, TableNumber, Test, Value};
 use plan_chooser::Policy;
 use std::alloc::Global;
@@ -37,21 +38,22 @@ fn update_rows(
 }
 
 // Takes out the rows of a table that pass the tests, and tells how many these are. After a refusal the tables are as before. Where a
-// test asks for the key it takes no memory.
+// test asks for the key and no transaction is open, it takes no memory.
 fn delete_rows(
     alloc: Global,
     policy: Policy,
-    catalog: &mut Catalog,
+    tables: &mut TransactionalCatalog,
     table: TableNumber,
     tests: &[Test],
 ) -> Result<usize, Refusal>
-    requires { IsMeant catalog.old.limits (database_of catalog.old) (resolved.Delete table tests.now) }
-    ensures done { IfOk result (HasEffect catalog.old catalog.new (done catalog.old.limits (database_of catalog.old) (resolved.Delete table tests.now))) }
-    ensures refused { IfErr result (IsRefusedFor catalog.old catalog.new (done catalog.old.limits (database_of catalog.old) (resolved.Delete table tests.now))) }
-    ensures by_key { AskForOneRow tests.now → result ≢ Err refusal.NoMemory }
+    requires { IsMeant tables.old.catalog.limits (database_of tables.old.catalog) (resolved.Delete table tests.now) }
+    ensures done { IfOk result (HasEffect tables.old.catalog tables.new.catalog (done tables.old.catalog.limits (database_of tables.old.catalog) (resolved.Delete table tests.now))) }
+    ensures refused { IfErr result (IsRefusedFor tables.old.catalog tables.new.catalog (done tables.old.catalog.limits (database_of tables.old.catalog) (resolved.Delete table tests.now))) }
+    ensures by_key { saved_of tables.old ≡ [] → AskForOneRow tests.now → result ≢ Err refusal.NoMemory }
+    ensures saved { saved_of tables.new ≡ saved_of tables.old }
 {
-    let rows = rows_passing(alloc, policy, catalog, table, tests)?;
-    catalog.delete(table, &rows)?;
+    let rows = rows_passing(alloc, policy, tables.catalog(), table, tests)?;
+    tables.delete(table, &rows)?;
     Ok(rows.len())
 }
 
@@ -68,7 +70,7 @@ impl Executor {
     }
 
     /// Does an insert, an update or a delete, and tells how many rows it is about. After a refusal the tables are as before. In a
-    /// transaction an update and a delete are refused.
+    /// transaction an update is refused.
     pub fn change(&mut self, command: &Resolved) -> Result<usize, Refusal>
         requires meant { IsMeant self.old.tables.catalog.limits (database_of self.old.tables.catalog) command.now }
         requires change { IsChange command.now }
@@ -99,7 +101,7 @@ impl Executor {
             Resolved::Delete { table, tests } => delete_rows(
                 self.alloc,
                 self.policy,
-                self.tables.outside(),
+                &mut self.tables,
                 *table,
                 tests.as_slice(),
             ),

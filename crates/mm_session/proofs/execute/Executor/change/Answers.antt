@@ -17,14 +17,9 @@ update_rows-requires c =
 pub delete_rows-requires : goal.delete_rows-requires
 delete_rows-requires c =
     let old = c.args.self.now.tables.catalog in
-    subst (λ (k : CatalogState). IsMeant k.limits (database_of k) (resolved.Delete c.in-Delete.table c.as_slice-in-Delete.result.now)) (sym c.outside-in-Delete.ensures.catalog)
-    (subst (λ tests. IsMeant old.limits (database_of old) (resolved.Delete c.in-Delete.table tests)) (sym c.as_slice-in-Delete.ensures)
-    (rw c.in-Delete.is at c.requires.meant))
+    subst (λ tests. IsMeant old.limits (database_of old) (resolved.Delete c.in-Delete.table tests)) (sym c.as_slice-in-Delete.ensures)
+    (rw c.in-Delete.is at c.requires.meant)
 
 pub returns-in-Update-clause-saved : goal.returns-in-Update-clause-saved
 returns-in-Update-clause-saved c =
     stays_outside c.args.self.now.tables c.update_rows.new.catalog (rw c.in-Update.is at c.in_ok-check_outside.ensures.ok)
-
-pub returns-in-Delete-clause-saved : goal.returns-in-Delete-clause-saved
-returns-in-Delete-clause-saved c =
-    stays_outside c.args.self.now.tables c.delete_rows.new.catalog (rw c.in-Delete.is at c.in_ok-check_outside.ensures.ok)
