@@ -6,15 +6,22 @@
 typedef struct Turn {
     PyObject_HEAD
     PyThread_type_lock lock;
-    PyThread_type_lock reserved; /* is held while one thread has all turns, by it */
-    unsigned long owner;         /* that thread, or 0 */
-    unsigned depth;              /* how often it has reserved them */
+    PyThread_type_lock own; /* is taken in its place by a thread that keeps it, and so has the others wait */
+    unsigned long keeper;   /* that thread, or 0 */
+    unsigned depth;         /* how often it began to keep it */
 } Turn;
 
 static PyTypeObject *turn_type;
 
-static void wait_for(PyThread_type_lock lock)
+/* The lock that the turn of a call of this thread is. */
+static PyThread_type_lock lock_of(const Turn *turn)
 {
+    return turn->keeper != 0 && turn->keeper == PyThread_get_thread_ident() ? turn->own : turn->lock;
+}
+
+static void take(Turn *turn)
+{
+    PyThread_type_lock lock = lock_of(turn);
     if (PyThread_acquire_lock(lock, NOWAIT_LOCK))
         return;
     Py_BEGIN_ALLOW_THREADS
@@ -24,18 +31,7 @@ static void wait_for(PyThread_type_lock lock)
 
 static void give(Turn *turn)
 {
-    PyThread_release_lock(turn->lock);
-}
-
-static void take(Turn *turn)
-{
-    wait_for(turn->lock);
-    while (turn->owner != 0 && turn->owner != PyThread_get_thread_ident()) {
-        give(turn);
-        wait_for(turn->reserved);
-        PyThread_release_lock(turn->reserved);
-        wait_for(turn->lock);
-    }
+    PyThread_release_lock(lock_of(turn));
 }
 
 static PyObject *new_turn(void)
@@ -44,8 +40,8 @@ static PyObject *new_turn(void)
     if (turn == NULL)
         return NULL;
     turn->lock = PyThread_allocate_lock();
-    turn->reserved = PyThread_allocate_lock();
-    if (turn->lock == NULL || turn->reserved == NULL) {
+    turn->own = PyThread_allocate_lock();
+    if (turn->lock == NULL || turn->own == NULL) {
         Py_DECREF(turn);
         return PyErr_NoMemory();
     }
@@ -65,8 +61,8 @@ static void turn_dealloc(PyObject *self)
     Turn *turn = (Turn *)self;
     if (turn->lock != NULL)
         PyThread_free_lock(turn->lock);
-    if (turn->reserved != NULL)
-        PyThread_free_lock(turn->reserved);
+    if (turn->own != NULL)
+        PyThread_free_lock(turn->own);
     free_object(self);
 }
 
@@ -82,37 +78,9 @@ static PyObject *turn_exit(PyObject *self, PyObject *Py_UNUSED(why))
     return none();
 }
 
-static PyObject *turn_reserve(PyObject *self, PyObject *Py_UNUSED(none))
-{
-    Turn *turn = (Turn *)self;
-    unsigned long thread = PyThread_get_thread_ident();
-    if (turn->owner != thread) {
-        wait_for(turn->reserved);
-        wait_for(turn->lock);
-        turn->owner = thread;
-        give(turn);
-    }
-    turn->depth++;
-    return none();
-}
-
-static PyObject *turn_free(PyObject *self, PyObject *Py_UNUSED(none))
-{
-    Turn *turn = (Turn *)self;
-    if (turn->depth == 0 || --turn->depth > 0)
-        return none();
-    wait_for(turn->lock);
-    turn->owner = 0;
-    give(turn);
-    PyThread_release_lock(turn->reserved);
-    return none();
-}
-
 static PyMethodDef turn_methods[] = {
     { "__enter__", turn_enter, METH_NOARGS, "Waits for its turn." },
     { "__exit__", turn_exit, METH_VARARGS, "Ends it." },
-    { "reserve", turn_reserve, METH_NOARGS, "Has all turns be of this thread alone, which the others wait for." },
-    { "free", turn_free, METH_NOARGS, "Ends that." },
     { NULL, NULL, 0, NULL },
 };
 
@@ -455,6 +423,28 @@ static PyObject *handle_transactions(PyObject *self, PyObject *Py_UNUSED(none))
     return PyLong_FromSize_t(mmdb_transactions(&((Handle *)self)->db));
 }
 
+static PyObject *handle_keep(PyObject *self, PyObject *Py_UNUSED(none))
+{
+    Turn *turn = ((Handle *)self)->turn;
+    unsigned long thread = PyThread_get_thread_ident();
+    if (turn->keeper != thread) {
+        take(turn);
+        turn->keeper = thread;
+    }
+    turn->depth++;
+    return none();
+}
+
+static PyObject *handle_end_keeping(PyObject *self, PyObject *Py_UNUSED(none))
+{
+    Turn *turn = ((Handle *)self)->turn;
+    if (--turn->depth == 0) {
+        turn->keeper = 0;
+        give(turn);
+    }
+    return none();
+}
+
 static PyObject *handle_forget(PyObject *self, PyObject *Py_UNUSED(none))
 {
     ((Handle *)self)->declarations++;
@@ -485,6 +475,8 @@ static PyMethodDef handle_methods[] = {
     { "_rollback", handle_rollback, METH_NOARGS,
       "Ends the innermost transaction, and restores the tables that it began with." },
     { "_transactions", handle_transactions, METH_NOARGS, "How many transactions are open." },
+    { "_keep", handle_keep, METH_NOARGS, "Has other threads wait with their calls. It wants no turn." },
+    { "_end_keeping", handle_end_keeping, METH_NOARGS, "Ends that." },
     { "_share", handle_share, METH_VARARGS, "Has another handle share the tables, in the place of its own." },
     { "_leave", handle_leave, METH_NOARGS, "Leaves the tables, and has none then." },
     { "_forget", handle_forget, METH_NOARGS, "Forgets what is known of the columns of statements." },
@@ -552,7 +544,7 @@ static void let_go(Prepared *prepared)
     if (handle == NULL)
         return;
     prepared->handle = NULL;
-    if (PyThread_acquire_lock(handle->turn->lock, NOWAIT_LOCK)) {
+    if (PyThread_acquire_lock(lock_of(handle->turn), NOWAIT_LOCK)) {
         statement_finalize(handle, &prepared->statement);
         give(handle->turn);
     } else if (prepared->statement.is_prepared) {

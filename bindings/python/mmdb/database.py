@@ -315,11 +315,11 @@ class Database(Handle):
     @contextlib.contextmanager
     def _alone(self) -> Iterator[None]:
         """Has other threads wait with their calls."""
-        self._turn.reserve()
+        self._keep()
         try:
             yield
         finally:
-            self._turn.free()
+            self._end_keeping()
 
     def convert(self, column: str, to: Union[None, type, Converter]) -> None:
         """Has a column read as a type, in the rows of selects and dumps from now on.

@@ -141,47 +141,6 @@ class _Unstored(Exception):
     """A value isn't stored as it is. (It is put into that form when no call has its turn, since that may call the database.)"""
 
 
-class Turn:
-    """The turn of one call, while which no other is done. One thread may reserve all turns."""
-
-    def __init__(self) -> None:
-        self._lock = threading.Lock()
-        #: Is held while one thread has all turns, which is the owner, as often as the depth says.
-        self._reserved = threading.Lock()
-        self._owner = self._depth = 0
-
-    def __enter__(self) -> None:
-        self._lock.acquire()
-        while self._owner and self._owner != threading.get_ident():
-            self._lock.release()
-            with self._reserved:
-                pass
-            self._lock.acquire()
-
-    def __exit__(self, *_: object) -> None:
-        self._lock.release()
-
-    def begins_at_once(self) -> bool:
-        """Takes the turn if no other call has it, and says whether it did."""
-        return self._lock.acquire(blocking=False)
-
-    def reserve(self) -> None:
-        """Has all turns be of this thread alone, which the others wait for."""
-        if self._owner != threading.get_ident():
-            self._reserved.acquire()
-            with self._lock:
-                self._owner = threading.get_ident()
-        self._depth += 1
-
-    def free(self) -> None:
-        """Ends that."""
-        self._depth -= 1
-        if self._depth == 0:
-            with self._lock:
-                self._owner = 0
-            self._reserved.release()
-
-
 class Handle:
     """An open database, of which `mmdb.Database` is made.
 
@@ -196,7 +155,10 @@ class Handle:
     _failed: Any
 
     def __init__(self, policy: int, rows: int, block: int) -> None:
-        self._turn = Turn()
+        self._lock = threading.Lock()
+        #: The lock that a thread takes in its place which keeps it, and so has the others wait; and that thread, or 0.
+        self._own_lock = threading.Lock()
+        self._keeper = self._depth = 0
         self._inside = ctypes.c_void_p(None)
         self._at = ctypes.addressof(self._inside)
         self._told = _Bytes(None, 0)
@@ -219,6 +181,25 @@ class Handle:
     def closed(self) -> bool:
         """Whether it is closed."""
         return not self._inside
+
+    @property
+    def _turn(self) -> threading.Lock:
+        """The turn of its calls."""
+        return self._own_lock if self._keeper and self._keeper == threading.get_ident() else self._lock
+
+    def _keep(self) -> None:
+        """Has other threads wait with their calls. It wants no turn."""
+        if self._keeper != threading.get_ident():
+            self._lock.acquire()
+            self._keeper = threading.get_ident()
+        self._depth += 1
+
+    def _end_keeping(self) -> None:
+        """Ends that."""
+        self._depth -= 1
+        if not self._depth:
+            self._keeper = 0
+            self._lock.release()
 
     def close(self) -> None:
         """Gives all memory of the database back. A second call does nothing."""
@@ -535,11 +516,12 @@ class Prepared:
         if handle is None or self._statement.number is None:
             return
         # (it is let go at any time, where waiting for its turn could last for ever)
-        if not handle._turn.begins_at_once():
+        turn = handle._turn
+        if not turn.acquire(blocking=False):
             handle._let_go.append(self._statement.number)
             return
         self._statement.finalize(handle)
-        handle._turn.__exit__()
+        turn.release()
 
     def execute(self, /, *parameters: Any, **named: Any) -> Any:
         """Executes it with these parameters, and returns its rows, or their number."""

@@ -86,7 +86,7 @@ def by_name(table: str, columns: List[Column], names: Optional[Sequence[str]]) -
         return given.keys() == all_names if names is None else all(name in given for name in wanted)
 
     def arrange(dicts: List[Any], before: int) -> List[Tuple[Any, ...]]:
-        rows = []
+        rows: List[Tuple[Any, ...]] = []
         for number, given in enumerate(dicts, before + 1):
             if type(given) is not dict and not isinstance(given, collections.abc.Mapping):
                 raise WrongType(f"mmdb: a row is a dict, not {type(given).__name__} (row {number}); load takes others")
@@ -144,7 +144,8 @@ def blocks(header: bytes, chunks: Iterable[List[str]], limit: int, encode: Calla
     for records in filter(None, chunks):
         content = encode("\n".join(records))
         # (mostly a chunk has room, and is one piece)
-        for piece in [content] if size + 1 + len(content) <= limit else map(encode, records):
+        parts: Iterable[bytes] = [content] if size + 1 + len(content) <= limit else map(encode, records)
+        for piece in parts:
             if size + 1 + len(piece) > limit and len(pieces) > 1:
                 yield b"\n".join(pieces)
                 pieces, size = [header], len(header)
