@@ -9,6 +9,7 @@ import re
 import signal
 import subprocess
 import unittest
+import unittest.mock
 import warnings
 
 from support import embedding, hand, harness, model, shells, sizes, tested
@@ -64,7 +65,8 @@ class ThroughAPipe(shells.Piped):
     def test_lines_that_a_new_user_might_type(self):
         front = hand.FRONT.decode().splitlines()
         # (to the shell a semicolon is no mistake)
-        lines, reasons = zip(*[(line, told) for line, told in zip(hand.LINES, hand.TOLD) if ";" not in line])
+        shells_own = {"commit": "error 20 not a command: what is for the shell has a dot in front; .help lists it"}
+        lines, reasons = zip(*[(line, shells_own.get(line, told)) for line, told in zip(hand.LINES, hand.TOLD) if ";" not in line])
         told = [f"line {number}: {line}" for number, line in enumerate(reasons, len(front) + 1)]
         self.check([*front, *lines], [], told)
         told = [f"line {number}: {line.split(':')[0]}" for number, line in enumerate(reasons, len(front) + 2)]
@@ -400,10 +402,12 @@ class Loads(shells.InThisProcess):
         shell = self.shell()
         self.do(shell, "table t (k text)")
         shell.db.load("t", [("a\nb",)])
-        path = self.file("t.csv", "k\n" + "".join(f"k{at}\n" for at in range(50)))
-        why = "the file is longer than a block, and t has a key with a line feed, beside which rows could not be taken back"
-        self.do(shell, f".load t {path}", refused=f"{why}: load it in parts")
+        keys = [f"k{at}" for at in range(50)]
+        path = self.file("t.csv", "\n".join(["k", *keys, '"a\nb"']) + "\n")
+        why = "error 41 key exists (record 51)"
+        self.do(shell, f".load t {path}", refused=f"{why}; no row of {path} went in: t or an earlier record has the key 'a<U+000A>b'")
         self.assertEqual(shell.db.execute("select * from t"), [["a\nb"]])
+        self.do(shell, f".load t {self.file('t.csv', chr(10).join(['k', *keys]))}", ".count t", said="51\n")
 
     def test_ctrl_c_takes_back(self):
         shell = self.shell()
@@ -419,33 +423,27 @@ class Loads(shells.InThisProcess):
                 return super().read(count)
 
         load = moving.Load(shell.db, table, held)
+        file = File(("id\n" + "".join(f"{at}\n" for at in range(100, 999))).encode())
         with self.assertRaises(KeyboardInterrupt):
-            load.run(File(("id\n" + "".join(f"{at}\n" for at in range(100, 999))).encode()), 64)
+            shell.transactions.whole(lambda: load.run(file, 64))
         self.assertGreater(load.count, 100)
         self.assertEqual(shell.db.execute("select * from t"), [[7]])
 
-    def test_no_memory_to_see_the_keys_takes_back_too(self):
+    def test_no_memory_for_a_later_block_takes_back(self):
         shell = self.shell()
-        self.do(shell, "table t (id int)", "insert t (7)", "insert t (40)")
-        class Poor:
-            """The database, where the second select finds no memory."""
+        self.do(shell, "table t (id int)", "insert t (7)")
+        loaded, blocks = shell.db.load_csv, []
 
-            load_csv = shell.db.load_csv
-            selects = 0
+        def load_csv(name, block):
+            blocks.append(block)
+            if len(blocks) == 3:
+                raise mmdb.NoMemory(90, "no memory")
+            return loaded(name, block)
 
-            def answer(self, line, block):
-                is_select = line.startswith("select")
-                self.selects += is_select
-                return b"error 90 no memory\n" if is_select and self.selects == 2 else shell.db.answer(line, block)
-
-            def reason(self, _line, _block):
-                return None
-
-        load = moving.Load(Poor(), schema.table_of(shell.db, "t"), shell.interrupts)
-        with self.assertRaises(mmdb.Refused):
-            load.run(io.BytesIO(("id\n" + "".join(f"{at}\n" for at in range(8, 41))).encode()), 64)
-        self.assertGreater(load.count, 10)
-        self.assertEqual(shell.db.execute("select * from t"), [[7], [40]])
+        path = self.file("t.csv", "id\n" + "".join(f"{at}\n" for at in range(8, 99)))
+        with unittest.mock.patch.object(shell.db, "load_csv", load_csv):
+            self.do(shell, f".load t {path}", refused=f"error 90 no memory; no row of {path} went in")
+        self.assertEqual(shell.db.execute("select * from t"), [[7]])
 
 
 class Cuts(unittest.TestCase):
@@ -474,7 +472,7 @@ class Cuts(unittest.TestCase):
     def check(self, content, limit, size):
         """Checks one file, and tells whether its parts are several."""
         pieces = cutting.without_mark(content[at : at + size] for at in range(0, len(content), size))
-        parts = [block.content for block in cutting.blocks(pieces, limit, b"", b"id,s\n")]
+        parts = [*cutting.blocks(pieces, limit, b"", b"id,s\n")]
         self.assertTrue(all(len(part) <= limit for part in parts))
         self.assertEqual(self.loaded(parts), self.loaded([content]))
         return len(parts) > 1

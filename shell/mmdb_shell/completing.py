@@ -94,12 +94,12 @@ class Completer:
                 yield wanted
 
     def _wanted(self, front: str) -> List[str]:
-        """What the library wants behind the front of a command: it is asked of a line that is surely no command, and
-        changes nothing."""
+        """What the library wants behind the front of a command: it is asked of a line that is surely no command."""
         line = _PLACE.sub("0", front.replace("\n", " ")) + _NOTHING
         try:
-            self._shell.db.answer(line)
-            told = _WANTED.match(self._shell.db.reason(line) or "")
+            speller = self._shell.transactions.speller
+            speller.answer(line)
+            told = _WANTED.match(speller.reason(line) or "")
         except (mmdb.NoMemory, ValueError):
             return []
         return re.split(", | or ", told[1]) if told else []

@@ -3,7 +3,7 @@
 from __future__ import annotations
 
 import re
-from typing import Iterable, Iterator, NamedTuple
+from typing import Iterable, Iterator
 
 from .trouble import Trouble
 
@@ -13,18 +13,11 @@ MARK = b"\xef\xbb\xbf"
 _OPENING = re.compile(rb'(?<![^,\r\n])"')
 
 
-class Block(NamedTuple):
-    """A block, and whether it is the last."""
-
-    content: bytes
-    is_last: bool
-
-
 class Endless(Trouble):
     """A record doesn't end within the limit of a block."""
 
 
-def blocks(pieces: Iterable[bytes], limit: int, front: bytes, header: bytes) -> Iterator[Block]:
+def blocks(pieces: Iterable[bytes], limit: int, front: bytes, header: bytes) -> Iterator[bytes]:
     """The records of the pieces, in blocks of at most `limit` bytes. The first has `front` before its records, each
     further one `header`. Raises `Endless` where a record has no end within a block."""
     left = b""
@@ -34,9 +27,9 @@ def blocks(pieces: Iterable[bytes], limit: int, front: bytes, header: bytes) -> 
             end = records_end(left, max(limit - len(front), 0))
             if not end:
                 raise Endless(f"no record ends within a block of {limit} bytes; is a quote mark left open?")
-            yield Block(front + left[:end], False)
+            yield front + left[:end]
             left, front = left[end:], header
-    yield Block(front + left, True)
+    yield front + left
 
 
 def records_end(text: bytes, most: int) -> int:

@@ -41,8 +41,8 @@ def requests_of(db: mmdb.Database, limit: int) -> Iterator[Request]:
 
 def _loads_of(db: mmdb.Database, table: Table, limit: int) -> Iterator[Request]:
     for block in blocks(records(db, table), limit, table.header, table.header):
-        if block.content != table.header:
-            yield Request(b"load %s %d" % (table.name.encode(), len(block.content)), block.content)
+        if block != table.header:
+            yield Request(b"load %s %d" % (table.name.encode(), len(block)), block)
 
 
 def _empty_references_of(db: mmdb.Database, table: Table) -> Iterator[Request]:

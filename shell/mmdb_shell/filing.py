@@ -27,7 +27,8 @@ def _load(shell: Shell, name: str, path: str) -> None:
     load = moving.Load(shell.db, table, shell.interrupts)
     try:
         with opened(path, shell.interrupts) as file, told_of(path), shell.bar(size_of(file), "bytes") as bar:
-            count = load.run(Read(file, bar), shell.settings.block)
+            source = Read(file, bar)
+            count = shell.transactions.whole(lambda: load.run(source, shell.settings.block))
     except mmdb.Refused as why:
         wanted = f"; its first record has to be {table.header.decode().strip()}" if why.number == 61 else ""
         raise Trouble(f"{moving.numbered(why)}{wanted}; no row of {path} went in", why.reason) from why
@@ -153,6 +154,7 @@ def _move(
     shell: Shell, settings: Settings, fill: Callable[[mmdb.Database, Bar], None], total: Optional[int] = None
 ) -> None:
     """Takes a new database once it is filled. Until then the one that is there stays."""
+    shell.transactions.check_none()
     new = settings.opened()
     try:
         with shell.bar(total, "") as bar, shell.interrupts.allowed():

@@ -15,7 +15,7 @@ from mmdb.quotes import BEHIND, OPEN, Odd
 
 from .bars import Bar, Read
 from .cutting import MARK
-from .moving import Load, Readable, answer, numbered, warning_of
+from .moving import Load, Readable, numbered, warning_of
 from .schema import Table, table_of, tables_of
 from .trouble import Trouble
 from .words import RESERVED
@@ -93,7 +93,7 @@ class Import:
             return self._loaded(table, file, path, bar)
         except BaseException:
             if made:
-                answer(self._shell.db, f"drop table {table.name}")
+                self._shell.transactions.answer(f"drop table {table.name}".encode())
             raise
 
     def _loaded(self, table: Table, file: BufferedReader, path: str, bar: Bar) -> Tuple[int, List[str]]:
@@ -114,7 +114,7 @@ class Import:
         """Loads what is in the form of a load."""
         load = Load(self._shell.db, table, self._shell.interrupts)
         try:
-            return load.run(file, self._shell.settings.block)
+            return self._shell.transactions.whole(lambda: load.run(file, self._shell.settings.block))
         except mmdb.Refused as why:
             raise Trouble(f"{numbered(why)}; no row of {path} went in", why.reason) from why
         finally:
@@ -145,7 +145,7 @@ class Import:
             raise Trouble(f"the file has no column {key}; it has {', '.join(kinds)}")
         order = [key, *(name for name in kinds if name != key)]
         declared = ", ".join(f"{name} {kinds[name]}" for name in order)
-        answer(self._shell.db, f"table {self._name} ({declared})")
+        self._shell.transactions.answer(f"table {self._name} ({declared})".encode())
         return table_of(self._shell.db, self._name)
 
 

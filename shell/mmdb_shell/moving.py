@@ -9,7 +9,7 @@ from typing import Iterator, List, Optional, Protocol, Tuple, Union
 
 import mmdb
 
-from .cutting import Block, Endless, blocks, without_mark
+from .cutting import Endless, blocks, without_mark
 from .interrupts import Interrupts
 from .schema import Column, Table
 from .trouble import Trouble
@@ -99,31 +99,26 @@ def all_keys(table: Table) -> str:
 
 
 class Load:
-    """A load of a CSV of any size into a table: all of its rows go in, or none."""
+    """A load of a CSV of any size into a table, block by block. A transaction around it makes it whole or none."""
 
     def __init__(self, db: mmdb.Database, table: Table, interrupts: Interrupts) -> None:
         self._db = db
         self._table = table
         self._interrupts = interrupts
-        self._before: Optional[bytes] = None
         #: How many rows have gone in.
         self.count = 0
         #: What is odd in the file, each in a sentence.
         self.warnings: List[str] = []
 
     def run(self, file: Readable, limit: int) -> int:
-        """Puts in the rows of a file, and gives how many they are. If it raises, none of them is in."""
+        """Puts in the rows of a file, and gives how many they are."""
         try:
             for block in blocks(without_mark(self._pieces(file, limit)), limit, b"", self._table.header):
                 self._interrupts.check()
                 self._put(block)
         except Endless as why:
-            self._take_back()
             place = f"behind record {self.count} " if self.count else ""
             raise Trouble(f"{place}{why} (no row of the file went in)") from why
-        except BaseException:
-            self._take_back()
-            raise
         return self.count
 
     def _pieces(self, file: Readable, limit: int) -> Iterator[bytes]:
@@ -134,13 +129,11 @@ class Load:
                 piece = file.read(min(PIECE, limit + 1))
             yield piece
 
-    def _put(self, block: Block) -> None:
-        if self._before is None and not block.is_last:
-            self._before = self._keys_before()
+    def _put(self, block: bytes) -> None:
         try:
             with warnings.catch_warnings(record=True) as caught:
                 warnings.simplefilter("always", mmdb.CsvWarning)
-                count = self._db.load_csv(self._table.name, block.content)
+                count = self._db.load_csv(self._table.name, block)
         except mmdb.Refused as why:
             if not self.count:
                 raise
@@ -148,35 +141,6 @@ class Load:
         finally:
             self.warnings.extend(_in_warning(each.message, self.count) for each in caught)
         self.count += count
-
-    def _keys_before(self) -> bytes:
-        """The keys before a load of several blocks, by which its rows can be taken back."""
-        before = answer(self._db, all_keys(self._table))
-        if not all(map(can_stand_in_a_line, keys_in(before, self._table.key.kind))):
-            raise Trouble(
-                f"the file is longer than a block, and {self._table.name} has a key with a line feed, beside which "
-                "rows could not be taken back: load it in parts"
-            )
-        return before
-
-    def _take_back(self) -> None:
-        """Takes out what has gone in: of each gap between two keys that were there before, all rows."""
-        if self._before is None:
-            return
-        name, key = self._table.name, self._table.key
-        for below, above in _gaps(keys_in(self._before, key.kind), self._keys_now()):
-            try:
-                answer(self._db, f"delete {name}" + between(key.name, (">", below), ("<", above)))
-            except (MemoryError, mmdb.Refused) as why:
-                told = numbered(why) if isinstance(why, mmdb.Refused) else "no memory"
-                raise Trouble(f"rows of the file stay in {name}, since to take them back is refused: {told}") from why
-
-    def _keys_now(self) -> Optional[Iterator[Key]]:
-        """The keys that are there now, or None where no memory is found to say."""
-        try:
-            return keys_in(answer(self._db, all_keys(self._table)), self._table.key.kind)
-        except (MemoryError, mmdb.Refused):
-            return None
 
 
 def _in_warning(warning: Union[str, Warning], before: int) -> str:
@@ -202,28 +166,6 @@ def _in_file(why: mmdb.Refused, before: int) -> mmdb.Refused:
     if reason:
         reason = _OF_ANOTHER_RECORD.sub(in_file, _KEY_IN_TABLE.sub(r"\1 or an earlier record has the key ", reason))
     return mmdb.Refused(why.number, _OF_A_RECORD.sub(in_file, why.text), why.line, reason)
-
-
-def _gaps(old: Iterator[Key], now: Optional[Iterator[Key]]) -> Iterator[Tuple[Optional[Key], Optional[Key]]]:
-    """The gaps between the old keys that have new keys in them, each by the old ones below and above it. Both lists
-    rise, and the keys now are the old and the new ones. Where they aren't known, all gaps."""
-    below: Optional[Key] = None
-    if now is None:
-        for above in old:
-            yield below, above
-            below = above
-        yield below, None
-        return
-    next_old, is_used = next(old, None), False
-    for key in now:
-        if key != next_old:
-            is_used = True
-            continue
-        if is_used:
-            yield below, key
-        below, next_old, is_used = key, next(old, None), False
-    if is_used:
-        yield below, None
 
 
 # ---- records

@@ -12,11 +12,17 @@ from .lines import LONGEST_LINE
 from .trouble import Unreadable, sentence
 from .words import RESERVED
 
-PROMPT, PROMPT_FOR_MORE = "mmdb> ", " ...> "
+PROMPT_FOR_MORE = " ...> "
 
 _LOAD = re.compile(rb"[ \t]*load[ \t]+([A-Za-z_][A-Za-z0-9_]{0,31})[ \t]+0*([0-9]{1,19})[ \t]*\r?")
 _GREATEST_COUNT = (1 << 63) - 1
 _PIECE = 1 << 16
+
+
+def prompt_in(transactions: int) -> str:
+    """The prompt for a command, with a mark where transactions are open, and their number where they are several."""
+    mark = "*" if transactions else ""
+    return f"mmdb{mark}{transactions if transactions > 1 else ''}> "
 
 
 def block_length(line: bytes) -> Optional[int]:
@@ -134,12 +140,14 @@ class Terminal(Source):
         self.before = ""
         #: What is called with the lines of a command before the next one is read.
         self.on_done: Callable[[str], None] = lambda lines: None
+        #: What gives the prompt for a command.
+        self.prompt: Callable[[], str] = lambda: prompt_in(0)
 
     def line(self, is_more: bool = False) -> Optional[bytes]:
         if not is_more:
             self.on_done(self.before)
             self.before = ""
-        if not self._typed and not self._read(PROMPT_FOR_MORE if is_more else PROMPT):
+        if not self._typed and not self._read(PROMPT_FOR_MORE if is_more else self.prompt()):
             return None
         line, self._typed = self._typed.split(b"\n", 1)
         self.before += line.decode("utf-8", "replace") + "\n"

@@ -14,7 +14,7 @@ from . import commands
 from .boxes import PLAIN, look
 from .files import opened
 from .options import Options, options_of
-from .reading import Stream, Terminal
+from .reading import Stream, Terminal, prompt_in
 from .shell import Settings, Shell
 from .trouble import DONE, INTERRUPTED, NO_MEMORY, REFUSED, UNWRITABLE, Bailed, Quit, Trouble, Unwritable, fail
 
@@ -92,6 +92,8 @@ def _session(shell: Shell, options: Options) -> int:
         pass
     finally:
         _end_output(shell)
+        if shell.transactions.count:
+            shell.tell("a transaction was open, and ends with the database: it wasn't committed")
     return REFUSED if shell.refused and not is_typed else DONE
 
 
@@ -170,6 +172,7 @@ def _at_terminal(shell: Shell) -> None:
     from . import editing
 
     terminal = Terminal()
+    terminal.prompt = lambda: prompt_in(shell.transactions.count)
     history = editing.prepare(shell, terminal)
     try:
         shell.output.say(

@@ -23,6 +23,7 @@ from .reading import Source, block_length
 from .requests import Attempt, Request, Requests
 from .selecting import RowsAsRecords, RowsByRange, by_range
 from .showing import Names, Rows, count, refusal
+from .transactions import Transactions
 from .trouble import NAME, Bailed, Trouble, Unreadable
 
 #: What a line is answered: rows, or a text.
@@ -53,6 +54,7 @@ class Shell:
     def __init__(self, settings: Settings, out: TextIO, err: TextIO, look: Look, is_at_terminal: bool) -> None:
         self.settings = settings
         self.db = settings.opened()
+        self.transactions = Transactions(self.db)
         self.interrupts = Interrupts()
         self.output = Output(out, self.interrupts)
         self.look = look
@@ -170,7 +172,7 @@ class Shell:
         """Does one request, with the block that it asks for, and shows the answer."""
         front = request.line.lstrip(b" \t")
         if is_blank(front) or is_comment(front):
-            self._answered(request.line, None)
+            self.transactions.check_spelling(request.line)
             return
         try:
             if front.startswith(b"."):
@@ -201,13 +203,19 @@ class Shell:
 
     def _answered(self, line: bytes, block: Optional[bytes], values: Sequence[mmdb.Value] = ()) -> Answer:
         """The rows of a select, with the types of their columns; of another line what the library answers."""
-        if not values and not line.lstrip(b" \t").startswith(b"select"):
-            return answer(self.db, line, block).decode()
+        if not line.lstrip(b" \t").startswith(b"select"):
+            if not values:
+                return self.transactions.answer(line, block).decode()
+            return self.transactions.done(line, lambda: self._executed(line, values))
         ranges = None if values or self.has_timer else by_range(self.db, line)
         if ranges is not None:
             return ranges
         if self.mode == "csv" and not values:
             return RowsAsRecords(self.db, line)
+        return self._executed(line, values)
+
+    def _executed(self, line: bytes, values: Sequence[mmdb.Value]) -> Answer:
+        """The same of a statement, by its values."""
         try:
             found = self.db.execute(line.decode(), *values)
         except ValueError as why:
@@ -292,7 +300,7 @@ class Shell:
 
     def take(self, db: mmdb.Database, settings: Settings) -> None:
         """Takes another database in place of this one, which is closed."""
-        self.db, self.settings, old = db, settings, self.db
+        self.db, self.settings, self.transactions, old = db, settings, Transactions(db), self.db
         old.close()
 
     @contextmanager

@@ -33,7 +33,7 @@ _IS_ODD = re.compile(r"\A(?:'|\s|\Z)|\s\Z").search
 # What moves a terminal's place or changes the line: controls, and marks of lines and of direction.
 _CONTROLS = re.compile("[\0-\x1f\x7f-\x9f\u061c\u200e\u200f\u2028-\u202e\u2066-\u2069]")
 # Words that are no commands of the language, and may be meant for the shell.
-_FOR_THE_SHELL = [[word] for word in b"help quit exit schema read mode".split()]
+_FOR_THE_SHELL = [[word] for word in b"help quit exit schema read mode begin commit rollback undo".split()]
 
 
 def _picture(control: "re.Match[str]") -> str:
