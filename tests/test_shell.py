@@ -425,7 +425,7 @@ class Loads(shells.InThisProcess):
         load = moving.Load(shell.db, table, held)
         file = File(("id\n" + "".join(f"{at}\n" for at in range(100, 999))).encode())
         with self.assertRaises(KeyboardInterrupt):
-            shell.transactions.whole(lambda: load.run(file, 64))
+            shell.transactions.whole("", lambda: load.run(file, 64))
         self.assertGreater(load.count, 100)
         self.assertEqual(shell.db.execute("select * from t"), [[7]])
 

@@ -1,13 +1,14 @@
-"""The shell's `.begin`, `.commit` and `.rollback`: what is done in a transaction, what isn't, and what is seen of one."""
+"""The shell's `.begin`, `.commit`, `.rollback` and `.undo`: what is done in a transaction, what is taken back, and what is seen of it."""
 
 import io
 import unittest
+import unittest.mock
 
-from support import hand, shells
+from support import hand, harness, shells
 from support.binding import mmdb
 from support.shells import COMPANY
 
-from mmdb_shell import reading
+from mmdb_shell import reading, transactions
 from mmdb_shell.transactions import Transactions
 
 NOT_IN_ONE = "isn't done in a transaction: end it by .commit or .rollback first"
@@ -108,6 +109,139 @@ class ThroughAPipe(shells.Piped):
         self.check(["table t (id int)", ".begin", f".read {path}", ".rollback", "select * from t", ".rollback", ".count t"], ["t.id", "1", "0"])
 
 
+class Undone(shells.Piped):
+    """`.undo` takes the last change back, whatever is refused or read after it."""
+
+    def test_each_kind_of_change(self):
+        csv = self.file("f.csv", "id\n7\n8\n")
+        for lines, left in (
+            (["insert t (1)"], ["t.id"]),
+            (["insert t (1)", "insert t (2)"], ["t.id", "1"]),
+            (["load t 7", "id", "3", "4"], ["t.id"]),
+            ([f".load t {csv}"], ["t.id"]),
+            (["insert t (1)", f".import {csv} t"], ["t.id", "1"]),
+            ([".parameter set 1 5", "insert t (?)", ".parameter clear"], ["t.id"]),
+            (["delete t", "insert t (1)"], ["t.id"]),
+            ([f".read {self.file('script', 'insert t (1); insert t (2)')}"], ["t.id", "1"]),
+        ):
+            with self.subTest(lines):
+                self.check(["table t (id int)", *lines, ".undo", "select * from t", "tables"], [*left, "table t (id int)"])
+
+    def test_declarations(self):
+        csv = self.file("f.csv", "id,s\n7,a\n")
+        front = ["table t (id int, s text)", "index t s hash"]
+        for line in ("table u (id int, t ref t)", "index t s tree", f".import {csv} u", " index\tt  id hash"):
+            with self.subTest(line):
+                self.check([*front, line, ".undo", "tables"], front)
+        self.check([*front, f".load t {csv}", ".undo", "tables", ".count t"], [*front, "0"])
+        self.check([*front, "table u (id int)", "insert u (1)", ".undo", "tables", ".count u"], [*front, "table u (id int)", "0"])
+
+    def test_what_comes_after_it(self):
+        csv = self.file("f.csv", "id\n7\n1\n")
+        for after in (
+            ["select * from u", "tabels", "delete t wher", "# a comment", "", ".mode csv", ".help undo", ".print", ".count t"],
+            ["insert t (1)", "load t 5", "id", "1", "insert u (1)", "insert t ('a')"],
+            [f".load t {csv}", f".import {csv} t", ".load u x", ".commit", "update t st id = 1"],
+        ):
+            with self.subTest(after):
+                ran = self.ran(["table t (id int)", ".parameter set 1 1", "insert t (?)", ".parameter clear", *after, ".undo", ".mode json", "select * from t"])
+                self.assertEqual(ran.stdout.decode().splitlines()[-1], "[]")
+
+    def test_what_cannot_be_undone(self):
+        no_more = "the last change can't be undone any more"
+        for lines, why in (
+            ([], "no change was done yet"),
+            (["update t set s = 'b' where id = 1"], "update t set s = 'b' where id = 1 can't be undone"),
+            (["insert t (2, 'b')", f"delete t where s = '{'x' * 90}'"], f"delete t where s = '{'x' * 37}... can't be undone"),
+            (["insert t (2, 'b')", "drop table t"], "drop table t can't be undone"),
+            (["insert t (2, 'b')", "table t (id int)"], no_more),
+            (["insert t (2, 'b')", ".undo"], "nothing more can be undone"),
+            (["insert t (2, 'b')", "insert t (3, 'c')", ".undo"], "nothing more can be undone"),
+            (["insert t (2, 'b')", ".begin"], "no change was done since .begin"),
+            ([".begin", "insert t (2, 'b')", ".commit"], "no change was done since .commit"),
+            (["insert t (2, 'b')", ".begin", ".rollback"], "no change was done since .rollback"),
+            (["insert t (2, 'b')", ".policy tree"], "no change was done yet"),
+            (["insert t (2, 'b')", ".open"], "no change was done yet"),
+        ):
+            with self.subTest(lines):
+                ran = self.ran(["table t (id int, s text)", "insert t (1, 'a')", ".policy merge", *lines, ".undo"])
+                self.assertIn(f"mmdb-shell: line {len(lines) + 4}: {why}", ran.stderr.decode().splitlines())
+
+    def test_in_a_transaction(self):
+        front = ["table t (id int)", "insert t (1)", ".begin", "insert t (2)", "insert t (3)", "update t set id = 4", ".undo"]
+        refused = [f"line 6: update {NOT_IN_ONE}"]
+        self.check([*front, "select * from t", ".rollback", "select * from t"], ["t.id", "1", "2", "t.id", "1"], refused)
+        self.check([*front, ".commit", "select * from t"], ["t.id", "1", "2"], refused)
+        nothing = "line 8: nothing more can be undone"
+        self.check([*front, ".undo", "insert t (5)", ".begin", ".rollback", ".commit", ".count t"], ["3"], [*refused, nothing])
+
+    def test_lines_of_a_long_file(self):
+        lines = [*(f"insert t ({at})" for at in range(3)), *["# a comment"] * (transactions.MOST_LINES - 4)]
+        self.check(["table t (id int)", *lines, ".undo", ".count t"], ["2"])
+        why = f"line {transactions.MOST_LINES + 2}: of a file or a pipe only the first 10,000 lines can be undone"
+        self.check(["table t (id int)", *lines, "insert t (3)", ".undo", ".count t"], ["4"], [why])
+
+    def test_many_changes(self):
+        inserts = [f"insert t ({at})" for at in range(200)]
+        for count in (63, 64, 65, 127, 128, 129, 200):
+            with self.subTest(count):
+                lines = ["table t (id int)", *inserts[:count], "insert t (0)", ".undo", ".count t", ".undo"]
+                refused = [f"line {count + 2}: error 41 key exists: t has a row with the key 0", f"line {count + 5}: nothing more can be undone"]
+                self.check(lines, [f"{count - 1}"], refused)
+
+
+class Held(shells.InThisProcess):
+    """What `.undo` costs: the changes that are kept are few, and it changes no answer."""
+
+    def test_many_rows(self):
+        shell = self.shell(1 << 20)
+        block = "id\n" + "".join(f"{at}\n" for at in range(1_000))
+        with unittest.mock.patch.object(transactions, "_MOST_ROWS", 1_500):
+            self.do(shell, "table t (id int)", "table u (id int)")
+            for name, rows in (("t", 1_000), ("u", 2_000), ("t", 2_000)):
+                shell.run(reading.Stream(io.BytesIO(f"load {name} {len(block)}\n{block}".encode()), ""))
+                self.assertEqual(shell.transactions._rows, rows)
+            self.do(shell, "insert t (-1)")
+            self.assertEqual([line for line, *_ in shell.transactions._kept], [b"insert t (-1)"])
+            self.do(shell, ".undo", ".count t", said="1000\n")
+
+    def test_no_memory_for_a_transaction(self):
+        shell = self.shell()
+        self.do(shell, "table t (id int)", "insert t (1)")
+        with unittest.mock.patch.object(shell.db, "begin", side_effect=mmdb.NoMemory(90, "no memory")):
+            self.do(shell, "insert t (2)", "load t 5", "id", "3", ".count t", said="3\n")
+            self.do(shell, ".undo", refused="no memory was found to undo load t 5")
+            self.do(shell, ".begin", refused="error 90 no memory")
+            self.do(shell, f".load t {self.file('f', 'id')}", refused=f"error 90 no memory; no row of {self.room}/f went in")
+        self.do(shell, ".begin", "insert t (4)", ".rollback", ".count t", said="3\n")
+
+    def test_no_memory_for_a_change_in_one(self):
+        shell = self.shell()
+        self.do(shell, "table t (id int)", "insert t (1)")
+        answered = shell.db.answer
+
+        def answer(line, block=None):
+            is_refused = line.startswith(b"insert") and shell.db.in_transaction
+            return b"error 90 no memory\n" if is_refused else answered(line, block)
+
+        with unittest.mock.patch.object(shell.db, "answer", answer):
+            self.do(shell, "insert t (2)", ".count t", said="2\n")
+            self.do(shell, ".undo", refused="no memory was found to undo insert t (2)")
+
+    def test_answers_are_those_without_it(self):
+        for name, stream, _ in harness.rows():
+            if name == "misspellings":
+                continue
+            with self.subTest(name):
+                told = []
+                for kept in (0, 1, 64):
+                    shell = self.shell(mmdb.MOST)
+                    with unittest.mock.patch.object(transactions, "_MOST_CHANGES", kept):
+                        shell.run(reading.Stream(io.BytesIO(stream), ""))
+                    told.append((shell._out.getvalue(), shell._err.getvalue()))
+                self.assertEqual(told[1:], told[:1] * 2)
+
+
 class AtATerminal(shells.AtATerminal):
     """Transactions of lines that are typed."""
 
@@ -134,6 +268,24 @@ class AtATerminal(shells.AtATerminal):
             self.assertEqual(self.asked(shell, line, prompt), answer)
         shell.type(".quit\n")
         shell.wait_for("a transaction was open, and ends with the database: it wasn't committed\n")
+        self.assertEqual(shell.end(), 0)
+
+    def test_undo(self):
+        shell = self.typed()
+        for line, answer in (
+            ("table t (id int)", "ok\n"),
+            ("insert t (1)", "ok 1\n"),
+            ("insert t (1)", "error 41 key exists: t has a row with the key 1\n"),
+            (".undo", "undone: insert t (1)\n"),
+            (".undo", "nothing more can be undone\n"),
+            (".count t", "0\n"),
+            (f".load t {self.file('f.csv', 'id')}", f"0 rows of {self.room}/f.csv are in t\n"),
+            (".undo", f"undone: .load t {self.room}/f.csv\n"),
+            ("delete t", "ok 0\n"),
+            (".undo", "delete t can't be undone\n"),
+        ):
+            self.assertEqual(shell.ask(line), answer)
+        shell.type("\x04")
         self.assertEqual(shell.end(), 0)
 
     def test_over_several_lines_in_one(self):

@@ -1,4 +1,4 @@
-"""Commands that begin and end transactions."""
+"""Commands that begin and end transactions, and the one that takes the last change back."""
 
 from __future__ import annotations
 
@@ -28,3 +28,13 @@ def _commit(shell: Shell) -> None:
 @dotted(".rollback", "ends the transaction, or the savepoint, and takes its changes back")
 def _rollback(shell: Shell) -> None:
     shell.transactions.rollback()
+
+
+@dotted(
+    ".undo",
+    "takes the last change back",
+    "A change is a command that is done: an insert, a load, a .load, an .import, or a table or an index that is declared.\n"
+    "Updates, deletes and drops can't be undone. After .undo nothing more can be.",
+)
+def _undo(shell: Shell) -> None:
+    shell.note(f"undone: {shell.transactions.undo()}")

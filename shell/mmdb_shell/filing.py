@@ -28,7 +28,7 @@ def _load(shell: Shell, name: str, path: str) -> None:
     try:
         with opened(path, shell.interrupts) as file, told_of(path), shell.bar(size_of(file), "bytes") as bar:
             source = Read(file, bar)
-            count = shell.transactions.whole(lambda: load.run(source, shell.settings.block))
+            count = shell.transactions.whole(f".load {name} {path}", lambda: load.run(source, shell.settings.block))
     except mmdb.Refused as why:
         wanted = f"; its first record has to be {table.header.decode().strip()}" if why.number == 61 else ""
         raise Trouble(f"{moving.numbered(why)}{wanted}; no row of {path} went in", why.reason) from why

@@ -78,6 +78,8 @@ class Import:
         self._shell = shell
         self._name = name
         self._options = options
+        #: Whether the table was made for it.
+        self._is_made = False
         #: What is odd in the file, each in a sentence.
         self.warnings: List[str] = []
 
@@ -86,14 +88,13 @@ class Import:
         If it raises, no row is in, and a table that was made is gone."""
         csv.field_size_limit(_LONGEST_FIELD)
         table = tables_of(self._shell.db).get(self._name)
-        made = table is None
         if table is None:
-            table = self._made(file, bar)
+            table, self._is_made = self._made(file, bar), True
         try:
             return self._loaded(table, file, path, bar)
         except BaseException:
-            if made:
-                self._shell.transactions.answer(f"drop table {table.name}".encode())
+            if self._is_made:
+                self._shell.transactions.undo()
             raise
 
     def _loaded(self, table: Table, file: BufferedReader, path: str, bar: Bar) -> Tuple[int, List[str]]:
@@ -114,7 +115,10 @@ class Import:
         """Loads what is in the form of a load."""
         load = Load(self._shell.db, table, self._shell.interrupts)
         try:
-            return self._shell.transactions.whole(lambda: load.run(file, self._shell.settings.block))
+            back = f"drop table {table.name}" if self._is_made else ""
+            return self._shell.transactions.whole(
+                f".import {path} {table.name}", lambda: load.run(file, self._shell.settings.block), back
+            )
         except mmdb.Refused as why:
             raise Trouble(f"{numbered(why)}; no row of {path} went in", why.reason) from why
         finally:

@@ -48,6 +48,8 @@ class Parameters:
 
     def bind(self, line: bytes) -> Bound:
         """Puts the values into the places of a line. Raises Trouble where a place has none."""
+        if not self._values and b"\n" not in line:
+            return Bound(line, ())
         has_places = bool(self._values) and (b"?" in line or b":" in line)
         if not (has_places or b"\n" in line) or is_comment(line) or is_refused_anyway(line):
             return Bound(line, ())

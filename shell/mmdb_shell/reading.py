@@ -27,6 +27,8 @@ def prompt_in(transactions: int) -> str:
 
 def block_length(line: bytes) -> Optional[int]:
     """How many bytes belong to a line as its block, where it spells a load."""
+    if b"load" not in line:
+        return None
     spelled = _LOAD.fullmatch(line)
     if spelled is None or spelled[1].decode() in RESERVED or len(line) - line.endswith(b"\r") > LONGEST_LINE:
         return None

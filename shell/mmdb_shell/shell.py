@@ -23,7 +23,7 @@ from .reading import Source, block_length
 from .requests import Attempt, Request, Requests
 from .selecting import RowsAsRecords, RowsByRange, by_range
 from .showing import Names, Rows, count, refusal
-from .transactions import Transactions
+from .transactions import MOST_LINES, Transactions
 from .trouble import NAME, Bailed, Trouble, Unreadable
 
 #: What a line is answered: rows, or a text.
@@ -33,6 +33,8 @@ Answer = Union[mmdb.Rows, RowsByRange, RowsAsRecords, str]
 _DEEPEST = 16
 # The refusals of what is no line, or no command.
 _NO_COMMAND = (10, 11, 20)
+# How blank lines and comments begin.
+_NO_WORD = (b"", b"#", b"\r")
 # The commands whose answers count the rows that were changed.
 _CHANGES = (b"insert", b"update", b"delete", b"load")
 
@@ -171,7 +173,7 @@ class Shell:
     def _do_one(self, source: Source, request: Request) -> None:
         """Does one request, with the block that it asks for, and shows the answer."""
         front = request.line.lstrip(b" \t")
-        if is_blank(front) or is_comment(front):
+        if front[:1] in _NO_WORD and (is_blank(front) or is_comment(front)):
             self.transactions.check_spelling(request.line)
             return
         try:
@@ -191,6 +193,7 @@ class Shell:
         if length is not None:
             with self.interrupts.allowed():
                 block = source.block(length, self.settings.block)
+        self.transactions.keeps = source.is_typed or source.number <= MOST_LINES
         began = time.perf_counter()
         told = self._answered(self._line, block, values)
         took = time.perf_counter() - began
@@ -206,7 +209,7 @@ class Shell:
         if not line.lstrip(b" \t").startswith(b"select"):
             if not values:
                 return self.transactions.answer(line, block).decode()
-            return self.transactions.done(line, lambda: self._executed(line, values))
+            return self.transactions.change(line, self._executed, line, values)
         ranges = None if values or self.has_timer else by_range(self.db, line)
         if ranges is not None:
             return ranges

@@ -1,41 +1,81 @@
-"""The transactions of a shell's database: those that `.begin` has opened, and loads that are whole or not at all."""
+"""The transactions of a shell's database: those that `.begin` has opened, and those of the last changes, of which `.undo` takes one
+back.
+
+What must hold: the change that was kept last has the innermost transaction, and each one before it the next outer one. Around them
+are those that `.begin` has opened.
+"""
 
 from __future__ import annotations
 
+import re
 from functools import cached_property
-from typing import Callable, Optional, TypeVar
+from typing import Any, Callable, List, Optional, Set, Tuple, TypeVar, Union
 
 import mmdb
 from mmdb import InTransaction
 
 from .moving import answer
+from .showing import visible
 from .trouble import Trouble
 
 Result = TypeVar("Result")
 
-# The refusals of what is no line, or no command.
-_NO_COMMAND = (10, 11, 20)
+# The refusals of what is no line, or no command; and that of what finds no memory.
+_NO_COMMAND, _NO_MEMORY = (b"error 10 ", b"error 11 ", b"error 20 "), 90
+# The lines that change nothing, beside selects.
+_READING = (b"dump", b"tables")
+# How many changes are kept at most, and with how many rows before the last. (The library holds four bytes for each row.)
+_MOST_CHANGES, _MOST_ROWS = 64, 1_000_000
+#: Of a file or a pipe so many lines are kept, so that a long one takes no more time for it.
+MOST_LINES = 10_000
+# Of a change so much is told.
+_MOST_TOLD = 60
+_ONE_ROW = b"ok 1\n"
+_NOT_KEPT = f"of a file or a pipe only the first {MOST_LINES:,} lines can be undone"
+_NO_MORE = "the last change can't be undone any more"
+# A declaration, up to what the line that drops it has behind the word drop.
+_DECLARED = re.compile(rb"[ \t]*(table[ \t]+\w+|index[ \t]+\w+[ \t]+\w+[ \t]+\w+)")
+
+
+# A change that can be taken back: its line, how many rows it is about, whether a transaction is open for it, and the line that is
+# done behind its rollback, or in place of it. (There is one for each line, so it is a plain tuple.)
+_Change = Tuple[bytes, int, bool, bytes]
 
 
 class Transactions:
-    """The transactions that `.begin` has opened, each inside the one before it."""
+    """The transactions of a database."""
 
     def __init__(self, db: mmdb.Database) -> None:
         self._db = db
-        #: How many are open.
+        #: How many `.begin` has opened, each inside the one before it.
         self.count = 0
+        #: The last changes, and how many rows they have. They are several, so that one that is refused takes none away: the
+        #: transaction of the one before it could only be ended before the next is tried.
+        self._kept: List[_Change] = []
+        self._rows = 0
+        #: Whether changes by lines are kept.
+        self.keeps = True
+        #: Why there is nothing to undo where none is kept, or the line that can't be undone.
+        self._nothing: Union[str, bytes] = "no change was done yet"
+        #: The words of lines that aren't done in transactions.
+        self._outside: Set[bytes] = set()
+
+    # ---- those that are begun
 
     def begin(self) -> None:
+        self._forget("no change was done since .begin")
         self._db.begin()
         self.count += 1
 
     def commit(self) -> None:
         self._check_open()
+        self._forget("no change was done since .commit")
         self._db.commit()
         self.count -= 1
 
     def rollback(self) -> None:
         self._check_open()
+        self._forget("no change was done since .rollback")
         self._db.rollback()
         self.count -= 1
 
@@ -48,38 +88,107 @@ class Transactions:
         if self.count:
             raise Trouble("a transaction is open: end it by .commit or .rollback first")
 
+    # ---- changes
+
     def answer(self, line: bytes, block: Optional[bytes] = None) -> bytes:
         """The answer to a line that is no select, with its block."""
+        if _word(line) in _READING:
+            return answer(self._db, line, block)
+        return self.change(line, answer, self._db, line, block)
 
-        def do() -> bytes:
-            try:
-                return answer(self._db, line, block)
-            except InTransaction:
-                self.check_spelling(line)
-                raise
-
-        return self.done(line, do)
-
-    def done(self, line: bytes, do: Callable[[], Result]) -> Result:
-        """Does a line. Raises Trouble where a transaction is open in which it isn't done."""
+    def change(self, line: bytes, do: Callable[..., Result], *given: Any) -> Result:
+        """Does a line that changes something, and keeps it. Where it is refused, those before it stay kept."""
+        if not (self.keeps or self.count):
+            self._forget(_NOT_KEPT)
+            return do(*given)
+        if self._outside and _word(line) in self._outside and not self._is_in_one():
+            return self._done_outside(line, do, *given)
         try:
-            return do()
+            if len(self._kept) >= _MOST_CHANGES or self._rows > _MOST_ROWS:
+                self._tried(do, *given)
+            result = self._done(do, *given)
         except InTransaction as why:
-            word = line.split(None, 1)[0].decode()
-            raise Trouble(f"{word} isn't done in a transaction: end it by .commit or .rollback first") from why
+            if do is answer:
+                self.check_spelling(line)
+            self._leave(line, why)
+            return self._done_outside(line, do, *given)
+        except mmdb.Refused as why:
+            if why.number != _NO_MEMORY:
+                raise
+            self._forget(f"no memory was found to undo {_told(line)}")
+            return do(*given)
+        rows = 1 if result == _ONE_ROW else _rows_of(result)
+        self._kept.append((line, rows, True, b""))
+        self._rows += rows
+        return result
 
-    def whole(self, do: Callable[[], Result]) -> Result:
-        """Does several changes, all of them or none."""
+    def whole(self, line: str, do: Callable[[], int], back: str = "") -> int:
+        """Does several changes, all of them or none, and keeps them as one. They are called by a line, and once they are rolled
+        back another is done that takes back what came before."""
+        if len(self._kept) >= _MOST_CHANGES or self._rows > _MOST_ROWS:
+            self._forget(_NO_MORE)
+        rows = self._done(do)
+        self._kept.append((line.encode("utf-8", "surrogateescape"), rows, True, back.encode()))
+        self._rows += rows
+        return rows
+
+    def undo(self) -> str:
+        """Takes the last change back, and tells which it was."""
+        if not self._kept:
+            raise Trouble(self._nothing if isinstance(self._nothing, str) else f"{_told(self._nothing)} can't be undone")
+        line, _, is_open, back = self._kept.pop()
+        if is_open:
+            self._db.rollback()
+        self._forget("nothing more can be undone")
+        if back:
+            answer(self._db, back)
+        return _told(line)
+
+    def _done(self, do: Callable[..., Result], *given: Any) -> Result:
+        """Does a change in a transaction of its own, which stays open."""
         self._db.begin()
         try:
-            result = do()
+            return do(*given)
         except BaseException:
             self._db.rollback()
             raise
-        self._db.commit()
-        return result
 
-    # ---- how lines are spelled
+    def _tried(self, do: Callable[..., Result], *given: Any) -> None:
+        """Does a change that is taken back again. Where it isn't refused, those before it are no longer kept."""
+        self._done(do, *given)
+        self._db.rollback()
+        self._forget(_NO_MORE)
+
+    def _is_in_one(self) -> bool:
+        """Whether a transaction is open."""
+        return self.count > 0 or bool(self._kept) and self._kept[-1][2]
+
+    def _forget(self, nothing: Union[str, bytes]) -> None:
+        """Ends the transactions of the changes that are kept."""
+        for _, _, is_open, _ in self._kept:
+            if is_open:
+                self._db.commit()
+        self._kept.clear()
+        self._rows, self._nothing = 0, nothing
+
+    # ---- what isn't done in a transaction
+
+    def _leave(self, line: bytes, why: InTransaction) -> None:
+        """Leaves the transactions of the changes that are kept. Raises Trouble where those of `.begin` are open."""
+        word = _word(line)
+        if self.count:
+            raise Trouble(f"{word.decode()} isn't done in a transaction: end it by .commit or .rollback first") from why
+        self._forget(_NO_MORE)
+        self._outside.add(word)
+
+    def _done_outside(self, line: bytes, do: Callable[..., Result], *given: Any) -> Result:
+        """Does a line outside of transactions. A declaration is kept all the same, with the line that drops it."""
+        result = do(*given)
+        self._forget(line)
+        declared = _DECLARED.match(line)
+        if declared:
+            self._kept.append((line, 0, False, b"drop " + declared[1]))
+        return result
 
     @cached_property
     def speller(self) -> mmdb.Database:
@@ -88,8 +197,23 @@ class Transactions:
 
     def check_spelling(self, line: bytes) -> None:
         """Raises the refusal of what is no line, or no command."""
-        try:
+        if self.speller.answer(line).startswith(_NO_COMMAND):
             answer(self.speller, line)
-        except mmdb.Refused as why:
-            if why.number in _NO_COMMAND:
-                raise
+
+
+def _word(line: bytes) -> bytes:
+    """The first word of a line."""
+    return (line.split(None, 1) or [b""])[0]
+
+
+def _rows_of(result: object) -> int:
+    """How many rows a change was about, by its answer or the number itself."""
+    if isinstance(result, bytes):
+        return int(result[len("ok ") :]) if result.startswith(b"ok ") else 0
+    return result if isinstance(result, int) else 0
+
+
+def _told(line: bytes) -> str:
+    """A line, or its front."""
+    told = visible(line.decode("utf-8", "replace").strip())
+    return told if len(told) <= _MOST_TOLD else told[: _MOST_TOLD - 3] + "..."
