@@ -204,7 +204,8 @@ class WorksWithABar(shells.InThisProcess):
         shell = self.shell(block=1 << 12)
         shell.is_at_terminal, shell._err = True, Screen()
         lines = [f".load t {rows}", f".import {rows} u", f".save t {rows}2", f".dump {self.room}/dump", f".export sql {self.room}/sql"]
-        lines += [".policy tree", f".open {self.room}/dump", ".open", f".restore {self.room}/dump"]
+        lines += [f".output {self.room}/rows3\nselect * from t{end}\n.mode {mode}" for end, mode in (("", "line"), (" where id > 0", "csv"))]
+        lines += [".output\n.policy tree", f".open {self.room}/dump", ".open", f".restore {self.room}/dump"]
         shell.db.execute("table t (id int)")
         with unittest.mock.patch.multiple(bars, AFTER=0, EACH=0):
             for line in lines:
@@ -336,6 +337,24 @@ class Late(shells.InThisProcess):
                 shell.output.say("")
                 shell.run(typed)
         self.assertEqual(shell._out.getvalue(), "ok 1\nt.id\n1\n2\nt.id\n1\n2\n")
+
+
+    def test_a_select_ends_once_its_rows_are_found(self):
+        shell = self.shell()
+        self.do(shell, "table t (id int)", "insert t (1)")
+        lines = ["select * from t where id > 0", ".mode json", "select * from t where id > 0", ".count t", EOFError]
+        execute, answer = shell.db.execute, shell.db.answer
+
+        def late(call, line, *given):
+            if b"where" in line if isinstance(line, bytes) else "where" in line:
+                shell.interrupts.on_interrupt(signal.SIGINT, None)
+            return call(line, *given)
+
+        with unittest.mock.patch("builtins.input", side_effect=lines), unittest.mock.patch.multiple(
+            shell.db, execute=lambda *given: late(execute, *given), answer=lambda *given: late(answer, *given)
+        ):
+            shell.run(reading.Terminal())
+        self.assertEqual(shell._out.getvalue(), "interrupted\ninterrupted\n1\n")
 
 
 class LongWork(shells.AtATerminal):

@@ -170,5 +170,11 @@ MODES: Dict[str, Mode] = {
     "tabs": _tabs,
 }
 
+
+def lines_of_row(mode: str, names: Names) -> int:
+    """How many lines a row has at least, with the empty one between two."""
+    return len(names) + 1 if mode == "line" else 1
+
+
 #: The modes in which the rows are counted at a terminal.
 COUNTED = frozenset(("box", "column", "line"))

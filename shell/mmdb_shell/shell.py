@@ -5,7 +5,7 @@ from __future__ import annotations
 import os
 import time
 from contextlib import contextmanager
-from typing import Iterator, List, NamedTuple, Optional, Sequence, TextIO, Union
+from typing import Iterable, Iterator, List, NamedTuple, Optional, Sequence, TextIO, Union
 
 import mmdb
 
@@ -15,7 +15,7 @@ from .boxes import Look
 from .files import full_name
 from .interrupts import Interrupts
 from .lines import is_blank, is_comment
-from .modes import COUNTED, MODES
+from .modes import COUNTED, MODES, lines_of_row
 from .moving import answer
 from .output import Output, Pager, Stopped, pager_command
 from .parameters import Parameters
@@ -237,15 +237,26 @@ class Shell:
         pager = Pager(pager_command(), self.output.say) if self._has_pages() else None
         write = self.output.write if pager is None else pager.write
         look = self.look._replace(is_folded=self.look.is_folded and not self.output.is_elsewhere)
+        pieces = MODES[self.mode](names, rows, look)
         try:
             with self.interrupts.allowed():
-                for piece in MODES[self.mode](names, rows, look):
-                    write(piece)
+                if self.is_at_terminal and self.output.is_elsewhere:
+                    self._write_with_bar(pieces, len(rows) * lines_of_row(self.mode, names))
+                else:
+                    for piece in pieces:
+                        write(piece)
         finally:
             if pager is not None:
                 pager.end()
         if self.is_at_terminal and not self.output.is_elsewhere and self.mode in COUNTED:
             self.say(f"{count(rows)}\n")
+
+    def _write_with_bar(self, pieces: Iterable[str], lines: int) -> None:
+        """Writes rows to where a terminal doesn't show them, with a bar that does."""
+        with self.bar(lines, "lines") as bar:
+            for piece in pieces:
+                self.output.write(piece)
+                bar.add(piece.count("\n"))
 
     def _has_pages(self) -> bool:
         return self.is_at_terminal and self.has_pager and bool(pager_command()) and not self.output.is_elsewhere
