@@ -104,13 +104,28 @@ class ThroughAPipe(shells.Piped):
             with self.subTest(lines, said=said):
                 self.check(lines, [], [told], status, said)
 
+    def test_undo(self):
+        path = self.file("f.csv", "id\n7\n8\n")
+        lines = ["table t (id int)", "insert t (1)", f".load t {path}", "insert t (7)", ".undo", "select * from t", ".undo"]
+        refused = ["line 4: error 41 key exists: t has a row with the key 7", "line 7: nothing more can be undone"]
+        self.check(lines, ["t.id", "1"], refused)
+
     def test_over_files(self):
         path = self.file("f", "insert t (1)\n.begin\ninsert t (2)\n")
         self.check(["table t (id int)", ".begin", f".read {path}", ".rollback", "select * from t", ".rollback", ".count t"], ["t.id", "1", "0"])
 
 
-class Undone(shells.Piped):
+class Undone(shells.InThisProcess):
     """`.undo` takes the last change back, whatever is refused or read after it."""
+
+    def answered(self, lines):
+        """The lines that a shell answers, and those by which it refuses."""
+        shell = self.shell(1 << 16)
+        shell.run(reading.Stream(io.BytesIO("".join(f"{line}\n" for line in lines).encode()), ""))
+        return shell._out.getvalue().splitlines(), shell._err.getvalue().replace("mmdb-shell: ", "").splitlines()
+
+    def check(self, lines, out, err=()):
+        self.assertEqual(self.answered(lines), ([*out], [*err]))
 
     def test_each_kind_of_change(self):
         csv = self.file("f.csv", "id\n7\n8\n")
@@ -144,8 +159,9 @@ class Undone(shells.Piped):
             [f".load t {csv}", f".import {csv} t", ".load u x", ".commit", "update t st id = 1"],
         ):
             with self.subTest(after):
-                ran = self.ran(["table t (id int)", ".parameter set 1 1", "insert t (?)", ".parameter clear", *after, ".undo", ".mode json", "select * from t"])
-                self.assertEqual(ran.stdout.decode().splitlines()[-1], "[]")
+                front = ["table t (id int)", ".parameter set 1 1", "insert t (?)", ".parameter clear"]
+                out, err = self.answered([*front, *after, ".undo", ".mode json", "select * from t"])
+                self.assertEqual((out[-1], [line for line in err if "undone" in line]), ("[]", []))
 
     def test_what_cannot_be_undone(self):
         no_more = "the last change can't be undone any more"
@@ -164,8 +180,8 @@ class Undone(shells.Piped):
             (["insert t (2, 'b')", ".open"], "no change was done yet"),
         ):
             with self.subTest(lines):
-                ran = self.ran(["table t (id int, s text)", "insert t (1, 'a')", ".policy merge", *lines, ".undo"])
-                self.assertIn(f"mmdb-shell: line {len(lines) + 4}: {why}", ran.stderr.decode().splitlines())
+                _, err = self.answered(["table t (id int, s text)", "insert t (1, 'a')", ".policy merge", *lines, ".undo"])
+                self.assertEqual(err[-1], f"line {len(lines) + 4}: {why}")
 
     def test_in_a_transaction(self):
         front = ["table t (id int)", "insert t (1)", ".begin", "insert t (2)", "insert t (3)", "update t set id = 4", ".undo"]
