@@ -228,8 +228,12 @@ class Held(shells.InThisProcess):
             self.do(shell, "insert t (2)", "load t 5", "id", "3", ".count t", said="3\n")
             self.do(shell, ".undo", refused="no memory was found to undo load t 5")
             self.do(shell, ".begin", refused="error 90 no memory")
+            self.do(shell, "delete t where id = 3", "insert t (3)")
             self.do(shell, f".load t {self.file('f', 'id')}", refused=f"error 90 no memory; no row of {self.room}/f went in")
-        self.do(shell, ".begin", "insert t (4)", ".rollback", ".count t", said="3\n")
+        self.do(shell, ".begin", "insert t (4)")
+        with unittest.mock.patch.object(shell.db, "begin", side_effect=mmdb.NoMemory(90, "no memory")):
+            self.do(shell, "delete t", refused=f"delete {NOT_IN_ONE}")
+        self.do(shell, ".rollback", ".count t", said="3\n")
 
     def test_no_memory_for_a_change_in_one(self):
         shell = self.shell()

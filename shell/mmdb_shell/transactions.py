@@ -115,8 +115,7 @@ class Transactions:
         except mmdb.Refused as why:
             if why.number != _NO_MEMORY:
                 raise
-            self._forget(f"no memory was found to undo {_told(line)}")
-            return do(*given)
+            return self._done_unkept(line, do, *given)
         rows = 1 if result == _ONE_ROW else _rows_of(result)
         self._kept.append((line, rows, True, b""))
         self._rows += rows
@@ -151,6 +150,15 @@ class Transactions:
             return do(*given)
         except BaseException:
             self._db.rollback()
+            raise
+
+    def _done_unkept(self, line: bytes, do: Callable[..., Result], *given: Any) -> Result:
+        """Does a change for whose transaction no memory was found."""
+        self._forget(f"no memory was found to undo {_told(line)}")
+        try:
+            return do(*given)
+        except InTransaction as why:
+            self._leave(line, why)
             raise
 
     def _tried(self, do: Callable[..., Result], *given: Any) -> None:
