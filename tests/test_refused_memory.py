@@ -65,7 +65,6 @@ PASSED_ON = {
     "mmdb/src/main.rt": 4,
     "mmdb_c/src/sharing_calls.rt": 1,
     "mmdb_c/src/statements.rt": 1,
-    "plan_tests/src/tables.rt": 1,
     "relation_tests/src/searches.rt": 1,
 }
 
