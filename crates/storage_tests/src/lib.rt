@@ -4,10 +4,8 @@
 #![tactic(auto)]
 
 #[cfg(test)]
-mod linear_hash;
+mod hashes;
 #[cfg(test)]
 mod linked_nodes;
 #[cfg(test)]
 mod partitions;
-#[cfg(test)]
-mod rows_hashed;

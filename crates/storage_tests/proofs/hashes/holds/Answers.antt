@@ -5,7 +5,7 @@ use Rattle.part_raw.specs.declared.tuple_ref.TupleRef.{TupleRef}
 use Rattle.mm_index.specs.Bag.{with_hash}
 use Rattle.mm_index.proofs.Bags.{Contains-from_with_hash}
 use Rattle.mm_index.proofs.Refs.{Contains-same_refs}
-use Rattle.storage_tests.proofs.linear_hash.holds.Goals as goal
+use Rattle.storage_tests.proofs.hashes.holds.Goals as goal
 
 pub returns-then-contains : goal.returns-then-contains
 returns-then-contains g c =
