@@ -13,7 +13,7 @@ import unittest
 from support import harness, preloading, tested
 
 MOMENT = re.compile(r"\[held (\d+), most \d+\]\nheld: (.+)")
-BOOKS = 1_000
+REFERENCES = 1_000
 ENTRY = 12
 SLOTS = 256
 COUNT = 8
@@ -34,7 +34,7 @@ def moments_of(counter, binary, name):
 
 @tested.requires_toolchain
 class GivenBack(unittest.TestCase):
-    """A store of books under an ordered and a hash index fills with 1,000 books and empties, twice."""
+    """A T-tree and a linear hash fill with 1,000 references and empty, twice."""
 
     @classmethod
     def setUpClass(cls):
@@ -62,15 +62,11 @@ class GivenBack(unittest.TestCase):
         for held in self.each():
             self.assertEqual(held["emptied again"], held["emptied"])
 
-    def test_a_store_keeps_its_partitions(self):
-        for held in self.each():
-            self.assertGreater(held["emptied"], held["nothing"])
-
     def test_no_node_is_held_once_all_are_out(self):
-        """The plain indexes hold nothing then. A tree has no node left, and a hash the heads of its buckets alone."""
-        plain = self.held["plain_indexes_are_given_back"]["emptied"]
-        self.assertEqual(self.held["t_tree_nodes_are_given_back"]["emptied"], plain)
-        self.assertLess(self.held["hash_nodes_are_given_back"]["emptied"], plain + BOOKS * ENTRY)
+        """A tree holds nothing then, and a hash the heads of its buckets alone."""
+        tree, bag = self.held["t_tree_nodes_are_given_back"], self.held["hash_nodes_are_given_back"]
+        self.assertEqual(tree["emptied"], tree["nothing"])
+        self.assertLess(bag["emptied"], bag["nothing"] + REFERENCES * ENTRY)
 
 
 @tested.requires_toolchain

@@ -118,6 +118,18 @@ impl<I: OrderedIndex> Keys<I> {
         Ok(())
     }
 
+    // Makes sure of room for so many more.
+    pub fn reserve(&mut self, n: usize) -> Result<(), NoMemory> {
+        if n <= MAX_LEN {
+            self.index.reserve(n)?;
+        }
+        Ok(())
+    }
+
+    pub fn release_spares(&mut self) {
+        self.index.release_spares();
+    }
+
     // The references with these keys.
     pub fn between(&self, alloc: Global, low: u32, high: u32) -> Result<Vec<TupleRef>, NoMemory> {
         let mut probe = KeyRange {

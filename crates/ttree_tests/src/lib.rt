@@ -6,6 +6,8 @@
 #[cfg(test)]
 mod built;
 #[cfg(test)]
+mod held;
+#[cfg(test)]
 mod keys;
 #[cfg(test)]
 mod shapes;
