@@ -68,12 +68,12 @@ def all_streams():
     for number in range(LARGE_STREAMS * len(shapes.LARGE_FORMS)):
         draw = random.Random(f"{test_many_streams.SEED} large {number}")
         stream = shapes.stream(draw, shapes.LARGE_FORMS[number % len(shapes.LARGE_FORMS)])
-        yield test_many_streams.Stream(stream, draw, model.Limits(), harness.POLICIES[number % 5])
+        yield test_many_streams.Stream(stream, draw, model.Limits(), harness.POLICIES[number % len(harness.POLICIES)])
     rows = [(stream, model.Limits()) for _, stream, _ in harness.rows()]
     rows += [(stream, limits) for _, limits, stream, _ in harness.limited_rows()]
     for number, (stream, limits) in enumerate(rows):
         whole = test_many_streams.whole(stream)
-        yield test_many_streams.Stream(whole, random.Random(number), limits, harness.POLICIES[number % 5])
+        yield test_many_streams.Stream(whole, random.Random(number), limits, harness.POLICIES[number % len(harness.POLICIES)])
 
 
 def with_refusals(calls):

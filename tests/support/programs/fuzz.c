@@ -254,7 +254,7 @@ static uint32_t no_statement(const handle *of)
 static void opens(handle *of)
 {
     static const uint32_t ROWS[] = { 0, 1, 5, 100, MMDB_MOST, MMDB_MOST, MMDB_MOST, MMDB_MOST + 1, UINT32_MAX };
-    const uint32_t policy = (uint32_t)drawn(6), rows = ROWS[drawn(9)], most = is_drawn(80) ? MMDB_MOST : ROWS[drawn(9)];
+    const uint32_t policy = (uint32_t)drawn(MMDB_MERGE + 2), rows = ROWS[drawn(9)], most = is_drawn(80) ? MMDB_MOST : ROWS[drawn(9)];
     const int is_out = rows == 0 || rows > MMDB_MOST || most > MMDB_MOST;
     const mmdb_status status = mmdb_open(&of->db, policy, rows, most);
     uint32_t allowed = only(MMDB_DONE);
