@@ -11,7 +11,7 @@ use Rattle.plain_tables.specs.declared.command.Command.{Command}
 use Rattle.plain_tables.specs.declared.command.Command.TheVariants as command
 use Rattle.plain_tables.proofs.FirstWords.{behind_word, first_word, split-word}
 use Rattle.plain_streams.specs.Requests.{without_return}
-use Rattle.mm_prepared.specs.Declaring.{IsDeclaration, IsOfTables, begins_declaration, behind_blanks, declares, is_declaration}
+use Rattle.mm_prepared.specs.Declaring.{IsDeclaration, IsOfTables, begins_declaration, begins_waiting, behind_blanks, declares, is_declaration}
 
 -- whether a text begins with a word
 abbrev pub begins : List ℕ → List ℕ → Bool
@@ -100,7 +100,7 @@ other-begins line word symbols plain begins made =
     let (more, is) = word-behind line word symbols plain made in
     ap begins_declaration is ∙ begins more
 
-pub declaration-begins : (line : List ℕ) → IsDeclaration (without_return line) → begins_declaration (behind_blanks line) ≡ true
+declaration-begins : (line : List ℕ) → IsDeclaration (without_return line) → begins_declaration (behind_blanks line) ≡ true
 declaration-begins line (command.Table name schema, spells, of) =
     table-begins line name (Sign Open ∷ (separated (map column_symbols schema.columns) ++ (Sign Close ∷ []))) spells.2
 declaration-begins line (command.DropTable name, spells, of) =
@@ -110,3 +110,9 @@ declaration-begins line (command.Index table column kind, spells, of) =
 declaration-begins line (command.DropIndex table column kind, spells, of) =
     other-begins line (codes "drop") (behind_word (command.DropIndex table column kind)) (λ more. refl) (λ more. refl) spells.2
 declaration-begins line (c, spells, of) = absurd (false≢true of)
+
+begins-waits : (text : List ℕ) → begins_declaration text ≡ true → begins_waiting text ≡ true
+begins-waits text is = rw is refl
+
+pub declaration-waits : (line : List ℕ) → IsDeclaration (without_return line) → begins_waiting (behind_blanks line) ≡ true
+declaration-waits line of = begins-waits (behind_blanks line) (declaration-begins line of)

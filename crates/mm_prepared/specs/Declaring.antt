@@ -1,4 +1,4 @@
--- Declaring: which lines may change the names and columns of tables, and which may declare or drop anything.
+-- Declaring: which lines may change the names and columns of tables, and which wait until no transaction is open.
 use Rattle.std.specs.Prelude.{ℕ, List, [], ◌∷◌, Bool, true, false, if◌then◌else◌, ◌||◌, nat_eq, not, ◌&&◌, IsTrue}
 use Rattle.std.specs.List.{starts_with}
 use lib.Chars.{codes}
@@ -36,3 +36,7 @@ abbrev pub begins_declaration : List ℕ → Bool
 begins_declaration text =
     (starts_with nat_eq text (codes "table") && not (starts_with nat_eq text (codes "tables")))
     || (starts_with nat_eq text (codes "index") || starts_with nat_eq text (codes "drop"))
+
+-- whether a text begins with the first word of a declaration or of an update
+abbrev pub begins_waiting : List ℕ → Bool
+begins_waiting text = begins_declaration text || starts_with nat_eq text (codes "update")

@@ -1,7 +1,7 @@
-//! Which lines may change the names and columns of tables, and which may declare or drop anything.
+//! Which lines may change the names and columns of tables, and which wait until no transaction is open.
 ghost use Rattle.std.specs.Prelude.{◌≡◌, IsTrue};
 ghost use Rattle.plain_streams.specs.Requests.{without_return};
-ghost use Rattle.mm_prepared.specs.Declaring.{IsDeclaration, IsOfTables, begins_declaration, behind_blanks};
+ghost use Rattle.mm_prepared.specs.Declaring.{IsDeclaration, IsOfTables, begins_waiting, behind_blanks};
 
 // The line from its first character on that is no blank.
 fn trim_blanks(line: &[u8]) -> &[u8]
@@ -23,18 +23,22 @@ pub fn may_declare(line: &[u8]) -> bool
     text.starts_with(b"table") || text.starts_with(b"drop")
 }
 
-// Whether a text begins with the first word of a declaration.
-fn is_begun(text: &[u8]) -> bool
-    ensures { result ≡ begins_declaration text.now }
+// Whether a text begins with the first word of a declaration or of an update.
+fn is_waiting(text: &[u8]) -> bool
+    ensures { result ≡ begins_waiting text.now }
 {
     let is_table = text.starts_with(b"table") && !text.starts_with(b"tables");
-    is_table || text.starts_with(b"index") || text.starts_with(b"drop")
+    is_table
+        || text.starts_with(b"index")
+        || text.starts_with(b"drop")
+        || text.starts_with(b"update")
 }
 
-/// Whether a line begins as those do that declare or drop a table or an index. Any other leaves all declarations.
-pub fn may_be_declaration(line: &[u8]) -> bool
-    ensures value { result ≡ begins_declaration (behind_blanks line.now) }
-    ensures all { IsDeclaration (without_return line.now) → IsTrue result }
+/// Whether a line waits until no transaction is open: it begins as those do that declare or drop a table or an index, or as an
+/// update. So every declaration waits.
+pub fn waits_in_transaction(line: &[u8]) -> bool
+    ensures value { result ≡ begins_waiting (behind_blanks line.now) }
+    ensures declarations { IsDeclaration (without_return line.now) → IsTrue result }
 {
-    is_begun(trim_blanks(line))
+    is_waiting(trim_blanks(line))
 }

@@ -26,7 +26,7 @@ mod lent;
 pub use bound::Bound;
 pub use cell::Cell;
 pub use commands::Commands;
-pub use declaring::{may_be_declaration, may_declare};
+pub use declaring::{may_declare, waits_in_transaction};
 pub use declined::Declined;
 pub use finishing::finish;
 pub use kept::{Prepared, Statements};
