@@ -1,24 +1,22 @@
 -- What becomes of a catalog's outline as rows are hidden, shown again and dropped.
-use Rattle.std.proofs.Common.{◌≡◌, ◌≢◌, ℕ, ◌<◌, ◌≤◌, ◌+◌, ◌-◌, Bool, true, false, List, [], ◌∷◌, Option, Some, None, IsSome, is_some, refl, sym, ap, ◌∙◌, subst, arith, length, map, get_or, inl, inr}
-use Rattle.std.specs.Prelude.{Result, Ok, Err, OnOk}
-use Rattle.std.specs.List.{All, AllPairs, Contains, slice_get}
+use Rattle.std.proofs.Common.{◌≡◌, ◌≢◌, ℕ, ◌+◌, ◌-◌, Bool, true, false, List, [], ◌∷◌, Some, None, IsSome, is_some, refl, sym, ap, ◌∙◌, subst, arith, length, map, get_or, inl, inr}
+use Rattle.std.specs.List.{All, AllPairs, Contains}
 use Rattle.std.specs.Option.{option_and_then, option_map_or}
 use Rattle.std.specs.FinMap.{get, insert, len}
 use Rattle.std.proofs.lemmas.Bool.{false≢true}
 use Rattle.std.proofs.lemmas.List.Elements.{All-contains, All-contains_itself, All-head, All-tail}
-use Rattle.std.proofs.lemmas.Option.{none-some}
 use Rattle.common_lemmas.proofs.Elements.{Contains-cons, Contains-cons_cases, Contains-head}
 use Rattle.common_lemmas.proofs.Pairs.{AllPairs-head, AllPairs-tail}
 use Rattle.part_raw.specs.Store.{Tuples}
 use Rattle.part_raw.specs.declared.tuple_ref.TupleRef.{TupleRef}
 use Rattle.part_raw.proofs.Lookup.{same_or_other}
 use Rattle.part_raw.proofs.Tuples.{get-insert_other, get-insert_same, held_tuple, len-insert_fresh, same_tuples}
-use Rattle.mm_relation.specs.Rows.{Row, referrers_at}
+use Rattle.mm_relation.specs.Rows.{Row}
 use Rattle.mm_relation.specs.State.{RelationState}
 use Rattle.mm_catalog.specs.State.{CatalogState}
 use Rattle.mm_catalog.specs.Deleted.{AllFree}
-use Rattle.mm_catalog.specs.Hidden.{AreHiddenAt, AreShown, AreShownAt}
-use Rattle.mm_catalog.specs.Outline.{HasRowsHidden, HidesOnce, Outline, RelationOutline, changed_at, is_among, outline_of, relation_outline, shown, with_shown, with_those, without}
+use Rattle.mm_catalog.specs.Hidden.{AreHiddenAt, AreShownAt}
+use Rattle.mm_catalog.specs.Outline.{HasRowsHidden, changed_at, is_among, outline_of, relation_outline, shown, with_shown, with_those, without}
 use Rattle.mm_catalog.specs.Recounted.{IsRewritten}
 use Rattle.mm_catalog.proofs.Elsewhere.{rewritten_from}
 use Rattle.mm_catalog.proofs.Outlined.{among_contains, changed_back, changed_forth, deleted_rewritten, none_among, outline_here, without_is}

@@ -1,5 +1,5 @@
 -- What a call that hides rows of a table answers, and what it leaves.
-use Rattle.std.proofs.Common.{◌≡◌, ◌≢◌, ◌<◌, ◌⊎◌, Bool, List, Some, IsSome, refl, sym, ap, subst, length, map, inl, inr}
+use Rattle.std.proofs.Common.{◌≡◌, ◌≢◌, ◌<◌, ◌⊎◌, Bool, List, Some, IsSome, refl, length, inl, inr}
 use Rattle.std.specs.Prelude.{Result, Ok, Err, IfErr, OnErr, OnOk}
 use Rattle.std.specs.List.{All, AllPairs, slice_get}
 use Rattle.std.specs.FinMap.{get}
@@ -11,17 +11,15 @@ use Rattle.plain_tables.specs.declared.numbers.TableNumber.{TableNumber}
 use Rattle.plain_tables.specs.declared.refusal.Refusal.{Refusal}
 use Rattle.plain_tables.specs.declared.refusal.Refusal.TheVariants.{NoMemory, RowIsReferenced}
 use Rattle.plain_tables.specs.declared.value.Value.{Value}
-use Rattle.mm_relation.specs.State.{RelationState, tree_list}
+use Rattle.mm_relation.specs.State.{RelationState}
 use Rattle.mm_catalog.specs.State.{CatalogState}
-use Rattle.mm_catalog.specs.Seen.{database_of, rows_of, table_of}
+use Rattle.mm_catalog.specs.Seen.{database_of}
 use Rattle.mm_catalog.specs.Consistent.{IsConsistent}
-use Rattle.mm_catalog.specs.Changes.{HasEffect, KeepsDatabase}
+use Rattle.mm_catalog.specs.Changes.{HasEffect}
 use Rattle.mm_catalog.specs.Deleted.{AllFree, AnyReferenced}
-use Rattle.mm_catalog.specs.Hidden.{AreHiddenAt, without_hidden}
-use Rattle.mm_catalog.specs.Outline.{HasRowsHidden, HidesOnce, changed_at, dropped, outline_of, relation_outline, with_dropped}
+use Rattle.mm_catalog.specs.Hidden.{AreHiddenAt}
+use Rattle.mm_catalog.specs.Outline.{HasRowsHidden, outline_of}
 use Rattle.mm_catalog.specs.Picked.{ArePicked}
-use Rattle.mm_catalog.proofs.Alike.{AreAlike, AreAlike-set, consistent_alike, table_alike}
-use Rattle.mm_catalog.proofs.Among.{among_at}
 use Rattle.mm_catalog.proofs.Deleting.{deleted_consistent, deleted_effect, deleted_refused}
 use Rattle.mm_catalog.proofs.HiddenRows.{hidden_outlined}
 

@@ -1,5 +1,5 @@
 -- Rows that are hidden one after another, or shown again.
-use Rattle.std.proofs.Common.{◌≡◌, ◌≢◌, ℕ, ◌+◌, ◌*◌, ◌<◌, ◌≤◌, ◌++◌, true, false, List, [], ◌∷◌, Option, Some, None, IsSome, is_some, refl, sym, ap, ◌∙◌, subst, arith, length, take, drop, get_or, zero-add, inl, inr}
+use Rattle.std.proofs.Common.{◌≡◌, ◌≢◌, ℕ, ◌+◌, ◌<◌, ◌≤◌, ◌++◌, true, false, List, [], ◌∷◌, Option, Some, None, IsSome, is_some, refl, sym, ap, ◌∙◌, subst, arith, length, take, drop, get_or, zero-add, inl, inr}
 use Rattle.std.specs.List.{All, AllPairs, Contains}
 use Rattle.std.specs.Option.{option_and_then, unwrap_or}
 use Rattle.std.specs.FinMap.{get, insert, len, remove}
@@ -7,25 +7,23 @@ use Rattle.std.proofs.lemmas.Bool.{false≢true}
 use Rattle.std.proofs.lemmas.List.{take-append-drop, take_more}
 use Rattle.std.proofs.lemmas.List.Elements.{All-contains, Contains-append_left, Contains-get_or, Contains-push, Contains-push_cases}
 use Rattle.std.proofs.lemmas.List.Sums.{count_by-le-length}
-use Rattle.std.proofs.lemmas.Option.{none-some}
 use Rattle.part_raw.specs.Store.{Tuples}
 use Rattle.part_raw.specs.declared.tuple_ref.TupleRef.{TupleRef}
 use Rattle.part_raw.proofs.Lookup.{same_or_other}
 use Rattle.part_raw.proofs.Tuples.{get-insert_other, get-insert_same, get-remove_other, get-remove_same, len-insert_fresh, len-insert_held}
 use Rattle.mm_relation.specs.Changes.{IsHidden, IsShown}
 use Rattle.mm_relation.specs.Order.{KeysDiffer}
-use Rattle.mm_relation.specs.Reading.{key_at}
 use Rattle.mm_relation.specs.Rows.{Row, referrers_at}
-use Rattle.mm_relation.specs.State.{HasKey, IsCurrent, IsKept, RelationState, linked_keys}
+use Rattle.mm_relation.specs.State.{HasKey, IsKept, RelationState, linked_keys}
 use Rattle.mm_relation.proofs.Setting.{not_before}
 use Rattle.mm_catalog.specs.Counted.{AreCountedBy, naming, none}
 use Rattle.mm_catalog.specs.Deleted.{AreRemoved, IsGone}
 use Rattle.mm_catalog.specs.Hidden.{AreHidden, AreLinked, AreShown, IsMore}
 use Rattle.mm_catalog.specs.Linked.{is_link_to, relation_links, row_links}
 use Rattle.mm_catalog.specs.Outline.{is_among, with_those, without}
-use Rattle.mm_catalog.specs.Recounted.{AreRecounted, KeepsColumns}
+use Rattle.mm_catalog.specs.Recounted.{AreRecounted}
 use Rattle.mm_catalog.proofs.Bounded.{length-row_links}
-use Rattle.mm_catalog.proofs.Counted.{AreRecounted-refl, counted_none, up_then}
+use Rattle.mm_catalog.proofs.Counted.{counted_none, up_then}
 use Rattle.mm_catalog.proofs.Counting.{links_inserted}
 use Rattle.mm_catalog.proofs.HiddenRows.{with_among, with_other}
 use Rattle.mm_catalog.proofs.Outlined.{among_contains, gone_without, none_among, still_without, without_is}

@@ -1,5 +1,5 @@
 -- A relation that owes more rows is otherwise as it was, and one of which hidden rows are dropped.
-use Rattle.std.proofs.Common.{◌≡◌, ◌≢◌, ℕ, ◌+◌, ◌≤◌, ◌++◌, List, Some, None, IsSome, refl, sym, ap, ◌∙◌, subst, arith, length, map, set, take, drop}
+use Rattle.std.proofs.Common.{◌≡◌, ℕ, ◌+◌, ◌≤◌, ◌++◌, List, Some, None, IsSome, refl, sym, ap, ◌∙◌, subst, arith, length, map, set}
 use Rattle.std.specs.List.{slice_get}
 use Rattle.std.specs.FinMap.{get, len}
 use Rattle.std.specs.Option.{option_map}

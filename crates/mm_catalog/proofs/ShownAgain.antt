@@ -1,30 +1,27 @@
 -- A catalog of which hidden rows are shown again: it has the database of any catalog of its outline, and stays consistent.
-use Rattle.std.proofs.Common.{◌≡◌, ◌≢◌, ℕ, ◌+◌, ◌*◌, ◌<◌, ◌≤◌, true, false, List, [], ◌∷◌, ◌++◌, Option, Some, None, IsSome, is_some, refl, sym, ap, ◌∙◌, subst, arith, length, length-take, map, set, take, drop, get_or, inl, inr}
-use Rattle.std.specs.List.{All, AllPairs, Contains, count_by, slice_get, zip}
+use Rattle.std.proofs.Common.{◌≡◌, ◌≢◌, ℕ, ◌+◌, ◌*◌, ◌<◌, ◌≤◌, true, false, List, ◌++◌, Option, Some, None, IsSome, is_some, refl, sym, ap, ◌∙◌, subst, arith, length, length-take, map, set, take, drop}
+use Rattle.std.specs.List.{All, AllPairs, Contains, slice_get, zip}
 use Rattle.std.specs.Option.{option_and_then, option_map}
 use Rattle.std.specs.FinMap.{get, len}
-use Rattle.std.proofs.lemmas.Bool.{cases_eq}
 use Rattle.std.proofs.lemmas.List.{length-map}
-use Rattle.std.proofs.lemmas.List.Elements.{All-contains}
 use Rattle.std.proofs.lemmas.Nat.{mul-le}
-use Rattle.std.proofs.lemmas.Option.{same_Some, slice_get-get_or, slice_get-map, slice_get_within}
+use Rattle.std.proofs.lemmas.Option.{same_Some, slice_get-map, slice_get_within}
 use Rattle.common_lemmas.proofs.Elements.{All-at}
 use Rattle.common_lemmas.proofs.Options.{option_map_some}
 use Rattle.common_lemmas.proofs.Places.{slice_get-inside, slice_get_set, slice_get-set_other}
-use Rattle.part_raw.specs.Store.{Tuples}
 use Rattle.part_raw.specs.declared.tuple_ref.TupleRef.{TupleRef}
 use Rattle.plain_tables.specs.References.{IsSound}
 use Rattle.plain_tables.specs.declared.value.Value.{Value}
 use Rattle.mm_relation.specs.Order.{KeysDiffer}
-use Rattle.mm_relation.specs.Reading.{Keys, key_at}
+use Rattle.mm_relation.specs.Reading.{key_at}
 use Rattle.mm_relation.specs.Rows.{Row, referrers_at}
-use Rattle.mm_relation.specs.State.{IsCurrent, IsKept, IsKeyed, IsReadable, RelationState, linked_keys, tree_list}
+use Rattle.mm_relation.specs.State.{IsKept, IsKeyed, IsReadable, RelationState, linked_keys, tree_list}
 use Rattle.mm_catalog.specs.State.{CatalogState}
 use Rattle.mm_catalog.specs.Seen.{database_of, plain_index, rows_of, table_of, values_of}
 use Rattle.mm_catalog.specs.Consistent.{AreCounted, IsConsistent}
-use Rattle.mm_catalog.specs.Counted.{HaveRoom, naming}
+use Rattle.mm_catalog.specs.Counted.{HaveRoom}
 use Rattle.mm_catalog.specs.Hidden.{AreShownAt, CanBeShown, CanShow}
-use Rattle.mm_catalog.specs.Linked.{HasLinksOrNulls, is_link_to, links_to, relation_links, target_at}
+use Rattle.mm_catalog.specs.Linked.{HasLinksOrNulls, links_to, target_at}
 use Rattle.mm_catalog.specs.Outline.{HidesOnce, IsOutline, Outline, RelationOutline, is_among, outline_of, relation_outline, shown, with_shown, with_those}
 use Rattle.mm_catalog.specs.Recounted.{HaveReferrers, IsRewritten}
 use Rattle.mm_catalog.proofs.Among.{among_at}

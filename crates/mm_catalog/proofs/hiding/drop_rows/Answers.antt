@@ -1,4 +1,4 @@
-use Rattle.std.proofs.Common.{◌≡◌, ◌-◌, IsSome, arith, ap, get_or, is_some, length, sym, ◌∙◌, take}
+use Rattle.std.proofs.Common.{◌-◌, arith, ap, get_or, is_some, length, sym, ◌∙◌, take}
 use Rattle.std.specs.FinMap as finite
 use Rattle.std.proofs.lemmas.List.{get_or_default, take_all}
 use Rattle.mm_relation.specs.State.{RelationState}

@@ -1,6 +1,6 @@
-use Rattle.std.proofs.Common.{◌≡◌, ◌+◌, IsSome, Some, get_or, length, sym, ap, ◌∙◌, subst}
+use Rattle.std.proofs.Common.{◌+◌, IsSome, get_or, length, sym, ◌∙◌, subst}
 use Rattle.std.specs.FinMap.{get}
-use Rattle.std.specs.List.{All, slice_get}
+use Rattle.std.specs.List.{All}
 use Rattle.std.proofs.lemmas.Option.{same_Some}
 use Rattle.mm_relation.specs.State.{RelationState}
 use Rattle.mm_catalog.specs.Deleted.{IsFree}

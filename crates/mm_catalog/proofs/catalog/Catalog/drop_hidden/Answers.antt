@@ -1,14 +1,12 @@
 use Rattle.std.proofs.Common.{◌≡◌, List, Some, length, map, set, refl, sym, ap, ◌∙◌, subst}
-use Rattle.std.specs.FinMap as finite
-use Rattle.std.specs.List.{All, slice_get}
+use Rattle.std.specs.List.{slice_get}
 use Rattle.std.specs.String.{string_bytes}
 use Rattle.std.proofs.lemmas.Option.{slice_get_read}
 use Rattle.mm_relation.specs.State.{RelationState}
 use Rattle.mm_catalog.specs.State.{CatalogState}
 use Rattle.mm_catalog.specs.Changes.{KeepsDatabase}
 use Rattle.mm_catalog.specs.Consistent.{IsConsistent}
-use Rattle.mm_catalog.specs.Hidden.{without_hidden}
-use Rattle.mm_catalog.specs.Outline.{HidesOnce, changed_at, outline_of, with_dropped}
+use Rattle.mm_catalog.specs.Outline.{HidesOnce, outline_of}
 use Rattle.mm_catalog.proofs.Owing.{consistent_dropped, database_dropped, dropped_relations, outline_dropped}
 use Rattle.mm_catalog.proofs.ShownAgain.{relation_there}
 use Rattle.mm_catalog.proofs.catalog.Catalog.drop_hidden.Goals as goal

@@ -7,7 +7,6 @@ use Rattle.part_raw.specs.declared.tuple_ref.TupleRef.{TupleRef}
 use Rattle.mm_relation.specs.State.{RelationState}
 use Rattle.mm_catalog.specs.State.{CatalogState}
 use Rattle.mm_catalog.specs.Consistent.{IsConsistent}
-use Rattle.mm_catalog.specs.Hidden.{AreShownAt, CanShow}
 use Rattle.mm_catalog.specs.Outline.{HidesOnce, IsOutline, outline_of, with_shown}
 use Rattle.mm_catalog.proofs.Lists.{whole}
 use Rattle.mm_catalog.proofs.ShownAgain.{can_show, relation_there, shown_so}
