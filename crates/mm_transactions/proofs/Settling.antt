@@ -1,5 +1,5 @@
 -- Changes that are settled: what they hide is dropped.
-use Rattle.std.proofs.Common.{◌≡◌, ℕ, ◌+◌, ◌-◌, ◌≤◌, List, [], ◌∷◌, Option, Some, None, IsSome, refl, sym, ap, ◌∙◌, subst, arith, length, map, set}
+use Rattle.std.proofs.Common.{◌≡◌, ℕ, ◌+◌, ◌-◌, ◌≤◌, List, [], ◌∷◌, Some, None, IsSome, refl, sym, ap, ◌∙◌, subst, arith, length, map, set}
 use Rattle.std.specs.List.{All, slice_get}
 use Rattle.std.specs.Option.{option_map, option_map_or}
 use Rattle.std.specs.FinMap.{get, len}
@@ -14,7 +14,7 @@ use Rattle.mm_relation.specs.State.{RelationState}
 use Rattle.mm_catalog.specs.Outline.{HidesOnce, Outline, RelationOutline, changed_at, dropped, outline_of, shown, with_dropped, with_shown, without, without_rows}
 use Rattle.mm_catalog.specs.State.{CatalogState}
 use Rattle.mm_transactions.specs.Log.{AreSettled, IsSettledOnce, LogState}
-use Rattle.mm_transactions.specs.Undoing.{Came, CanSettle, CanUndo, Change, Went, all_settled, before, set_aside, settled}
+use Rattle.mm_transactions.specs.Undoing.{Came, CanSettle, CanUndo, Change, Went, all_settled, set_aside}
 
 abbrev Aside : Type 0
 Aside = Tuples Row × ℕ

@@ -16,7 +16,6 @@ use Rattle.mm_catalog.specs.State.{CatalogState}
 use Rattle.mm_catalog.proofs.Tables.{database-length}
 use Rattle.mm_catalog.proofs.Unnamed.{free_without}
 use Rattle.mm_transactions.specs.Log.{change_of, changes_of}
-use Rattle.mm_transactions.specs.Undoing.{Came}
 use Rattle.mm_transactions.specs.declared.log.Step.{Step}
 
 pub length-changes_of : (steps : List Step) (refs : List TupleRef) → length (changes_of steps refs) ≡ length steps
