@@ -59,8 +59,7 @@ IsUndone old new effect (changing.Refused why) = HasDeclined old new effect why
 IsUndone old new effect changing.Shared = Unit {0}
 IsUndone old new effect changing.InTransaction = old.saved ≢ []
 
--- an update or a delete
+-- an update
 abbrev pub IsRewriting : Resolved → Type 0
 IsRewriting (resolved.Update n assignments tests) = Unit {0}
-IsRewriting (resolved.Delete n tests) = Unit {0}
 IsRewriting r = ⊥

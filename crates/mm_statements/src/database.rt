@@ -47,7 +47,7 @@ pub struct PreparedLine<'a> {
 /// the values that are bound then.
 ///
 /// Several databases may share a session. Each has statements of its own, and reads the tables. Only the last that is left changes
-/// them; the others are refused by `Shared`. In a transaction rows are inserted, loaded and read; all else is refused by `InTransaction`.
+/// them; the others are refused by `Shared`. In a transaction rows are inserted, loaded, deleted and read; all else is refused by `InTransaction`.
 #[derive(Drop)]
 pub struct Database {
     session: SharedSession,
@@ -83,7 +83,7 @@ impl Database {
     ghost use Rattle.mm_session.specs.OneRequest.{AnswersOne, GoesBetween, IsAtSamePlace, StaysInStream};
     ghost use Rattle.mm_session.specs.Sessions.{BreaksOff, Feeds, Finishes, Gains, new_session, tables_of};
     ghost use Rattle.plain_tables.specs.Transactions.{begun, committed, rolled_back};
-    ghost use Rattle.mm_prepared.specs.Declaring.{begins_for_transactions, behind_blanks};
+    ghost use Rattle.mm_prepared.specs.Declaring.{begins_waiting, behind_blanks};
     ghost use Rattle.mm_prepared.specs.Cells.{IsSmall, cell_value};
     ghost use Rattle.mm_prepared.specs.Kept.{KeptStatement};
     ghost use Rattle.mm_statements.specs.Databases.{statement_at, IsUnchanged, NowNames, SameStatements};
@@ -246,8 +246,8 @@ impl Database {
         ensures run { OnOk result (GoesBetween self.old.session self.new.session (record { line = line.now; block = block.now }) answer.new) }
 
         // In a transaction a request is declined whose line begins as none does that may be done there.
-        ensures open { IsErrOf result request_fault.InTransaction → (self.old.session.saved ≢ []) × (begins_for_transactions (behind_blanks line.now) ≡ false) }
-        ensures waits { self.old.session.saved ≢ [] → begins_for_transactions (behind_blanks line.now) ≡ false → result ≡ Err request_fault.InTransaction }
+        ensures open { IsErrOf result request_fault.InTransaction → (self.old.session.saved ≢ []) × (begins_waiting (behind_blanks line.now) ≡ true) }
+        ensures waits { self.old.session.saved ≢ [] → begins_waiting (behind_blanks line.now) ≡ true → result ≡ Err request_fault.InTransaction }
 
         // The statements stay.
         ensures statements { SameStatements self.old self.new }

@@ -52,7 +52,7 @@ pub enum ExecuteFault {
     TooLong,
     /// It is an insert, an update or a delete, and another database shares the tables.
     Shared,
-    /// It is an update or a delete, and a transaction is open.
+    /// It is an update, and a transaction is open.
     InTransaction,
 }
 
@@ -102,7 +102,7 @@ pub enum QueryFault {
     TooLong,
     /// It is an insert, an update or a delete, and another database shares the tables.
     Shared,
-    /// It is an update or a delete, and a transaction is open.
+    /// It is an update, and a transaction is open.
     InTransaction,
 }
 
@@ -138,7 +138,7 @@ pub enum RequestFault {
     NotOneRequest,
     /// Another database shares the tables.
     Shared,
-    /// A transaction is open, and the line begins as no request does that may be done in one.
+    /// A transaction is open, and the line begins as a declaration or an update.
     InTransaction,
 }
 
@@ -187,7 +187,7 @@ pub enum ChangeFault {
     Refused(Refusal),
     /// Another database shares the tables.
     Shared,
-    /// It is an update or a delete, and a transaction is open.
+    /// It is an update, and a transaction is open.
     InTransaction,
 }
 

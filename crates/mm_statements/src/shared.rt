@@ -11,8 +11,9 @@ ghost use Rattle.mm_catalog.specs.Seen.{database_of};
 ghost use Rattle.mm_cells.specs.Reading.{AreFull};
 ghost use Rattle.mm_cells.specs.Values.{values_of};
 ghost use Rattle.mm_session.specs.Changing.{HasChanged, IsChange, ShowsValues};
-ghost use Rattle.mm_prepared.specs.Declaring.{begins_for_transactions, behind_blanks};
+ghost use Rattle.mm_prepared.specs.Declaring.{begins_waiting, behind_blanks};
 ghost use Rattle.mm_session.specs.OneRequest.{AnswersOne, GoesBetween, IsAtSamePlace, StaysInStream};
+ghost use Rattle.mm_transactions.specs.Log.{AreSettled};
 ghost use Rattle.mm_session.specs.Sessions.{BreaksOff, Feeds, Finishes, Gains, tables_of};
 ghost use Rattle.mm_statements.specs.Faults.{IsRewriting, IsUndone};
 ghost use Rattle.mm_statements.specs.declared.faults.ChangeFault.TheVariants as change_fault;
@@ -23,7 +24,7 @@ ghost use Rattle.mm_statements.specs.declared.faults.StreamFault.TheVariants as 
 use crate::faults::{BeginFault, ChangeFault, EndFault, RequestFault, StreamFault};
 use mm_catalog::Catalog;
 use mm_cells::{CellFault, Cells};
-use mm_prepared::is_for_transactions;
+use mm_prepared::waits_in_transaction;
 use mm_session::{Answer, Session};
 use no_memory::NoMemory;
 use plain_tables::{Query, Resolved, TableNumber, Value};
@@ -115,7 +116,7 @@ impl SharedSession {
     pub fn commit(&mut self) -> Result<(), EndFault>
         ensures open { OnOk result (self.old.saved ≢ []) }
         ensures committed { OnOk result (tables_of self.new ≡ committed (tables_of self.old)) }
-        ensures catalog { self.new.catalog ≡ self.old.catalog }
+        ensures catalog { AreSettled self.old.catalog self.new.catalog }
         ensures none { IsErrOf result end_fault.NoTransaction → self.old.saved ≡ [] }
         ensures unchanged { OnErr result (self.new ≡ self.old) }
         ensures stream { IsAtSamePlace self.old self.new }
@@ -156,8 +157,7 @@ impl SharedSession {
         self.session().select(query, cells)
     }
 
-    /// Does an insert, an update or a delete, as the session does, where nobody else holds it. In a transaction an update and a delete are
-    /// declined.
+    /// Does an insert, an update or a delete, as the session does, where nobody else holds it. In a transaction an update is declined.
     pub fn change(&mut self, command: &Resolved) -> Result<usize, ChangeFault>
         requires meant { IsMeant self.old.limits self.old.database command.now }
         requires change { IsChange command.now }
@@ -167,7 +167,7 @@ impl SharedSession {
         ensures waits { self.old.saved ≢ [] → IsRewriting command.now → result ≡ Err change_fault.InTransaction }
         ensures stream { StaysInStream self.old self.new }
     {
-        if !matches!(command, Resolved::Insert { .. }) && self.is_in_transaction() {
+        if matches!(command, Resolved::Update { .. }) && self.is_in_transaction() {
             return Err(ChangeFault::InTransaction);
         }
         match Arc::get_mut(&mut self.session) {
@@ -191,7 +191,7 @@ impl SharedSession {
     }
 
     /// Answers one request by itself, as the session does, where nobody else holds it. In a transaction one is declined whose line begins as
-    /// none does that may be done there.
+    /// a declaration or an update.
     pub fn answer_request(
         &mut self,
         line: &[u8],
@@ -203,10 +203,10 @@ impl SharedSession {
         ensures unchanged { OnErr result ((self.new ≡ self.old) × (answer.new ≡ answer.old)) }
         ensures stream { StaysInStream self.old self.new }
         ensures run { OnOk result (GoesBetween self.old self.new (record { line = line.now; block = block.now }) answer.new) }
-        ensures open { IsErrOf result request_fault.InTransaction → (self.old.saved ≢ []) × (begins_for_transactions (behind_blanks line.now) ≡ false) }
-        ensures waits { self.old.saved ≢ [] → begins_for_transactions (behind_blanks line.now) ≡ false → result ≡ Err request_fault.InTransaction }
+        ensures open { IsErrOf result request_fault.InTransaction → (self.old.saved ≢ []) × (begins_waiting (behind_blanks line.now) ≡ true) }
+        ensures waits { self.old.saved ≢ [] → begins_waiting (behind_blanks line.now) ≡ true → result ≡ Err request_fault.InTransaction }
     {
-        if self.is_in_transaction() && !is_for_transactions(line) {
+        if self.is_in_transaction() && waits_in_transaction(line) {
             return Err(RequestFault::InTransaction);
         }
         let Some(session) = Arc::get_mut(&mut self.session) else {

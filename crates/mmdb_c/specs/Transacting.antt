@@ -1,8 +1,8 @@
 -- Transacting: what a database has once a transaction began or ended, and how changes are declined meanwhile.
-use Rattle.std.specs.Prelude.{◌≡◌, ◌≢◌, ℕ, List, [], false}
+use Rattle.std.specs.Prelude.{◌≡◌, ◌≢◌, ℕ, List, [], true}
 use Rattle.plain_streams.specs.Requests.{without_return}
 use Rattle.plain_tables.specs.Transactions.{Transactional}
-use Rattle.mm_prepared.specs.Declaring.{begins_for_transactions, behind_blanks}
+use Rattle.mm_prepared.specs.Declaring.{begins_waiting, behind_blanks}
 use Rattle.mm_session.specs.OneRequest.{IsAtSamePlace}
 use Rattle.mm_session.specs.Sessions.{tables_of}
 use Rattle.mm_statements.specs.Databases.{SameStatements}
@@ -15,9 +15,9 @@ use Rattle.mmdb_c.specs.declared.database.Database.{Database}
 abbrev pub IsInTransaction : Database → Type 0
 IsInTransaction d = d.inner.session.saved ≢ []
 
--- A transaction is open, and the line begins as none does that may be done in one.
+-- A transaction is open, and the line begins as a declaration or an update.
 abbrev pub PutsOff : List ℕ → Database → Type 0
-PutsOff line d = IsInTransaction d × (begins_for_transactions (behind_blanks line) ≡ false)
+PutsOff line d = IsInTransaction d × (begins_waiting (behind_blanks line) ≡ true)
 
 -- That became of the tables and of what its transactions began with. The stream is where it was, and the statements, the values that
 -- are bound to them, the answer, the reason and all rows are as they were.

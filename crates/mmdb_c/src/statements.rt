@@ -42,7 +42,7 @@ pub enum Unexecuted {
     TooLong,
     /// It changes the tables, which another handle shares.
     Shared,
-    /// It is an update or a delete, and a transaction is open.
+    /// It is an update, and a transaction is open.
     InTransaction,
 }
 
