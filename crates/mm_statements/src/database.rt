@@ -245,7 +245,7 @@ impl Database {
         ensures stream { StaysInStream self.old.session self.new.session }
         ensures run { OnOk result (GoesBetween self.old.session self.new.session (record { line = line.now; block = block.now }) answer.new) }
 
-        // In a transaction a request is declined whose line begins as none does that may be done there.
+        // In a transaction a request is declined whose line begins as a declaration or an update.
         ensures open { IsErrOf result request_fault.InTransaction → (self.old.session.saved ≢ []) × (begins_waiting (behind_blanks line.now) ≡ true) }
         ensures waits { self.old.session.saved ≢ [] → begins_waiting (behind_blanks line.now) ≡ true → result ≡ Err request_fault.InTransaction }
 

@@ -16,7 +16,8 @@
 //!   forgotten, and worked out anew from the line when the statement is executed next.
 //! - What is declined changes nothing.
 //! - Several databases may share a session. Each reads its tables by statements of its own, and none changes them while another is there.
-//! - In a transaction rows are inserted, loaded and read. All else is declined there, for now, and no tables are shared or left.
+//! - In a transaction rows are inserted, loaded, deleted and read. All else is declined there, for now, and no tables are shared
+//!   or left.
 #![tactic(auto)]
 
 mod columns;
