@@ -1,5 +1,6 @@
 """Very many random streams in one process over the library, judged by plain lists of rows: whole under each policy, in pieces, line by
-line and as statements. Line by line each refusal has its number and a reason. As statements values are bound and rows are cells.
+line and as statements. Line by line each refusal has its number and a reason. As statements values are bound and rows are cells. In
+transactions, whose ends are drawn, all of this is mixed, and after each rollback all tables and indexes are looked at.
 
 In large sizes (`tests/fire many_streams`) the environment selects streams: MMDB_FIRST is the number of the first, MMDB_STREAMS how many,
 MMDB_SEED the seed, MMDB_JOBS the number of processes. MMDB_KEPT names a file that keeps the progress, so that a run can go on later.
@@ -18,7 +19,7 @@ import time
 import unittest
 
 import test_referee
-from support import covered, embedded, harness, joined, model, prepared, random_streams, shapes, sizes, streams, texts
+from support import covered, embedded, harness, joined, model, prepared, random_streams, shapes, sizes, streams, texts, transacted
 
 SEED = sizes.said("MMDB_SEED", 20261127)
 FIRST = sizes.said("MMDB_FIRST", 0)
@@ -138,8 +139,8 @@ class OneByOne:
                 then(line)
 
     def check_indexes(self, handle):
-        for name, listed in lists(self.stream.tables):
-            if not handle_tells(handle, name, listed):
+        for name, listed in transacted.lists(self.stream.tables):
+            if not transacted.handle_tells(handle, name, listed):
                 self.misfits.append(f"the indexes {listed} are told as {handle.indexes(name.encode())!r}")
 
 
@@ -154,18 +155,6 @@ def explains(text, why, number, reason):
     return is_pointed and words != b"" and b"\n" not in words and (number == 35 or words == reason)
 
 
-def lists(tables):
-    """What stands in each table: its name, and for each index its column, its kind and how many rows it has."""
-    for name, table in tables.by_name.items():
-        indexes = [(0, "tree"), *table.indexes]
-        yield name, [f"{table.columns[place].name},{kind},{len(table.rows)},".encode() for place, kind in indexes]
-
-
-def handle_tells(handle, name, listed):
-    told = handle.indexes(name.encode()).splitlines()[2:]
-    return len(told) == len(listed) and all(line.startswith(front) for line, front in zip(told, listed))
-
-
 def one_by_one(stream):
     """What differs where each line is asked on its own, and where it is done by a statement, whose reasons are the same."""
     lines, statements = OneByOne(stream), OneByOne(stream)
@@ -175,13 +164,25 @@ def one_by_one(stream):
     return found + [f"the reasons of lines and of statements: {pair}" for pair in differ]
 
 
+def in_transactions(stream):
+    """What differs where the units are done in transactions. No plan of the policy scan takes an index, so it is another then."""
+    policy = "auto" if stream.policy == "scan" else stream.policy
+    with embedded.Handle(policy, stream.limits) as handle:
+        statements = prepared.Statements(handle, stream.draw, collections.Counter())
+        run = transacted.Run(handle, transacted.Lists(stream.limits), stream.draw, [handle.ask, statements.ask])
+        found = run.differences(stream.units) + [f"the rows of {text!r} changed" for text in statements.changed()]
+    stream.count.update(run.count)
+    return [f"in transactions under {policy}: {misfit}" for misfit in found]
+
+
 def differences(stream):
     """What a stream's answers differ by, in all ways in which they are asked for."""
     answers = b"".join(stream.answers)
     runs = [*by_policies(stream), in_pieces(stream)]
     stream.count["streams", "judged"] += 1
-    stream.count["streams", "answered"] += len(runs) + 2
-    return [f"{how}: {out!r}, not {answers!r}" for how, out in runs if out != answers] + one_by_one(stream)
+    stream.count["streams", "answered"] += len(runs) + 3
+    found = [f"{how}: {out!r}, not {answers!r}" for how, out in runs if out != answers]
+    return found + one_by_one(stream) + in_transactions(stream)
 
 
 def judge(number):
@@ -266,5 +267,6 @@ class Judged(unittest.TestCase):
         self.assertEqual([word for word in covered.WORDS if not progress.count["commands", word.replace("_", " ")]], [])
         self.assertEqual([number for number in REFUSALS if not progress.count["refusals", number]], [])
         self.assertEqual([what for what in covered.SHAPED if not progress.count["shapes", what]], [])
+        self.assertEqual([what for what in transacted.COVERED if not progress.count["transactions", what]], [])
         chosen = {kind.split()[1] for what, kind in progress.count if what.startswith("joins")}
         self.assertEqual(chosen, set(METHODS))

@@ -77,12 +77,12 @@ def all_streams():
 
 
 def with_refusals(calls):
-    """The calls on three of the handles, of a whole stream, of lines and of statements: again and again, each time with another
-    call for memory refused."""
+    """The calls on four of the handles, of a whole stream, of lines, of statements and in transactions: again and again, each time
+    with another call for memory refused."""
     opened = [at for at, call in enumerate(calls) if call.startswith(b"open ")]
     handles = [calls[at:end] for at, end in zip(opened, [*opened[1:], len(calls)])]
     for nth in REFUSED_CALLS:
-        for handle in handles[:1] + handles[-2:]:
+        for handle in handles[:1] + handles[-3:]:
             yield b"refuse %d 0 0\n" % nth
             yield from handle
 

@@ -47,7 +47,11 @@ class Rows(ctypes.Structure):
 
 CELL = struct.Struct("=qIHH")
 INTEGER, TEXT = 1, 2
-NO_MEMORY, REFUSED = 7, 12
+NO_MEMORY, REFUSED, IN_TRANSACTION = 7, 12, 16
+
+
+class PutOff(AssertionError):
+    """A call is not done while a transaction is open."""
 
 
 def call(name, result, *arguments):
@@ -76,6 +80,10 @@ EXECUTE = call("mmdb_execute", NUMBER, ADDRESS, NUMBER, ADDRESS)
 COLUMNS = call("mmdb_columns", NUMBER, ADDRESS, NUMBER, ADDRESS)
 FINALIZE = call("mmdb_finalize", NUMBER, ADDRESS, NUMBER)
 QUERY = call("mmdb_query", NUMBER, ADDRESS, ADDRESS, SIZE, ADDRESS)
+BEGIN = call("mmdb_begin", NUMBER, ADDRESS)
+COMMIT = call("mmdb_commit", NUMBER, ADDRESS)
+ROLLBACK = call("mmdb_rollback", NUMBER, ADDRESS)
+TRANSACTIONS = call("mmdb_transactions", SIZE, ADDRESS)
 CLOSE = call("mmdb_close", None, ADDRESS)
 
 
@@ -111,6 +119,8 @@ class Handle:
 
     @staticmethod
     def done(status):
+        if status == IN_TRANSACTION:
+            raise PutOff(status)
         if status:
             raise AssertionError(f"a call gives the status {status}")
 
@@ -183,6 +193,19 @@ class Handle:
 
     def finalize(self, statement):
         self.done(FINALIZE(self.at, statement.number))
+
+    def begin(self):
+        self.done(BEGIN(self.at))
+
+    def commit(self):
+        self.done(COMMIT(self.at))
+
+    def roll_back(self):
+        self.done(ROLLBACK(self.at))
+
+    def transactions(self):
+        """How many transactions are open."""
+        return TRANSACTIONS(self.at)
 
 
 def answers_to(pieces, policy="auto", limits=model.Limits()):

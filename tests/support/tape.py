@@ -38,6 +38,10 @@ class Tape:
             "EXECUTE": lambda at, of, to: self.add(b"execute", of),
             "COLUMNS": lambda at, of, to: self.add(b"columns", of),
             "FINALIZE": lambda at, of: self.add(b"finalize", of),
+            "BEGIN": lambda at: self.add(b"begin"),
+            "COMMIT": lambda at: self.add(b"commit"),
+            "ROLLBACK": lambda at: self.add(b"rollback"),
+            "TRANSACTIONS": lambda at: self.add(b"transactions"),
         }
 
 

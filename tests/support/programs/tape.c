@@ -103,11 +103,27 @@ static int states(mmdb *db, const call *of)
     return 1;
 }
 
+/* The calls on transactions. Gives 0 where it is none of these. */
+static int transacts(mmdb *db, const call *of)
+{
+    if (is(of, "begin"))
+        mmdb_begin(db);
+    else if (is(of, "commit"))
+        mmdb_commit(db);
+    else if (is(of, "rollback"))
+        mmdb_rollback(db);
+    else if (is(of, "transactions"))
+        mmdb_transactions(db);
+    else
+        return 0;
+    return 1;
+}
+
 /* Makes a call, in which memory may be refused, and gives how many calls for memory there are to the refused one yet. */
 static long make(mmdb *db, const call *of, long to_refused)
 {
     refuse_nth(to_refused);
-    CHECK(asks(db, of) || states(db, of));
+    CHECK(asks(db, of) || states(db, of) || transacts(db, of));
     return refuse_nth(0);
 }
 

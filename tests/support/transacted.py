@@ -1,0 +1,243 @@
+"""Streams in transactions: begin, commit and rollback are drawn among their units, nested to three, and a judge does the same. A unit is
+asked for in one of several ways, and fed in pieces where no transaction is open, since a piece waits in one.
+
+What must hold: a unit that is put off in a transaction changes nothing, and the judge doesn't do it.
+"""
+
+import collections
+import itertools
+
+from . import embedded, model
+
+MOST_OPEN = 3
+# The chances that a transaction begins, is committed and is rolled back before a unit.
+BEGUN, COMMITTED, ROLLED_BACK = 0.15, 0.07, 0.1
+FED = 0.1
+# The chance that a unit which was put off is done behind the transactions.
+DONE_BEHIND = 0.8
+# The commands that are done in each transaction.
+NEVER_PUT_OFF = ("insert", "load", "select", "dump", "tables")
+# What has to come in a run of many streams.
+COVERED = [f"{what}, {number} open" for what in ("begun", "committed", "rolled back") for number in range(1, MOST_OPEN + 1)]
+COVERED += ["fed around", "put off", "of insert undone", "of load undone"]
+
+
+def copy_of(table):
+    copy = model.Table(table.name, table.columns)
+    copy.indexes, copy.rows = list(table.indexes), [list(row) for row in table.rows]
+    return copy
+
+
+class Lists:
+    """Plain lists of rows, which are copied at each begin."""
+
+    def __init__(self, limits=model.Limits()):
+        self.tables = model.Tables(limits)
+        self.saved = []
+
+    def answer(self, line, block):
+        return self.tables.answer(line, block)
+
+    def begin(self):
+        self.saved.append({name: copy_of(table) for name, table in self.tables.by_name.items()})
+
+    def commit(self):
+        self.saved.pop()
+
+    def roll_back(self):
+        self.tables.by_name = self.saved.pop()
+
+
+def lists(tables):
+    """What stands in each table: its name, and for each index its column, its kind and how many rows it has."""
+    for name, table in tables.by_name.items():
+        indexes = [(0, "tree"), *table.indexes]
+        yield name, [f"{table.columns[place].name},{kind},{len(table.rows)},".encode() for place, kind in indexes]
+
+
+def handle_tells(handle, name, listed):
+    told = handle.indexes(name.encode()).splitlines()[2:]
+    return len(told) == len(listed) and all(line.startswith(front) for line, front in zip(told, listed))
+
+
+def written(value):
+    """A value as a line has it, or None where it can't have it."""
+    if value is None or isinstance(value, int):
+        return "null" if value is None else str(value)
+    return None if set(value) & set(b"\r\n") else "'" + value.decode().replace("'", "''") + "'"
+
+
+def word_of(line):
+    """The first word of a line, where it is one."""
+    try:
+        symbols = model.symbols_of(model.text_of(model.without_return(line)) or "")
+    except model.Refused:
+        return ""
+    return symbols[0] if symbols else ""
+
+
+class Run:
+    """The units of a stream on a handle, in transactions, beside a judge. Each way asks for the answer to a unit."""
+
+    def __init__(self, handle, judge, draw, ways, feeds=True, looks_always=False):
+        self.handle = handle
+        self.judge = judge
+        self.draw = draw
+        self.ways = ways
+        self.feeds = feeds
+        self.looks_always = looks_always
+        self.open = 0
+        # For each open transaction the words of the changes in it.
+        self.changed = []
+        self.misfits = []
+        self.count = collections.Counter()
+
+    def differences(self, units):
+        """What differs where the units are done so. In the end no transaction is open."""
+        left = iter(units)
+        try:
+            for unit in left:
+                self.turn()
+                self.do(*unit, left)
+            self.end_all()
+            self.look_at_all({})
+        except AssertionError as why:
+            self.misfits.append(f"a call ends so: {why}")
+        return self.misfits
+
+    # ---- transactions
+
+    def turn(self):
+        """Begins a transaction, ends one, or does neither."""
+        luck = self.draw.random()
+        if luck < BEGUN:
+            if self.open < MOST_OPEN:
+                self.begin()
+        elif luck < BEGUN + COMMITTED + ROLLED_BACK and self.open:
+            self.end(luck < BEGUN + COMMITTED)
+
+    def begin(self):
+        self.handle.begin()
+        self.judge.begin()
+        self.open += 1
+        self.changed.append([])
+        self.note("begun")
+
+    def end(self, is_kept):
+        self.note("committed" if is_kept else "rolled back")
+        self.open -= 1
+        changed = self.changed.pop()
+        if is_kept:
+            self.handle.commit()
+            self.judge.commit()
+            if self.open:
+                self.changed[-1] += changed
+            return
+        rows = {name: table.rows for name, table in self.judge.tables.by_name.items()}
+        self.handle.roll_back()
+        self.judge.roll_back()
+        self.count.update(("transactions", f"of {word} undone") for word in changed)
+        self.look_at_all(rows)
+
+    def end_all(self):
+        while self.open:
+            self.end(self.draw.random() < 0.5)
+
+    def note(self, what):
+        self.count["transactions", f"{what}, {self.open} open"] += 1
+
+    # ---- units
+
+    def do(self, line, block, left):
+        if self.feeds and not self.open and self.draw.random() < FED:
+            self.feed(line, block, left)
+            return
+        try:
+            answer = self.draw.choice(self.ways)(line, block)
+        except embedded.PutOff:
+            self.put_off(line, block, left)
+            return
+        self.compare(line, block, answer)
+        if self.open:
+            self.note_change(line, answer)
+        if self.looks_always:
+            self.look_at_rows()
+
+    def note_change(self, line, answer):
+        word = word_of(line)
+        if answer.startswith(b"ok ") and answer != b"ok 0\n" and word != "tables":
+            self.changed[-1].append(word)
+            self.count["changes in transactions", word] += 1
+
+    def put_off(self, line, block, left):
+        """A unit was put off, so all is as it was. Mostly the transactions end, and it is done behind them."""
+        self.count["transactions", "put off"] += 1
+        if not self.open or word_of(line) in NEVER_PUT_OFF:
+            self.misfits.append(f"{line!r} is put off where {self.open} transactions are open")
+            return
+        self.look_at_rows()
+        if self.draw.random() < DONE_BEHIND:
+            self.end_all()
+            self.do(line, block, left)
+
+    def feed(self, line, block, left):
+        """Feeds a unit in two pieces, and between them mostly some other units in transactions."""
+        unit = line + b"\n" + block
+        end = self.draw.randrange(len(unit))
+        told = self.handle.feed(unit[:end])
+        if self.draw.random() < 0.6:
+            self.do_between(left)
+        self.compare(line, block, told + self.handle.feed(unit[end:]))
+
+    def do_between(self, left):
+        self.count["transactions", "fed around"] += 1
+        self.feeds = False
+        self.begin()
+        self.check_no_piece_is_taken()
+        for unit in itertools.islice(left, self.draw.randrange(1, 6)):
+            self.do(*unit, left)
+            self.turn()
+        self.end_all()
+        self.feeds = True
+
+    def check_no_piece_is_taken(self):
+        try:
+            self.misfits.append(f"a piece is taken in a transaction: {self.handle.feed(b'tables')!r}")
+        except embedded.PutOff:
+            if self.handle.answer():
+                self.misfits.append("a piece is put off, and there are answers")
+
+    # ---- what is compared
+
+    def compare(self, line, block, answer):
+        expected = self.judge.answer(line, block)
+        if answer != expected:
+            self.misfits.append(f"{line!r} is answered {answer!r}, not {expected!r}, where {self.open} transactions are open")
+
+    def ask(self, line):
+        self.compare(line.encode(), b"", self.handle.ask(line.encode(), b""))
+
+    def look_at_rows(self):
+        """All declarations and all rows."""
+        for line in ["tables", *(f"dump {name}" for name in self.judge.tables.by_name)]:
+            self.ask(line)
+
+    def look_at_all(self, others):
+        """Declarations, rows, indexes, and through each index some rows that stand there or are among the others."""
+        if self.handle.transactions() != self.open:
+            self.misfits.append(f"{self.handle.transactions()} transactions are open, not {self.open}")
+        self.look_at_rows()
+        for name, listed in lists(self.judge.tables):
+            if not handle_tells(self.handle, name, listed):
+                self.misfits.append(f"the indexes {listed} are told as {self.handle.indexes(name.encode())!r}")
+        for name, table in list(self.judge.tables.by_name.items()):
+            self.look_through_indexes(table, [*table.rows, *others.get(name, [])])
+
+    def look_through_indexes(self, table, rows):
+        """Selects through each index of a table what one of these rows has."""
+        for place, kind in [(0, "tree"), *table.indexes]:
+            row = self.draw.choice(rows) if rows else []
+            value = written(row[place]) if place < len(row) else None
+            if value is not None:
+                sign = "=" if kind == "hash" or value == "null" else self.draw.choice([">=", "<="])
+                self.ask(f"select * from {table.name} where {table.columns[place].name} {sign} {value}")
