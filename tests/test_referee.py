@@ -1,4 +1,5 @@
-"""Random streams, judged by SQLite: the answers, and all tables after each command.
+"""Random streams, judged by SQLite: the answers, and all tables after each command. The program answers them, and the library does
+so in transactions, which are savepoints of SQLite's.
 
 In large sizes (`tests/fire referee`) the environment selects streams: MMDB_FIRST is the number of the first, MMDB_STREAMS how many,
 MMDB_SEED the seed, MMDB_JOBS how many processes judge.
@@ -12,7 +13,7 @@ import random
 import time
 import unittest
 
-from support import harness, joined, model, random_streams, referee, sizes, streams
+from support import embedded, harness, joined, model, prepared, random_streams, referee, sizes, streams, transacted
 
 
 SEED = sizes.said("MMDB_SEED", 19860528)
@@ -74,7 +75,19 @@ def judge(number):
     listed = list(referee.cases(stream_at(number)))
     ended = harness.run_whole(told(listed), ["--policy", harness.POLICIES[number % len(harness.POLICIES)]])
     found = referee.difference(listed, ended.out)
-    return (f"stream {number} of seed {SEED}: {found}" if found else None), covered(listed)
+    others, count = judge_in_transactions(number)
+    differs = [*([found] if found else []), *others]
+    return (f"stream {number} of seed {SEED}: " + "\n".join(differs) if differs else None), covered(listed) + count
+
+
+def judge_in_transactions(number):
+    """What a stream differs by in transactions, and what was counted of them."""
+    draw = random.Random(f"{SEED} {number} in transactions")
+    units = model.units_of(streams.whole(stream_at(number), b"")[0])
+    with embedded.Handle(harness.POLICIES[number % len(harness.POLICIES)]) as handle:
+        statements = prepared.Statements(handle, draw, collections.Counter())
+        run = transacted.Run(handle, referee.Judge(), draw, [handle.ask, statements.ask], looks_always=True)
+        return [f"in transactions: {misfit}" for misfit in run.differences(units)], run.count
 
 
 def judge_some(numbers):
@@ -112,6 +125,7 @@ class Judged(unittest.TestCase):
         if STREAMS >= 1_000 or not sizes.is_large:
             self.assertEqual([kind for kind in KINDS if not count["rows shown or changed", kind]], [])
             self.assertEqual([number for number in BY_ROWS if not count["refused by SQLite", number]], [])
+            self.assertEqual([what for what in transacted.COVERED if not count["transactions", what]], [])
 
     def test_the_rows_are_judged_so(self):
         for name, stream, _ in harness.rows():
@@ -266,3 +280,93 @@ class Planted(unittest.TestCase):
     def differ(self, stream, units, program, judge=model.Tables):
         listed = list(referee.cases(stream, judge(model.Limits())))
         return referee.difference(listed, answers(units, program(model.Limits())))
+
+
+class Plain(transacted.Lists):
+    """A handle whose tables are plain lists, and which puts nothing off."""
+
+    def ask(self, line, block):
+        return self.answer(line, block)
+
+    def transactions(self):
+        return len(self.saved)
+
+    def indexes(self, name):
+        """How the indexes of a table stand, behind two lines."""
+        return b"".join(line + b"\n" for line in [b"", b"", *dict(transacted.lists(self.tables)).get(name.decode(), [])])
+
+
+class KeepsAll(Plain):
+    def roll_back(self):
+        self.commit()
+
+
+class KeepsWhatIsCommitted(Plain):
+    """No rollback undoes what a transaction in its own has committed."""
+
+    def commit(self):
+        super().commit()
+        now = {name: transacted.copy_of(table) for name, table in self.tables.by_name.items()}
+        self.saved = [now for _ in self.saved]
+
+
+class UndoesAll(Plain):
+    """A rollback undoes the outer transactions too."""
+
+    def roll_back(self):
+        self.tables.by_name, _ = self.saved[0], self.saved.pop()
+
+
+class ChangesRolledBack(Plain):
+    """A rollback restores each table from its rows before and now, which a mistake mixes."""
+
+    def roll_back(self):
+        now = {name: {row[0]: row for row in table.rows} for name, table in self.tables.by_name.items()}
+        super().roll_back()
+        for name, table in self.tables.by_name.items():
+            table.rows = self.mixed(table.rows, now.get(name, {}))
+
+
+class LeavesDeleted(ChangesRolledBack):
+    def mixed(self, before, now):
+        return [row for row in before if row[0] in now]
+
+
+class LeavesUpdated(ChangesRolledBack):
+    def mixed(self, before, now):
+        return [now.get(row[0], row) for row in before]
+
+
+class LeavesInserted(ChangesRolledBack):
+    def mixed(self, before, now):
+        return sorted([*before, *(now[key] for key in now.keys() - {row[0] for row in before})], key=lambda row: row[0])
+
+
+class LeavesEntries(Plain):
+    """The indexes tell the rows that stood there before a rollback."""
+
+    told = 0
+
+    def roll_back(self):
+        self.told = 1
+        super().roll_back()
+
+    def indexes(self, name):
+        return super().indexes(name) + b"id,tree,0,\n" * self.told
+
+
+class PlantedInTransactions(unittest.TestCase):
+    """A mistake that is planted in transactions is seen, and without one nothing is."""
+
+    def differ(self, faulty, number):
+        draw, handle = random.Random(f"{SEED} {number} planted"), faulty()
+        run = transacted.Run(handle, referee.Judge(), draw, [handle.ask], feeds=False)
+        return run.differences(model.units_of(streams.whole(stream_at(number), b"")[0]))
+
+    def test_none_is_seen_where_there_is_none(self):
+        self.assertEqual([self.differ(Plain, number) for number in range(PLANTED_STREAMS // 4)], [[]] * (PLANTED_STREAMS // 4))
+
+    def test_each_planted_mistake_is_seen(self):
+        for faulty in (KeepsAll, KeepsWhatIsCommitted, UndoesAll, LeavesDeleted, LeavesUpdated, LeavesInserted, LeavesEntries):
+            with self.subTest(planted=faulty.__name__):
+                self.assertTrue(any(self.differ(faulty, number) for number in range(PLANTED_STREAMS)))

@@ -13,7 +13,7 @@ import re
 import sqlite3
 from dataclasses import dataclass
 
-from . import model, streams
+from . import model, streams, transacted
 
 # What it is called that a command broke a constraint of SQLite's. Any other that breaks is a failure.
 REFUSALS = {("UNIQUE", "insert"): 41, ("UNIQUE", "load"): 41}
@@ -226,6 +226,32 @@ class Bench:
         """What shows all declarations and all rows."""
         for line in [b"tables", *(b"dump " + name.encode() for name in self.referee.names())]:
             yield self.case(line + b"\n", line, b"")
+
+
+class Judge(transacted.Lists):
+    """The model and SQLite, of which a transaction is a savepoint."""
+
+    def __init__(self):
+        super().__init__()
+        self.bench = Bench(self.tables)
+
+    def answer(self, line, block):
+        case = self.bench.case(line + b"\n" + block, line, block)
+        assert case.by_model == case.answer(), f"the model answers {case.by_model!r}, and SQLite {case.by_sqlite!r}"
+        return case.answer()
+
+    def begin(self):
+        super().begin()
+        self.bench.referee.do(f"SAVEPOINT open{len(self.saved)}")
+
+    def commit(self):
+        self.bench.referee.do(f"RELEASE open{len(self.saved)}")
+        super().commit()
+
+    def roll_back(self):
+        self.bench.referee.do(f"ROLLBACK TO open{len(self.saved)}")
+        self.bench.referee.do(f"RELEASE open{len(self.saved)}")
+        super().roll_back()
 
 
 def refusal_of(answer):
