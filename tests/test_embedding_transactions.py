@@ -1,11 +1,21 @@
-"""Transactions from C: each status, every order of begin, insert, commit and rollback beside plain lists, and memory."""
+"""Transactions from C: each status, every order of begin, insert, commit and rollback beside plain lists, and memory: each call for it
+refused, and the bytes that are held behind rounds of rollbacks and behind a commit.
+"""
 
+import os
+import re
 import unittest
 
-from support import compiling
+from support import compiling, preloading
 
 TRANSACTIONS = compiling.PROGRAMS / "transactions.c"
 ROOM = compiling.Room()
+ROUNDS = 100
+HELD = re.compile(rb"\n\[held (\d+), most \d+\]\n([a-z ]+)\n")
+# What a list that has grown again may have more than one that grew once.
+LIST_STEP = 1_024
+# The greatest part by which what is held behind a commit differs from what the same changes outside leave.
+MOST_SPARE = 0.1
 
 
 def tearDownModule():
@@ -23,6 +33,34 @@ class Transactions(compiling.Programs):
 
     def test_under_the_sanitizers_of_addresses(self):
         self.check("transactions-address", [*compiling.C, *compiling.SANITIZED])
+
+
+class Memory(compiling.Programs):
+    """A change that finds no memory changes nothing, and a rollback needs none. Rounds of rollbacks hold no more, and a commit sheds."""
+
+    def test_each_call_for_memory_is_refused(self):
+        words = [*compiling.C, *compiling.SANITIZED]
+        self.check_counted(ROOM.compiled("rollbacks-refused", compiling.PROGRAMS / "rollbacks_refused.c", words, compiling.COUNTED))
+
+    def marks(self):
+        """What was done at each mark, and the bytes that are held there."""
+        counter = preloading.Library("count_held")
+        self.addCleanup(counter.close)
+        program = ROOM.compiled("rollbacks", compiling.PROGRAMS / "rollbacks.c")
+        ended = compiling.ran(program, env={**os.environ, "LD_PRELOAD": str(counter.path)})
+        self.assertEqual((ended.status, ended.err), (0, b""))
+        return [(what.decode(), int(held)) for held, what in HELD.findall(ended.out)]
+
+    def test_what_is_held(self):
+        marks = self.marks()
+        rounds = [held for what, held in marks if what == "rolled back"]
+        self.assertEqual(len(rounds), ROUNDS)
+        self.assertEqual(set(rounds[1:]), {rounds[1]})
+        self.assertLess(abs(rounds[1] - rounds[0]), LIST_STEP)
+        self.assertEqual({held for what, held in marks if what == "closed"}, {0})
+        held = dict(marks)
+        for what, plain in (("committed", "plain"), ("gone by a commit", "gone")):
+            self.assertLess(abs(held[what] - held[plain]), MOST_SPARE * held[plain], what)
 
 
 if __name__ == "__main__":

@@ -1,0 +1,149 @@
+/* Rounds of begin, changes and rollback; and the same changes in a transaction that is committed, and in none. Behind
+   each it writes what that was, and the bytes are counted that are held then (tests/support/count_held.c). */
+#define _POSIX_C_SOURCE 200809L
+#include "checking.h"
+
+#include <stdlib.h>
+#include <unistd.h>
+
+enum { ROUNDS = 100, ROWS = 1000, BLOCK = 65536 };
+
+/* Whether updates and deletes are done in a transaction. */
+static int are_changes_done = 0;
+
+static void mark(const char *word)
+{
+    CHECK(write(STDOUT_FILENO, word, strlen(word)) == (ssize_t)strlen(word));
+}
+
+static void answered(mmdb *db, const char *line)
+{
+    mmdb_bytes answer;
+    GIVES(command(db, line, &answer), MMDB_DONE);
+    CHECK(answer.length >= 2 && memcmp(answer.at, "ok", 2) == 0);
+}
+
+static void insert(mmdb *db, int first, int count)
+{
+    char line[128];
+    for (int key = first; key < first + count; key++) {
+        snprintf(line, sizeof line, "insert emp (%d, '%0*d', %d, %d)", key, key % 3 * 20, key, 1 + key % 9, key % 50);
+        answered(db, line);
+    }
+}
+
+static void load_rows(mmdb *db, int first, int count)
+{
+    static char block[BLOCK];
+    mmdb_bytes answer;
+    char line[32];
+    size_t length = (size_t)snprintf(block, BLOCK, "id,name,dept,n\n");
+    for (int key = first; key < first + count; key++)
+        length += (size_t)snprintf(block + length, BLOCK - length, "%d,loaded %0*d,,%d\n", key, key % 3 * 20, key, key % 50);
+    snprintf(line, sizeof line, "load emp %zu", length);
+    GIVES(mmdb_load(db, line, strlen(line), block, length, &answer), MMDB_DONE);
+    CHECK(answer.length >= 2 && memcmp(answer.at, "ok", 2) == 0);
+}
+
+static void change(mmdb *db, const char *line)
+{
+    if (are_changes_done || mmdb_transactions(db) == 0)
+        answered(db, line);
+    else
+        GIVES(command(db, line, NULL), MMDB_IN_TRANSACTION);
+}
+
+/* A database with rows in two tables, under indexes of both kinds. */
+static mmdb opened(void)
+{
+    mmdb db = MMDB_CLOSED;
+    GIVES(mmdb_open(&db, MMDB_AUTO, MMDB_MOST, MMDB_MOST), MMDB_DONE);
+    answered(&db, "table dept (id int, name text)");
+    answered(&db, "table emp (id int, name text, dept ref dept null, n int)");
+    answered(&db, "index emp name hash");
+    answered(&db, "index emp dept tree");
+    answered(&db, "index emp n tree");
+    answered(&db, "index emp n hash");
+    for (int key = 1; key < 10; key++) {
+        char line[64];
+        snprintf(line, sizeof line, "insert dept (%d, 'dept')", key);
+        answered(&db, line);
+    }
+    insert(&db, 0, ROWS);
+    return db;
+}
+
+/* Finds out whether updates and deletes are done in a transaction. */
+static void ask_whether_changes_are_done(void)
+{
+    mmdb db = opened();
+    GIVES(mmdb_begin(&db), MMDB_DONE);
+    are_changes_done = command(&db, "delete emp", NULL) == MMDB_DONE;
+    mmdb_close(&db);
+}
+
+static void changes(mmdb *db)
+{
+    insert(db, ROWS, ROWS);
+    load_rows(db, 2 * ROWS, ROWS);
+    change(db, "update emp set name = 'a name that is longer than fourteen bytes' where n < 10");
+    change(db, "update emp set n = 3, dept = null where id > 500");
+    change(db, "delete emp where id >= 200 and id < 700");
+}
+
+/* Changes in a transaction, and others in two that are in it. */
+static void round_of_changes(mmdb *db)
+{
+    GIVES(mmdb_begin(db), MMDB_DONE);
+    changes(db);
+    GIVES(mmdb_begin(db), MMDB_DONE);
+    load_rows(db, 3 * ROWS, ROWS);
+    GIVES(mmdb_commit(db), MMDB_DONE);
+    GIVES(mmdb_begin(db), MMDB_DONE);
+    change(db, "delete emp");
+    load_rows(db, 4 * ROWS, ROWS);
+    GIVES(mmdb_rollback(db), MMDB_DONE);
+    GIVES(mmdb_rollback(db), MMDB_DONE);
+}
+
+static void rounds(void)
+{
+    mmdb db = opened();
+    for (int round = 0; round < ROUNDS; round++) {
+        round_of_changes(&db);
+        mark("rolled back\n");
+    }
+    mmdb_close(&db);
+}
+
+/* Makes the changes, and takes all rows out where that is wanted, in a transaction that is committed or in none. */
+static void change_once(int in_transaction, int takes_all, const char *word)
+{
+    mmdb db = opened();
+    if (in_transaction)
+        GIVES(mmdb_begin(&db), MMDB_DONE);
+    changes(&db);
+    if (takes_all)
+        change(&db, "delete emp where id >= 0");
+    if (in_transaction)
+        GIVES(mmdb_commit(&db), MMDB_DONE);
+    if (takes_all && !are_changes_done)
+        answered(&db, "delete emp where id >= 0");
+    mark(word);
+    mmdb_close(&db);
+    mark("closed\n");
+}
+
+int main(void)
+{
+    ask_whether_changes_are_done();
+    mark("closed\n");
+    rounds();
+    mark("closed\n");
+    change_once(1, 0, "committed\n");
+    /* (what waits in a transaction isn't made here either) */
+    change_once(!are_changes_done, 0, "plain\n");
+    change_once(1, 1, "gone by a commit\n");
+    change_once(0, 1, "gone\n");
+    return checks_failed != 0;
+}
