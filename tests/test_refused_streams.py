@@ -1,5 +1,6 @@
-"""Each call for memory refused in turn while the library answers streams of 200 commands: fed, line by line, and as statements. A request
-that was refused by 90 is made again and succeeds, so all other answers are the same. In the end everything is freed.
+"""Each call for memory refused in turn while the library answers streams of 200 commands: fed, line by line, as statements, and in
+transactions. A request that was refused by 90 is made again and succeeds, so all other answers are the same. No rollback and no commit
+finds that there is no memory. In the end everything is freed.
 
 In large sizes (`tests/fire refused_streams`) MMDB_STREAMS is the number of streams and MMDB_SEED their seed.
 """
@@ -9,13 +10,14 @@ import ctypes
 import random
 import unittest
 
-from support import compiling, embedded, joined, model, prepared, random_streams, shapes, sizes, streams
+from support import compiling, embedded, joined, model, prepared, random_streams, shapes, sizes, streams, transacted
 
 SEED = sizes.said("MMDB_SEED", 19861126)
 STREAMS = sizes.said("MMDB_STREAMS", sizes.size(2, 6))
 COMMANDS = 200
 # In the gate not each call is refused.
 APART = sizes.size(61, 1)
+APART_IN_TRANSACTIONS = sizes.size(601, 11)
 NO_MEMORY = b"error 90 no memory\n"
 MOST_CALLS = 100_000
 ROOM = compiling.Room()
@@ -90,6 +92,27 @@ def by_pieces(handle, _):
     return piece
 
 
+class Again:
+    """A database in transactions that is asked once more where there was no memory, but for a commit and a rollback."""
+
+    def __init__(self, handle, asked):
+        self.handle = handle
+        self.asked = asked
+        self.commit, self.roll_back, self.transactions = handle.commit, handle.roll_back, handle.transactions
+
+    def ask(self, line, block):
+        return self.asked(self.handle.ask, (line, block))
+
+    def indexes(self, name):
+        return self.asked(self.handle.indexes, (name,))
+
+    def begin(self):
+        try:
+            self.handle.begin()
+        except NoMemory:
+            self.handle.begin()
+
+
 class Refused(unittest.TestCase):
     """A stream, whose answers are as ever whichever call for memory is refused."""
 
@@ -137,6 +160,22 @@ class Refused(unittest.TestCase):
                     return given[:-1]
             return given
 
+    def check_transactions(self, number):
+        """The streams in the same transactions each time, whichever call for memory is refused."""
+        units = units_at(number)
+        for met in range(0, MOST_CALLS, APART_IN_TRANSACTIONS):
+            self.library.allocations_refuse(met, 1)
+            with self.subTest(stream=number, refused_call=met + 1):
+                with self.opened() as handle:
+                    draw, again = random.Random(SEED), Again(handle, self.asked)
+                    statements = prepared.Statements(handle, draw, collections.Counter())
+                    ways = [again.ask, lambda *unit: self.asked(statements.ask, unit)]
+                    self.assertEqual(transacted.Run(again, transacted.Lists(), draw, ways, feeds=False).differences(units), [])
+                self.assertEqual(self.library.allocations_held(), 0)
+            if not self.library.allocations_refused():
+                return
+        raise AssertionError("a stream asks for memory more often than this test waits for")
+
     def opened(self):
         try:
             return Handle()
@@ -164,3 +203,8 @@ class Refused(unittest.TestCase):
 
     def test_pieces(self):
         self.check(by_pieces)
+
+    def test_transactions(self):
+        with embedded.through(self.library):
+            for number in range(STREAMS):
+                self.check_transactions(number)
