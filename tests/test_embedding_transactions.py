@@ -1,5 +1,5 @@
-"""Transactions from C: each status, every order of begin, insert, commit and rollback beside plain lists, and memory: each call for it
-refused, and the bytes that are held behind rounds of rollbacks and behind a commit.
+"""Transactions from C: each status, every order of begin, insert, delete, commit and rollback beside plain lists, and memory: each call
+for it refused, and the bytes that are held behind rounds of rollbacks and behind a commit.
 """
 
 import os
@@ -8,7 +8,7 @@ import unittest
 
 from support import compiling, preloading
 
-TRANSACTIONS = compiling.PROGRAMS / "transactions.c"
+TRANSACTIONS, DELETES = compiling.PROGRAMS / "transactions.c", compiling.PROGRAMS / "undone_deletes.c"
 ROOM = compiling.Room()
 ROUNDS = 100
 HELD = re.compile(rb"\n\[held (\d+), most \d+\]\n([a-z ]+)\n")
@@ -25,14 +25,23 @@ def tearDownModule():
 class Transactions(compiling.Programs):
     """Each order, with and without the sanitizers; all memory comes back."""
 
-    def check(self, name, words=compiling.C):
-        self.check_counted(ROOM.compiled(name, TRANSACTIONS, words, compiling.COUNTED))
+    source = TRANSACTIONS
 
-    def test_each_order_is_as_of_plain_lists(self):
-        self.check("transactions")
+    def check(self, *sanitized):
+        name = "-".join((self.source.stem, *(["sanitized"] if sanitized else [])))
+        self.check_counted(ROOM.compiled(name, self.source, [*compiling.C, *sanitized], compiling.COUNTED))
+
+    def test_as_it_is(self):
+        self.check()
 
     def test_under_the_sanitizers_of_addresses(self):
-        self.check("transactions-address", [*compiling.C, *compiling.SANITIZED])
+        self.check(*compiling.SANITIZED)
+
+
+class Deletes(Transactions):
+    """Rows that are deleted and restored, with those that refer to them."""
+
+    source = DELETES
 
 
 class Memory(compiling.Programs):

@@ -3,6 +3,7 @@
  * defined. Several threads may call. */
 #include "allocations.h"
 
+#include <malloc.h>
 #include <stdio.h>
 #include <stdlib.h>
 
@@ -20,6 +21,7 @@ static long left_to_refuse = 0;
 static long refused_calls = 0;
 static long given_blocks = 0;
 static long returned_blocks = 0;
+static long held_bytes = 0;
 
 void allocations_refuse(long met, long refused)
 {
@@ -36,6 +38,11 @@ long allocations_refused(void)
 long allocations_held(void)
 {
     return given_blocks - returned_blocks;
+}
+
+long allocations_bytes(void)
+{
+    return held_bytes;
 }
 
 __attribute__((constructor)) static void begin(void)
@@ -78,6 +85,7 @@ static int is_refused(void)
 static void *counted(void *block)
 {
     add(&given_blocks, block != NULL);
+    add(&held_bytes, (long)malloc_usable_size(block));
     return block;
 }
 
@@ -93,12 +101,18 @@ void *__wrap_calloc(size_t count, size_t size)
 
 void *__wrap_realloc(void *block, size_t size)
 {
+    const long held = (long)malloc_usable_size(block);
     void *grown = is_refused() ? NULL : __real_realloc(block, size);
-    return block == NULL ? counted(grown) : grown;
+    if (block == NULL)
+        return counted(grown);
+    if (grown != NULL)
+        add(&held_bytes, (long)malloc_usable_size(grown) - held);
+    return grown;
 }
 
 void __wrap_free(void *block)
 {
     add(&returned_blocks, block != NULL);
+    add(&held_bytes, -(long)malloc_usable_size(block));
     __real_free(block);
 }

@@ -13,4 +13,7 @@ long allocations_refused(void);
 /* The blocks that were asked for and not given back. */
 long allocations_held(void);
 
+/* The bytes in these blocks. */
+long allocations_bytes(void);
+
 #endif

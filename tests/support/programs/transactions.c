@@ -1,21 +1,36 @@
-/* Transactions: each status of their calls, what every other call gives meanwhile, and begin, insert, commit and rollback in every
-   order of seven, nested to three, beside plain lists that are copied at each begin. A rollback calls for no memory. */
+/* Transactions: each status of their calls, what every other call gives meanwhile, and begin, insert, delete, commit and rollback in
+   every order of six, nested to three, beside plain lists that are copied at each begin. A rollback calls for no memory. */
 #include "allocations.h"
 #include "checking.h"
 
 #define DEPTH 3
-#define STEPS 7
-#define WAYS 4
+#define STEPS 6
+#define WAYS 5
+#define LOADED 2
+#define KEYS (STEPS + LOADED)
+#define NUMBERS 3
+#define ANY (-1)
 
-/* The keys that a table has, by whether each is there. */
+enum text { NO_ROW, BY_STATEMENT, BY_LINE, BY_LOAD, TEXTS };
+
+static const char *const TEXT[TEXTS] = { "none", "by statement", "by line", "by load" };
+
+/* The text that each key has in a table, or NO_ROW. */
 typedef struct list {
-    unsigned char has[STEPS];
+    unsigned char text[KEYS];
 } list;
+
+/* Which rows of it are meant: those with this key, this text and this number, each where it isn't ANY. */
+typedef struct asked {
+    int key, text, number;
+} asked;
+
+static const asked ALL = { ANY, ANY, ANY };
 
 /* A database beside the lists that it has and had. */
 typedef struct pair {
     mmdb db;
-    mmdb_statement insert;
+    mmdb_statement insert, gone;
     list now;
     list saved[DEPTH];
     size_t open;
@@ -26,56 +41,142 @@ static mmdb_status query(mmdb *db, const char *line, mmdb_rows *rows)
     return mmdb_query(db, line, strlen(line), rows);
 }
 
-static pair opened(void)
+static mmdb_statement prepared(mmdb *db, const char *line)
 {
-    pair both;
-    memset(&both, 0, sizeof both);
-    GIVES(mmdb_open(&both.db, MMDB_AUTO, MMDB_MOST, MMDB_MOST), MMDB_DONE);
-    GIVES(command(&both.db, "table t (id int, s text)", NULL), MMDB_DONE);
-    GIVES(command(&both.db, "index t s hash", NULL), MMDB_DONE);
-    GIVES(mmdb_prepare(&both.db, "insert t (?, 'by statement')", 28, &both.insert), MMDB_DONE);
-    return both;
+    mmdb_statement statement;
+    GIVES(mmdb_prepare(db, line, strlen(line), &statement), MMDB_DONE);
+    return statement;
 }
+
+/* ---- plain lists */
+
+static int number_of(int key)
+{
+    return key % NUMBERS;
+}
+
+static int is_asked(const list *of, int key, asked which)
+{
+    return of->text[key] != NO_ROW && (which.key == ANY || which.key == key) && (which.text == ANY || which.text == of->text[key]) &&
+           (which.number == ANY || which.number == number_of(key));
+}
+
+static size_t rows_of(const list *of, asked which)
+{
+    size_t count = 0;
+    for (int key = 0; key < KEYS; key++)
+        count += (size_t)is_asked(of, key, which);
+    return count;
+}
+
+/* Takes the rows out of the list, and gives how many they were. */
+static size_t taken_out(list *of, asked which)
+{
+    const size_t count = rows_of(of, which);
+    for (int key = 0; key < KEYS; key++)
+        if (is_asked(of, key, which))
+            of->text[key] = NO_ROW;
+    return count;
+}
+
+/* The first key that has a row, or that has none. */
+static int first_key(const list *of, int has_row)
+{
+    int key = 0;
+    while (key < KEYS - 1 && (of->text[key] != NO_ROW) != has_row)
+        key++;
+    return key;
+}
+
+/* ---- inserts and deletes */
 
 static void insert_by_statement(pair *both, int key)
 {
     mmdb_rows rows;
     GIVES(mmdb_bind_integer(&both->db, both->insert.number, 0, key), MMDB_DONE);
+    GIVES(mmdb_bind_integer(&both->db, both->insert.number, 1, number_of(key)), MMDB_DONE);
     GIVES(mmdb_execute(&both->db, both->insert.number, &rows), MMDB_DONE);
     CHECK(rows.changed == 1);
+    both->now.text[key] = BY_STATEMENT;
 }
 
 static void insert_by_line(pair *both, int key)
 {
     char line[64];
-    snprintf(line, sizeof line, "insert t (%d, 'by line')", key);
+    snprintf(line, sizeof line, "insert t (%d, 'by line', %d)", key, number_of(key));
     GIVES(query(&both->db, line, NULL), MMDB_DONE);
+    both->now.text[key] = BY_LINE;
 }
 
 static void insert_by_load(pair *both, int key)
 {
     mmdb_bytes answer;
     char line[64], block[64];
-    snprintf(block, sizeof block, "id,s\n%d,by load\n", key);
+    snprintf(block, sizeof block, "id,s,n\n%d,by load,%d\n", key, number_of(key));
     snprintf(line, sizeof line, "load t %zu", strlen(block));
     GIVES(load(&both->db, line, block, &answer), MMDB_DONE);
     CHECK(reads(answer, "ok 1\n"));
+    both->now.text[key] = BY_LOAD;
 }
 
-/* Inserts a key by the statement, by a line or by a load, as the key is. */
-static void insert(pair *both, int key)
+/* Inserts the first key without a row by the statement, by a line or by a load, as the step is. */
+static void insert(pair *both, int step)
 {
-    switch (key % 3) {
-    case 0:
-        insert_by_statement(both, key);
-        break;
-    case 1:
-        insert_by_line(both, key);
-        break;
-    default:
-        insert_by_load(both, key);
-    }
-    both->now.has[key] = 1;
+    static void (*const INSERTS[])(pair *, int) = { insert_by_statement, insert_by_line, insert_by_load };
+    INSERTS[step % 3](both, first_key(&both->now, 0));
+}
+
+/* Deletes the first row, by its key. */
+static void delete_by_statement(pair *both)
+{
+    const int key = first_key(&both->now, 1);
+    const asked which = { key, ANY, ANY };
+    mmdb_rows rows;
+    GIVES(mmdb_bind_integer(&both->db, both->gone.number, 0, key), MMDB_DONE);
+    GIVES(mmdb_execute(&both->db, both->gone.number, &rows), MMDB_DONE);
+    CHECK(rows.changed == taken_out(&both->now, which));
+}
+
+/* Deletes those of a text, by the hash. */
+static void delete_by_line(pair *both)
+{
+    const asked which = { ANY, BY_LOAD, ANY };
+    mmdb_bytes answer;
+    char expected[16];
+    GIVES(command(&both->db, "delete t where s = 'by load'", &answer), MMDB_DONE);
+    snprintf(expected, sizeof expected, "ok %zu\n", taken_out(&both->now, which));
+    CHECK(reads(answer, expected));
+}
+
+/* Deletes those of a number, by the tree. */
+static void delete_by_query(pair *both)
+{
+    const asked which = { ANY, ANY, 0 };
+    mmdb_rows rows;
+    GIVES(query(&both->db, "delete t where n = 0", &rows), MMDB_DONE);
+    CHECK(rows.changed == taken_out(&both->now, which));
+}
+
+static void delete(pair *both, int step)
+{
+    static void (*const DELETES[])(pair *) = { delete_by_statement, delete_by_line, delete_by_query };
+    DELETES[step % 3](both);
+}
+
+/* A table with two rows, a hash and a tree. */
+static pair opened(void)
+{
+    pair both;
+    memset(&both, 0, sizeof both);
+    GIVES(mmdb_open(&both.db, MMDB_AUTO, MMDB_MOST, MMDB_MOST), MMDB_DONE);
+    GIVES(command(&both.db, "table t (id int, s text, n int)", NULL), MMDB_DONE);
+    GIVES(command(&both.db, "index t s hash", NULL), MMDB_DONE);
+    GIVES(command(&both.db, "index t n tree", NULL), MMDB_DONE);
+    both.insert = prepared(&both.db, "insert t (?, 'by statement', ?)");
+    both.gone = prepared(&both.db, "delete t where id = ?");
+    for (int key = 0; key < LOADED; key++)
+        insert_by_load(&both, key);
+    return both;
 }
 
 static void begin(pair *both)
@@ -101,29 +202,63 @@ static void roll_back(pair *both)
         both->now = both->saved[--both->open];
 }
 
-static size_t keys_of(const list *keys)
-{
-    size_t count = 0;
-    for (int key = 0; key < STEPS; key++)
-        count += keys->has[key];
-    return count;
-}
+/* ---- what is found */
 
-/* The table has the rows of the list and no others, and so has its index. */
-static void are_alike(pair *both)
+/* A select finds the rows of the list that are meant, and no others. */
+static void finds(pair *both, const char *line, asked which)
 {
     mmdb_rows rows;
-    size_t by_index = 0;
-    GIVES(query(&both->db, "select id from t", &rows), MMDB_DONE);
-    CHECK(rows.rows == keys_of(&both->now));
+    GIVES(query(&both->db, line, &rows), MMDB_DONE);
+    CHECK(rows.rows == rows_of(&both->now, which));
     for (size_t row = 0; row < rows.rows; row++)
-        CHECK(both->now.has[mmdb_cell_at(&rows, row, 0)->integer]);
-    GIVES(query(&both->db, "select id from t where s = 'by statement'", &rows), MMDB_DONE);
-    by_index += rows.rows;
-    GIVES(query(&both->db, "select id from t where s = 'by line'", &rows), MMDB_DONE);
-    by_index += rows.rows;
-    GIVES(query(&both->db, "select id from t where s = 'by load'", &rows), MMDB_DONE);
-    CHECK(by_index + rows.rows == keys_of(&both->now));
+        CHECK(is_asked(&both->now, (int)mmdb_cell_at(&rows, row, 0)->integer, which));
+}
+
+static void finds_each_key(pair *both)
+{
+    char line[64];
+    for (int key = 0; key < KEYS; key++) {
+        const asked which = { key, ANY, ANY };
+        snprintf(line, sizeof line, "select id from t where id = %d", key);
+        finds(both, line, which);
+    }
+}
+
+static void finds_each_text_and_number(pair *both)
+{
+    char line[64];
+    for (int text = BY_STATEMENT; text < TEXTS; text++) {
+        const asked which = { ANY, text, ANY };
+        snprintf(line, sizeof line, "select id from t where s = '%s'", TEXT[text]);
+        finds(both, line, which);
+    }
+    for (int number = 0; number < NUMBERS; number++) {
+        const asked which = { ANY, ANY, number };
+        snprintf(line, sizeof line, "select id from t where n = %d", number);
+        finds(both, line, which);
+    }
+}
+
+static void dumps_the_list(pair *both)
+{
+    char rows[KEYS * 32] = "", expected[sizeof rows + 32];
+    mmdb_bytes answer;
+    size_t length = 0;
+    for (int key = 0; key < KEYS; key++)
+        if (both->now.text[key] != NO_ROW)
+            length += (size_t)snprintf(rows + length, sizeof rows - length, "%d,%s,%d\n", key, TEXT[both->now.text[key]], number_of(key));
+    snprintf(expected, sizeof expected, "load t %zu\nid,s,n\n%s", strlen("id,s,n\n") + length, rows);
+    GIVES(command(&both->db, "dump t", &answer), MMDB_DONE);
+    CHECK(reads(answer, expected));
+}
+
+/* The table has the rows of the list and no others, and so has each of its indexes. */
+static void are_alike(pair *both)
+{
+    finds(both, "select id from t", ALL);
+    finds_each_key(both);
+    finds_each_text_and_number(both);
+    dumps_the_list(both);
     CHECK(mmdb_transactions(&both->db) == both->open);
 }
 
@@ -142,6 +277,9 @@ static int is_done(pair *both, unsigned spelled)
             break;
         case 2:
             roll_back(both);
+            break;
+        case 3:
+            delete(both, step);
             break;
         default:
             insert(both, step);
@@ -195,37 +333,53 @@ static void none_begins_where_tables_are_shared(void)
 
 static void lines_are_put_off(mmdb *db)
 {
-    static const char *const others[] = { "update t set s = 'x'", "delete t", "table u (id int)", "drop table t", "index t s tree",
-                                          "drop index t s hash", "no command", "# a comment", " " };
+    static const char *const OTHERS[] = { "update t set s = 'x'", "update nothing", "table u (id int)", "table", "drop table t",
+                                          "drop table u", "index t n hash", "drop index t s hash", " \tindex nothing" };
     mmdb_bytes answer;
-    for (size_t i = 0; i < sizeof others / sizeof *others; i++)
-        GIVES(command(db, others[i], NULL), MMDB_IN_TRANSACTION);
+    for (size_t i = 0; i < sizeof OTHERS / sizeof *OTHERS; i++)
+        GIVES(command(db, OTHERS[i], NULL), MMDB_IN_TRANSACTION);
     GIVES(load(db, "update t 5", "id,s\n", NULL), MMDB_IN_TRANSACTION);
-    GIVES(command(db, " tables", &answer), MMDB_DONE);
-    GIVES(command(db, "dump t", &answer), MMDB_DONE);
-    GIVES(command(db, "select id from t", &answer), MMDB_DONE);
-    CHECK(reads(answer, "rows 1\nt.id\n0\n"));
-    GIVES(command(db, "insert t (0, 'x')", &answer), MMDB_DONE);
-    CHECK(reads(answer, "error 41 key exists\n"));
     GIVES(feed(db, "tables\n"), MMDB_IN_TRANSACTION);
     GIVES(mmdb_answer(db, &answer), MMDB_DONE);
     CHECK(reads(answer, ""));
 }
 
-static void changes_are_put_off(pair *both)
+static void other_lines_are_answered(mmdb *db)
 {
-    mmdb_statement set, gone;
-    GIVES(mmdb_prepare(&both->db, "update t set s = ? where id = 0", 31, &set), MMDB_DONE);
-    GIVES(mmdb_prepare(&both->db, "delete t where id = ?", 21, &gone), MMDB_DONE);
+    static const struct {
+        const char *line, *answer;
+    } OTHERS[] = {
+        { " tables", "table t (id int, s text, n int)\nindex t s hash\nindex t n tree\nok 3\n" },
+        { "dump t", "load t 48\nid,s,n\n0,by load,0\n1,by load,1\n2,by statement,2\n" },
+        { "select id from t where n > 1", "rows 1\nt.id\n2\n" },
+        { "insert t (0, 'x', 1)", "error 41 key exists\n" },
+        { "insert t ('x', 'x', 1)", "error 35 wrong type\n" },
+        { "delete t where id = 9", "ok 0\n" },
+        { "delete t where m = 0", "error 32 no such column\n" },
+        { "delete u", "error 30 no such table\n" },
+        { "delete", "error 20 not a command\n" },
+        { "updat t set s = 'x'", "error 20 not a command\n" },
+        { "no command", "error 20 not a command\n" },
+        { "# a comment", "" },
+        { " ", "" },
+        { "\t# drop table t", "" },
+    };
+    for (size_t i = 0; i < sizeof OTHERS / sizeof *OTHERS; i++) {
+        mmdb_bytes answer;
+        GIVES(command(db, OTHERS[i].line, &answer), MMDB_DONE);
+        CHECK(reads(answer, OTHERS[i].answer));
+    }
+}
+
+static void updates_are_put_off(pair *both)
+{
+    mmdb_statement set = prepared(&both->db, "update t set s = ? where id = 0");
     GIVES(mmdb_bind_integer(&both->db, set.number, 0, 1), MMDB_DONE);
     GIVES(mmdb_execute(&both->db, set.number, NULL), MMDB_REFUSED);
     GIVES(mmdb_bind_text(&both->db, set.number, 0, "x", 1), MMDB_DONE);
-    GIVES(mmdb_bind_integer(&both->db, gone.number, 0, 0), MMDB_DONE);
     GIVES(mmdb_execute(&both->db, set.number, NULL), MMDB_IN_TRANSACTION);
-    GIVES(mmdb_execute(&both->db, gone.number, NULL), MMDB_IN_TRANSACTION);
     GIVES(query(&both->db, "update t set s = 'x'", NULL), MMDB_IN_TRANSACTION);
-    GIVES(query(&both->db, "delete t", NULL), MMDB_IN_TRANSACTION);
-    GIVES(query(&both->db, "delete u", NULL), MMDB_REFUSED);
+    GIVES(query(&both->db, "update u set s = 'x'", NULL), MMDB_REFUSED);
     CHECK(mmdb_refusal(&both->db) == 30);
 }
 
@@ -248,23 +402,28 @@ static void all_else_is_put_off(void)
     begin(&both);
     insert(&both, 0);
     lines_are_put_off(&both.db);
-    changes_are_put_off(&both);
+    other_lines_are_answered(&both.db);
+    updates_are_put_off(&both);
     tables_are_neither_shared_nor_left(&both.db);
     are_alike(&both);
     roll_back(&both);
     are_alike(&both);
-    GIVES(query(&both.db, "delete t", NULL), MMDB_DONE);
+    GIVES(query(&both.db, "update t set s = 'x'", NULL), MMDB_DONE);
     GIVES(feed(&both.db, "drop table t\n"), MMDB_DONE);
     mmdb_close(&both.db);
 }
 
-/* What was shown, answered and fed stays where a transaction begins and ends. */
+/* What was shown, answered and fed stays where a transaction begins and ends, whatever was deleted in it. */
 static void rows_answers_and_the_stream_stay(void)
 {
     pair both = opened();
     mmdb_bytes answer;
     mmdb_rows rows;
-    insert(&both, 1);
+    begin(&both);
+    delete_by_line(&both);
+    insert_by_line(&both, 1);
+    GIVES(feed(&both.db, "select i"), MMDB_IN_TRANSACTION);
+    commit(&both);
     GIVES(feed(&both.db, "select i"), MMDB_DONE);
     GIVES(query(&both.db, "select s from t", &rows), MMDB_DONE);
     GIVES(command(&both.db, "select id from t", NULL), MMDB_DONE);
@@ -275,41 +434,15 @@ static void rows_answers_and_the_stream_stay(void)
     GIVES(mmdb_answer(&both.db, &answer), MMDB_DONE);
     CHECK(reads(answer, "rows 1\nt.id\n1\n"));
     CHECK(reads(mmdb_text(&rows, mmdb_cell_at(&rows, 0, 0)), "by line"));
+    begin(&both);
+    delete_by_statement(&both);
+    GIVES(query(&both.db, "select s from t", &rows), MMDB_DONE);
+    CHECK(rows.rows == 0);
+    roll_back(&both);
     GIVES(feed(&both.db, "d from t\n"), MMDB_DONE);
     GIVES(mmdb_answer(&both.db, &answer), MMDB_DONE);
     CHECK(reads(answer, "rows 1\nt.id\n1\n"));
     mmdb_close(&both.db);
-}
-
-/* Begins and inserts with each call for memory refused in its turn. A rollback restores what there was, and calls for none. */
-static int is_met(long met)
-{
-    pair both = opened();
-    mmdb_bytes answer;
-    int refused;
-    insert(&both, 0);
-    GIVES(mmdb_bind_integer(&both.db, both.insert.number, 0, 3), MMDB_DONE);
-    allocations_refuse(met, 1);
-    if (mmdb_begin(&both.db) == MMDB_DONE) {
-        both.saved[both.open++] = both.now;
-        mmdb_execute(&both.db, both.insert.number, NULL);
-        query(&both.db, "insert t (4, 'a text that is longer than 14 bytes')", NULL);
-        load(&both.db, "load t 46", "id,s\n5,a text that is longer than 14 bytes\n6,\n", &answer);
-    }
-    refused = allocations_refused() != 0;
-    allocations_refuse(0, 0);
-    roll_back(&both);
-    are_alike(&both);
-    mmdb_close(&both.db);
-    return !refused;
-}
-
-static void memory_is_refused(void)
-{
-    long met = 0;
-    while (!is_met(met))
-        met++;
-    CHECK(met > 0);
 }
 
 int main(void)
@@ -319,7 +452,6 @@ int main(void)
     all_else_is_put_off();
     rows_answers_and_the_stream_stay();
     each_order_is_as_of_plain_lists();
-    memory_is_refused();
     CHECK(allocations_held() == 0);
     return checks_failed != 0;
 }
