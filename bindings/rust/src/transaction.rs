@@ -20,14 +20,16 @@ use crate::library::Handle;
 ///
 /// let tx = db.transaction()?;
 /// tx.execute("insert t (4, 'd')", [])?;
-/// let refused = tx.execute("insert t (1, 'again')", []).unwrap_err();
-/// assert_eq!((refused.number(), tx.dump("t")?.len()), (Some(41), 4));
+/// tx.execute("delete t where id < 3", [])?;
+/// let refused = tx.execute("insert t (3, 'again')", []).unwrap_err();
+/// assert_eq!((refused.number(), tx.dump("t")?.len()), (Some(41), 2));
 /// drop(tx);
 /// assert_eq!(db.dump("t")?.len(), 3);
 /// # Ok::<(), mmdb::Error>(())
 /// ```
 ///
-/// A refused line changes nothing, and leaves the transaction open. Transactions that were begun in this one, and are open
+/// Rows are inserted, loaded, deleted and read in one. Updates and declarations aren't done in one yet
+/// ([`Error::InTransaction`]). A refused line changes nothing, and leaves the transaction open. Transactions that were begun in this one, and are open
 /// still, end as it does.
 ///
 /// The database is lent to the transaction, so there is one at a time, and another only in it, as a

@@ -1,4 +1,4 @@
-//! Updates and deletes in a transaction: each is undone by a rollback, and none by a commit.
+//! Deletes in a transaction: each is undone by a rollback, and none by a commit. Updates are refused in one.
 
 mod common;
 
@@ -9,15 +9,11 @@ use mmdb::{Database, Error, Outcome, Value};
 const ALL: &str = "select * from t";
 
 #[test]
-fn each_way_to_change_is_undone() {
-    let ways: [fn(&mut Database); 10] = [
-        |db| assert_eq!(db.execute("update t set s = 'c'", []), Ok(2)),
-        |db| assert_eq!(db.execute("update t set s = ? where id = ?", ("c", 1)), Ok(1)),
-        |db| assert_eq!(db.prepare("update t set s = ?").unwrap().execute(["c"]), Ok(2)),
-        |db| assert_eq!(db.command("update t set s = 'c'", []), Ok(Outcome::Count(2))),
-        |db| assert_eq!(db.answer(b"update t set s = 'c'"), Ok(&b"ok 2\n"[..])),
+fn each_way_to_delete_is_undone() {
+    let ways: [fn(&mut Database); 6] = [
         |db| assert_eq!(db.execute("delete t", []), Ok(2)),
         |db| assert_eq!(db.execute("delete t where id = ?", [2]), Ok(1)),
+        |db| assert_eq!(db.execute("delete t where s = ?", ["b"]), Ok(1)),
         |db| assert_eq!(db.prepare("delete t where id < ?").unwrap().execute([3]), Ok(2)),
         |db| assert_eq!(db.command("delete t where s = 'a'", []), Ok(Outcome::Count(1))),
         |db| assert_eq!(db.answer(b"delete t"), Ok(&b"ok 2\n"[..])),
@@ -39,16 +35,34 @@ fn each_way_to_change_is_undone() {
 }
 
 #[test]
+fn no_way_to_update_is_done() {
+    let mut db = with_rows();
+    let mut tx = db.transaction().unwrap();
+    tx.execute("delete t where id = 2", []).unwrap();
+    let line = "update t set s = 'c'";
+    assert_eq!(tx.execute(line, []), Err(Error::InTransaction));
+    assert_eq!(tx.execute("update t set s = ? where id = ?", ("c", 1)), Err(Error::InTransaction));
+    assert_eq!(tx.prepare("update t set s = ?").unwrap().execute(["c"]), Err(Error::InTransaction));
+    assert_eq!(tx.command(line, []), Err(Error::InTransaction));
+    assert_eq!(tx.answer(line.as_bytes()), Err(Error::InTransaction));
+    assert_eq!(number(tx.execute("update t set nothing = 'c'", [])), Some(32));
+    assert_eq!(selected(&tx, ALL, []), [row(1, "a")]);
+    tx.commit().unwrap();
+    assert_eq!(db.execute(line, []), Ok(1));
+}
+
+#[test]
 fn a_savepoint_leaves_what_was_changed_before_it() {
     let mut db = with_rows();
     let mut tx = db.transaction().unwrap();
-    tx.execute("update t set s = 'c' where id = 1", []).unwrap();
+    tx.execute("delete t where id = 1", []).unwrap();
     let savepoint = tx.savepoint().unwrap();
-    savepoint.execute("delete t where s = 'c'", []).unwrap();
     savepoint.execute("insert t (1, 'd')", []).unwrap();
-    savepoint.execute("update t set s = 'e'", []).unwrap();
+    savepoint.execute("delete t where s = 'b'", []).unwrap();
+    savepoint.execute("delete t", []).unwrap();
     savepoint.rollback().unwrap();
-    assert_eq!(selected(&tx, ALL, []), [row(1, "c"), row(2, "b")]);
+    assert_eq!(selected(&tx, ALL, []), [row(2, "b")]);
+    tx.execute("insert t (1, 'c')", []).unwrap();
     tx.commit().unwrap();
     assert_eq!(selected(&db, ALL, []), [row(1, "c"), row(2, "b")]);
 }
@@ -62,9 +76,9 @@ fn references_hold_in_one() {
     db.load("t", [(1, Some(1)), (2, None)]).unwrap();
     let tx = db.transaction().unwrap();
     assert_eq!(number(tx.execute("delete u where k = 1", [])), Some(44));
-    assert_eq!(tx.execute("update t set u = 2 where id = 1", []), Ok(1));
+    assert_eq!(tx.execute("delete t where id = 1", []), Ok(1));
     assert_eq!(tx.execute("delete u where k = 1", []), Ok(1));
-    assert_eq!(number(tx.execute("update t set u = 1", [])), Some(42));
+    assert_eq!(number(tx.execute("insert t (3, 1)", [])), Some(42));
     drop(tx);
     assert_eq!(number(db.execute("delete u where k = 1", [])), Some(44));
     assert_eq!(db.execute("delete u where k = 2", []), Ok(1));
@@ -78,10 +92,10 @@ fn key(draw: &mut Draw) -> i64 {
 /// Does something, which may be refused.
 fn change(db: &Database, draw: &mut Draw) {
     let (id, text) = (key(draw), draw.of(&["a", "b", "a text that no cell holds"]));
-    let changed = match draw.of(&[0, 0, 1, 2, 3, 4]) {
+    let changed = match draw.of(&[0, 0, 0, 1, 2, 3, 4]) {
         0 => db.execute("insert t (?, ?, ?)", (id, text, id % 3)),
-        1 => db.execute("update t set s = ?, n = ? where id = ?", (text, id % 5, id)),
-        2 => db.execute("update t set n = ? where s = ?", (id, text)),
+        1 => db.execute("delete t where id = ?", [id]),
+        2 => db.execute("delete t where s = ? and id > ?", (text, id)),
         3 => db.execute("delete t where n = ?", [id % 3]),
         _ => db.load("t", (0..3).map(|more| (20 + id + more, text, id))),
     };
@@ -100,7 +114,7 @@ fn found(db: &Database) -> Vec<Vec<Vec<Value>>> {
     found
 }
 
-/// Changes in transactions, one in the other. Each rollback puts back what there was at its begin, under each index.
+/// Inserts and deletes in transactions, one in the other. Each rollback puts back what there was at its begin, under each index.
 #[test]
 fn changes_at_random() {
     let db = open();

@@ -66,7 +66,7 @@ fn load_files(folder: &Path) -> Result<Database, Box<dyn Error>> {
     Ok(db)
 }
 
-/// One test: somebody new borrows some books and keeps them longer, and the first person gives all back and leaves.
+/// One test: somebody new borrows some books, and the first person gives all back and leaves.
 fn test(db: &Database, number: usize) -> mmdb::Result<()> {
     let reader = 1_000_000 + number;
     assert_eq!(db.execute("insert person (?, ?)", params![reader, "somebody new"])?, 1);
@@ -75,12 +75,8 @@ fn test(db: &Database, number: usize) -> mmdb::Result<()> {
         assert_eq!(borrow.execute((2_000_000 + book, reader, 14))?, 1);
     }
     assert_eq!(borrow.execute((2_000_000, 0, 14)).unwrap_err().number(), Some(41));
-    assert_eq!(
-        db.execute("update loan set due = 21 where person = ?", [reader])?,
-        INSERTS
-    );
-    let kept = db.query("select book from loan where person = ? and due = 21", [reader])?;
-    assert_eq!(kept.len(), INSERTS);
+    let borrowed = db.query("select book from loan where person = ?", [reader])?;
+    assert_eq!(borrowed.len(), INSERTS);
     db.execute("delete loan where person = ?", [0])?;
     assert_eq!(db.execute("delete person where id = ?", [0])?, 1);
     Ok(())
