@@ -163,10 +163,16 @@ class Transactions(binding.WithDatabase):
                 lambda: self.db.execute("table u (id int)"),
                 lambda: self.db.execute("drop table ?", None),
                 lambda: self.db.answer("index t s hash"),
+                lambda: self.db.execute("update t set s = 'b'"),
+                lambda: self.db.change("update t set s = ? where id = ?", "b", 1),
+                lambda: self.db.prepare("update t set s = ?").execute("b"),
+                lambda: self.db.executemany("update t set s = ?", [("b",), ("c",)]),
+                lambda: self.db.answer("update t set s = 'b'"),
             ):
                 with self.assertRaisesRegex(mmdb.InTransaction, "^mmdb: this isn't done in a transaction") as raised:
                     call()
                 self.assertIsInstance(raised.exception, mmdb.NotSupportedError)
+            self.refused(32, self.db.execute, "update t set nothing = 'b'")
             self.assertEqual(self.db.execute("tables"), "table t (id int, s text)\n")
         self.assertIsNone(self.db.execute("table u (id int)"))
         self.assertEqual(self.ids(), [1, 2])
@@ -207,3 +213,91 @@ class Transactions(binding.WithDatabase):
             thread.start()
             thread.join()
         self.assertEqual((self.ids(), self.db.in_transaction), ([1], False))
+
+
+class Deletes(binding.WithDatabase):
+    """Deletes in a transaction."""
+
+    def setUp(self):
+        super().setUp()
+        for line in ("table dept (id int, name text)", "table emp (id int, name text, dept ref dept null)", "index emp name hash", "index emp dept tree"):
+            self.db.execute(line)
+        self.depts = [(10, "toys"), (20, "shoes")]
+        self.emps = [(1, "Ann", 20), (2, "Bob", None), (3, "Cy?", 20)]
+        self.db.load("dept", self.depts)
+        self.db.load("emp", self.emps)
+
+    def check_rows(self, depts, emps):
+        self.assertEqual((self.db.dump("dept"), self.db.dump("emp")), (depts, emps))
+
+    def test_a_rollback_restores_what_was_deleted(self):
+        delete = self.db.prepare("delete emp where dept = ?")
+        for _ in range(3):
+            with self.assertRaises(Stop), self.db.transaction():
+                self.refused(44, self.db.change, "delete dept where id = 20")
+                self.assertEqual(delete.execute(20), 2)
+                self.assertEqual(self.db.change("delete emp where id = ?", 2), 1)
+                self.assertEqual(self.db.execute("delete dept where id = 20"), 1)
+                self.assertEqual(self.db.load("emp", [(1, "Eve", 10)]), 1)
+                self.refused(42, self.db.execute, "insert emp (2, 'Di', 20)")
+                self.check_rows([(10, "toys")], [(1, "Eve", 10)])
+                raise Stop
+            self.check_rows(self.depts, self.emps)
+            self.assertEqual(self.db.select("select id from emp where name = 'Ann'"), [(1,)])
+            self.assertEqual(self.db.select("select id from emp where dept = 20"), [(1,), (3,)])
+            self.assertEqual([index.rows for index in self.db.indexes("emp")], [3, 3, 3])
+            self.refused(44, self.db.change, "delete dept where id = 20")
+
+    def test_a_commit_keeps_it(self):
+        with self.db.transaction():
+            self.assertEqual(self.db.executemany("delete emp where id = :id", [{"id": 1}, {"id": 3}]), 2)
+            self.assertEqual(self.db.executemany("delete dept where id = ?", [(20,), (30,)]), 1)
+            self.assertEqual(self.db.answer("delete emp where id = 7"), b"ok 0\n")
+        self.check_rows([(10, "toys")], [(2, "Bob", None)])
+
+    def test_what_is_refused_is_rolled_back_with_what_was_done(self):
+        with self.assertRaises(mmdb.IntegrityError), self.db.transaction():
+            self.db.executemany("delete emp where id = ?", [(2,), (3,)])
+            self.db.executemany("delete dept where id = ?", [(10,), (20,)])
+        self.check_rows(self.depts, self.emps)
+
+    def test_each_order_is_as_of_plain_lists(self):
+        draw = random.Random(SEED + 1)
+        for _ in range(ORDERS):
+            with mmdb.Database() as db:
+                db.execute("table t (id int, s text)")
+                db.execute("index t s hash")
+                self.check_order(db, draw)
+
+    def check_order(self, db, draw):
+        above, delete = db.prepare("delete t where id >= ?"), db.prepare("delete t where s = ?")
+        rows, saved = {}, []
+        for number in range(STEPS):
+            step = draw.choice(("insert", "insert", "load", "load", "above", "delete", "by key", "begin", "begin", "commit", "rollback"))
+            text, key = str(draw.randrange(5)), draw.randrange(number + 1)
+            if step == "insert" and key not in rows:
+                db.execute("insert t (?, ?)", key, text)
+                rows[key] = text
+            elif step == "load":
+                self.assertEqual(db.load("t", ((-number * 3 - at, text) for at in range(1, 4))), 3)
+                rows.update((-number * 3 - at, text) for at in range(1, 4))
+            elif step == "above":
+                self.assertEqual(above.execute(key), sum(id >= key for id in rows))
+                rows = {id: s for id, s in rows.items() if id < key}
+            elif step == "delete":
+                self.assertEqual(delete.execute(text), sum(s == text for s in rows.values()))
+                rows = {id: s for id, s in rows.items() if s != text}
+            elif step == "by key":
+                self.assertEqual(db.change("delete t where id = ?", key), key in rows)
+                rows.pop(key, None)
+            elif step == "begin":
+                db.begin()
+                saved.append(dict(rows))
+            elif step == "commit" and saved:
+                db.commit()
+                saved.pop()
+            elif step == "rollback" and saved:
+                db.rollback()
+                rows = saved.pop()
+            self.assertEqual(db.dump("t"), sorted(rows.items()))
+            self.assertEqual(db.select("select id from t where s = ?", text).column("id"), sorted(id for id, s in rows.items() if s == text))

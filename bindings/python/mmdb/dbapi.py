@@ -1,4 +1,4 @@
-"""PEP 249 over a database, as far as a store without transactions has it."""
+"""PEP 249 over a database, as far as it goes without transactions: each command is final."""
 
 from __future__ import annotations
 
@@ -69,7 +69,7 @@ def connect(policy: str = "auto", rows: int = MOST, block: int = MOST) -> Connec
 
 
 class Connection:
-    """A connection to a database. Each command is done for good once its call is; there are no transactions.
+    """A connection to a database. Each command is done for good once its call is, and begins no transaction.
 
     Used as a context manager, it is closed at the end. Each call of a closed one but `close` raises ProgrammingError.
     """
@@ -100,7 +100,7 @@ class Connection:
 
     def rollback(self) -> NoReturn:
         """Raises NotSupportedError, since nothing can be taken back."""
-        raise NotSupportedError("mmdb: there are no transactions, so nothing can be rolled back")
+        raise NotSupportedError("mmdb: each command is final, so nothing can be rolled back")
 
     def close(self) -> None:
         """Closes the database, which frees all its memory. A second call does nothing."""
