@@ -62,28 +62,54 @@ class ThroughAPipe(shells.Piped):
             ".begin",
             "insert emp (3, 'Cy', 10)",
             "update emp set name = 'Bo'",
-            "delete emp",
             "table more (id int)",
             "index emp name hash",
             "drop index emp dept tree",
             "drop table emp",
-            ".parameter set 1 7",
-            "delete emp where id = ?",
             "update emp set name = 'a\nb'",
+            ".parameter set 1 7",
+            "update emp set name = 'Bo' where id = ?",
+            "delete emp where id > ?",
             "# a comment",
             "\t",
             "updat emp",
             "update emp set nam = 'Bo', 7",
             ".rollback",
-            "delete emp where id = ?",
+            "update emp set name = 'Bo' where id < ?",
             "select id, name from emp",
         ]
-        words = ["update", "delete", "table", "index", "drop", "drop"]
+        words = ["update", "table", "index", "drop", "drop", "update"]
         refused = [f"line {at}: {word} {NOT_IN_ONE}" for at, word in enumerate(words, 9)]
-        refused += [f"line 16: delete {NOT_IN_ONE}", f"line 17: update {NOT_IN_ONE}"]
+        refused.append(f"line 17: update {NOT_IN_ONE}")
         refused.append("line 21: error 20 not a command: column 1: updat is no command: is update meant?")
         refused.append("line 22: error 20 not a command: column 28: wanted a column's name, found 7")
-        self.check(lines, ["emp.id,emp.name", "1,Ann", '2,""'], refused)
+        self.check(lines, ["emp.id,emp.name", "1,Bo", "2,Bo"], refused)
+
+    def test_deletes(self):
+        lines = [
+            *COMPANY,
+            ".begin",
+            "delete dept where id = 10",
+            "delete emp where dept = 10",
+            "delete dept where id = 10",
+            ".begin",
+            "delete emp",
+            "insert emp (1, 'Anew', null)",
+            "select id, name from emp",
+            ".rollback",
+            "select id, name from emp",
+            ".rollback",
+            "delete dept where id = 10",
+            "select id, name from emp",
+            ".begin",
+            "delete emp where id = 2",
+            ".commit",
+            "select id, name from emp",
+        ]
+        names = "emp.id,emp.name"
+        out = [names, "1,Anew", names, '2,""', names, "1,Ann", '2,""', names, "1,Ann"]
+        why = "error 44 row is referenced: emp has a row whose column dept names the key 10"
+        self.check(lines, out, [f"line {at}: {why}" for at in (8, 18)])
 
     def test_commands_that_take_another_database(self):
         csv, dump = self.file("f.csv", "id\n7\n"), self.room / "dump"
@@ -137,6 +163,9 @@ class Undone(shells.InThisProcess):
             (["insert t (1)", f".import {csv} t"], ["t.id", "1"]),
             ([".parameter set 1 5", "insert t (?)", ".parameter clear"], ["t.id"]),
             (["delete t", "insert t (1)"], ["t.id"]),
+            (["insert t (1)", "delete t"], ["t.id", "1"]),
+            (["insert t (1)", "delete t", "insert t (1)"], ["t.id"]),
+            (["insert t (1)", "insert t (2)", ".parameter set 1 5", "delete t where id < ?", ".parameter clear"], ["t.id", "1", "2"]),
             ([f".read {self.file('script', 'insert t (1); insert t (2)')}"], ["t.id", "1"]),
         ):
             with self.subTest(lines):
@@ -155,7 +184,7 @@ class Undone(shells.InThisProcess):
         csv = self.file("f.csv", "id\n7\n1\n")
         for after in (
             ["select * from u", "tabels", "delete t wher", "# a comment", "", ".mode csv", ".help undo", ".print", ".count t"],
-            ["insert t (1)", "load t 5", "id", "1", "insert u (1)", "insert t ('a')"],
+            ["insert t (1)", "load t 5", "id", "1", "insert u (1)", "insert t ('a')", "delete u", "delete t where s = 1"],
             [f".load t {csv}", f".import {csv} t", ".load u x", ".commit", "update t st id = 1"],
         ):
             with self.subTest(after):
@@ -168,7 +197,7 @@ class Undone(shells.InThisProcess):
         for lines, why in (
             ([], "no change was done yet"),
             (["update t set s = 'b' where id = 1"], "update t set s = 'b' where id = 1 can't be undone"),
-            (["insert t (2, 'b')", f"delete t where s = '{'x' * 90}'"], f"delete t where s = '{'x' * 37}... can't be undone"),
+            (["insert t (2, 'b')", f"update t set s = '{'x' * 90}'"], f"update t set s = '{'x' * 39}... can't be undone"),
             (["insert t (2, 'b')", "drop table t"], "drop table t can't be undone"),
             (["insert t (2, 'b')", "table t (id int)"], no_more),
             (["insert t (2, 'b')", ".undo"], "nothing more can be undone"),
@@ -190,6 +219,9 @@ class Undone(shells.InThisProcess):
         self.check([*front, ".commit", "select * from t"], ["t.id", "1", "2"], refused)
         nothing = "line 8: nothing more can be undone"
         self.check([*front, ".undo", "insert t (5)", ".begin", ".rollback", ".commit", ".count t"], ["3"], [*refused, nothing])
+        front = ["table t (id int)", "insert t (1)", "insert t (2)", ".begin", "delete t where id = 1", "delete t", ".undo"]
+        self.check([*front, "select * from t", ".rollback", "select * from t"], ["t.id", "2", "t.id", "1", "2"])
+        self.check([*front, ".commit", "select * from t", ".undo"], ["t.id", "2"], ["line 10: no change was done since .commit"])
 
     def test_lines_of_a_long_file(self):
         lines = [*(f"insert t ({at})" for at in range(3)), *["# a comment"] * (transactions.MOST_LINES - 4)]
@@ -220,6 +252,8 @@ class Held(shells.InThisProcess):
             self.do(shell, "insert t (-1)")
             self.assertEqual([line for line, *_ in shell.transactions._kept], [b"insert t (-1)"])
             self.do(shell, ".undo", ".count t", said="1000\n")
+            self.do(shell, ".parameter set 1 0", "delete t where id >= ?")
+            self.assertEqual(shell.transactions._rows, 1_000)
 
     def test_no_memory_for_a_transaction(self):
         shell = self.shell()
@@ -232,7 +266,9 @@ class Held(shells.InThisProcess):
             self.do(shell, f".load t {self.file('f', 'id')}", refused=f"error 90 no memory; no row of {self.room}/f went in")
         self.do(shell, ".begin", "insert t (4)")
         with unittest.mock.patch.object(shell.db, "begin", side_effect=mmdb.NoMemory(90, "no memory")):
-            self.do(shell, "delete t", refused=f"delete {NOT_IN_ONE}")
+            self.do(shell, "update t set id = 9", refused=f"update {NOT_IN_ONE}")
+            self.do(shell, "delete t", ".count t", said="0\n")
+            self.do(shell, ".undo", refused="no memory was found to undo delete t")
         self.do(shell, ".rollback", ".count t", said="3\n")
 
     def test_no_memory_for_a_change_in_one(self):
@@ -241,12 +277,14 @@ class Held(shells.InThisProcess):
         answered = shell.db.answer
 
         def answer(line, block=None):
-            is_refused = line.startswith(b"insert") and shell.db.in_transaction
+            is_refused = line.startswith((b"insert", b"delete")) and shell.db.in_transaction
             return b"error 90 no memory\n" if is_refused else answered(line, block)
 
         with unittest.mock.patch.object(shell.db, "answer", answer):
             self.do(shell, "insert t (2)", ".count t", said="2\n")
             self.do(shell, ".undo", refused="no memory was found to undo insert t (2)")
+            self.do(shell, "delete t where id = 1", ".count t", said="1\n")
+            self.do(shell, ".undo", refused="no memory was found to undo delete t where id = 1")
 
     def test_answers_are_those_without_it(self):
         for name, stream, _ in harness.rows():
@@ -302,7 +340,9 @@ class AtATerminal(shells.AtATerminal):
             (f".load t {self.file('f.csv', 'id')}", f"0 rows of {self.room}/f.csv are in t\n"),
             (".undo", f"undone: .load t {self.room}/f.csv\n"),
             ("delete t", "ok 0\n"),
-            (".undo", "delete t can't be undone\n"),
+            (".undo", "undone: delete t\n"),
+            ("update t set id = 7", "ok 0\n"),
+            (".undo", "update t set id = 7 can't be undone\n"),
         ):
             self.assertEqual(shell.ask(line), answer)
         shell.type("\x04")
@@ -320,7 +360,9 @@ class AtATerminal(shells.AtATerminal):
         shell.type("ins\tt (7)\n")
         shell.wait_for("ok 1\n")
         shell.type("del\tt\n")
-        shell.wait_for(f"delete t\ndelete {NOT_IN_ONE}\nmmdb*> ")
+        shell.wait_for("delete t\nok 1\nmmdb*> ")
+        shell.type("upd\tt set id = 1\n")
+        shell.wait_for(f"update t set id = 1\nupdate {NOT_IN_ONE}\nmmdb*> ")
         shell.type("\x04")
         shell.wait_for("a transaction was open, and ends with the database: it wasn't committed\n")
         self.assertEqual(shell.end(), 0)

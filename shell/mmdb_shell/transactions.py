@@ -24,7 +24,8 @@ Result = TypeVar("Result")
 _NO_COMMAND, _NO_MEMORY = (b"error 10 ", b"error 11 ", b"error 20 "), 90
 # The lines that change nothing, beside selects.
 _READING = (b"dump", b"tables")
-# How many changes are kept at most, and with how many rows before the last. (The library holds four bytes for each row.)
+# How many changes are kept at most, and with how many rows before the last. (The library holds four bytes for each row, and each
+# row that is deleted.)
 _MOST_CHANGES, _MOST_ROWS = 64, 1_000_000
 #: Of a file or a pipe so many lines are kept, so that a long one takes no more time for it.
 MOST_LINES = 10_000
@@ -216,9 +217,10 @@ def _word(line: bytes) -> bytes:
 
 def _rows_of(result: object) -> int:
     """How many rows a change was about, by its answer or the number itself."""
-    if isinstance(result, bytes):
-        return int(result[len("ok ") :]) if result.startswith(b"ok ") else 0
-    return result if isinstance(result, int) else 0
+    told = result.encode() if isinstance(result, str) else result
+    if isinstance(told, bytes):
+        return int(told[len("ok ") :]) if told.startswith(b"ok ") else 0
+    return told if isinstance(told, int) else 0
 
 
 def _told(line: bytes) -> str:
