@@ -41,8 +41,10 @@ fn no_way_to_update_is_done() {
     tx.execute("delete t where id = 2", []).unwrap();
     let line = "update t set s = 'c'";
     assert_eq!(tx.execute(line, []), Err(Error::InTransaction));
-    assert_eq!(tx.execute("update t set s = ? where id = ?", ("c", 1)), Err(Error::InTransaction));
-    assert_eq!(tx.prepare("update t set s = ?").unwrap().execute(["c"]), Err(Error::InTransaction));
+    let with_values = tx.execute("update t set s = ? where id = ?", ("c", 1));
+    assert_eq!(with_values, Err(Error::InTransaction));
+    let prepared = tx.prepare("update t set s = ?").unwrap().execute(["c"]);
+    assert_eq!(prepared, Err(Error::InTransaction));
     assert_eq!(tx.command(line, []), Err(Error::InTransaction));
     assert_eq!(tx.answer(line.as_bytes()), Err(Error::InTransaction));
     assert_eq!(number(tx.execute("update t set nothing = 'c'", [])), Some(32));
