@@ -10,7 +10,7 @@
 #include <inttypes.h>
 #include <stdlib.h>
 
-enum { HANDLES = 3, MOST_STATEMENTS = 24, MOST_BYTES = 20000 };
+enum { HANDLES = 3, MOST_STATEMENTS = 24, MOST_BYTES = 20000, MOST_TRANSACTIONS = 5 };
 
 /* A statement that is there, or the line last queried: whether the last call was done, its rows then, and what they add up to. */
 typedef struct statement {
@@ -23,6 +23,7 @@ typedef struct statement {
 typedef struct handle {
     mmdb db;
     int is_open;
+    size_t transactions;
     statement kept[MOST_STATEMENTS];
     size_t count;
     statement queried;
@@ -36,7 +37,7 @@ typedef struct bytes {
 
 static handle handles[HANDLES];
 static uint64_t state;
-static uint64_t statuses[MMDB_TOO_LARGE + 1];
+static uint64_t statuses[MMDB_IN_TRANSACTION + 1];
 
 static uint64_t drawn(uint64_t below)
 {
@@ -196,12 +197,18 @@ static uint32_t only(mmdb_status status)
 
 static int is_within(mmdb_status status, uint32_t allowed, const char *call)
 {
-    const int is = status <= MMDB_TOO_LARGE && (allowed >> status & 1) != 0;
+    const int is = status <= MMDB_IN_TRANSACTION && (allowed >> status & 1) != 0;
     if (!is)
         fprintf(stderr, "%s gives %u\n", call, (unsigned)status);
     checks_failed += !is;
-    statuses[status <= MMDB_TOO_LARGE ? status : 0]++;
+    statuses[status <= MMDB_IN_TRANSACTION ? status : 0]++;
     return is;
+}
+
+/* What a call may give besides where a transaction is open. */
+static uint32_t put_off(const handle *of)
+{
+    return of->transactions > 0 ? only(MMDB_IN_TRANSACTION) : 0;
 }
 
 static int is_null(bytes of)
@@ -271,6 +278,7 @@ static void closes(handle *of)
     mmdb_close(&of->db);
     CHECK(of->db.inside == NULL);
     of->is_open = 0;
+    of->transactions = 0;
     of->count = 0;
     of->queried.has_rows = 0;
 }
@@ -281,7 +289,7 @@ static void commands(handle *of)
     mmdb_bytes answer;
     const mmdb_status status = mmdb_command(&of->db, line.at, line.length, is_drawn(95) ? &answer : NULL);
     const int is_none = line.at == NULL || line.length == 0;
-    const uint32_t allowed = is_none ? only(MMDB_NO_LINE) : only(MMDB_DONE) | only(MMDB_NOT_ONE_REQUEST);
+    const uint32_t allowed = is_none ? only(MMDB_NO_LINE) : only(MMDB_DONE) | only(MMDB_NOT_ONE_REQUEST) | put_off(of);
     if (is_within(status, of->is_open ? allowed : only(MMDB_NOT_OPEN), "command") && status == MMDB_DONE &&
         mmdb_answer(&of->db, &answer) == MMDB_DONE)
         reads_answer(of, answer);
@@ -294,7 +302,7 @@ static void loads(handle *of)
     char line[64];
     mmdb_bytes answer;
     mmdb_status status;
-    uint32_t allowed = only(MMDB_DONE) | only(MMDB_NOT_ONE_REQUEST);
+    uint32_t allowed = only(MMDB_DONE) | only(MMDB_NOT_ONE_REQUEST) | put_off(of);
     sprintf(line, "load %s %zu", is_drawn(50) ? "t" : "u", is_drawn(90) ? with.length : (size_t)drawn(40));
     status = mmdb_load(&of->db, line, strlen(line), with.at, with.length, &answer);
     if (is_null(with))
@@ -308,7 +316,8 @@ static void feeds(handle *of)
 {
     const bytes piece = given_bytes_to(is_drawn(80) ? "\n" : "");
     const mmdb_status status = mmdb_feed(&of->db, piece.at, piece.length);
-    const uint32_t allowed = is_null(piece) ? only(MMDB_NO_LINE) : only(MMDB_DONE);
+    const uint32_t done = of->transactions > 0 ? only(MMDB_IN_TRANSACTION) : only(MMDB_DONE);
+    const uint32_t allowed = is_null(piece) ? only(MMDB_NO_LINE) | put_off(of) : done;
     mmdb_bytes answer;
     if (is_within(status, of->is_open ? allowed : only(MMDB_NOT_OPEN), "feed") && status == MMDB_DONE) {
         GIVES(mmdb_answer(&of->db, &answer), MMDB_DONE);
@@ -392,7 +401,7 @@ static void executes(handle *of)
     const uint32_t number = to ? to->of.number : no_statement(of);
     mmdb_rows rows;
     const mmdb_status status = mmdb_execute(&of->db, number, &rows);
-    const uint32_t allowed = to ? only(MMDB_DONE) | only(MMDB_REFUSED) : only(MMDB_NO_SUCH_STATEMENT);
+    const uint32_t allowed = to ? only(MMDB_DONE) | only(MMDB_REFUSED) | put_off(of) : only(MMDB_NO_SUCH_STATEMENT);
     is_within(status, of->is_open ? allowed : only(MMDB_NOT_OPEN), "execute");
     if (!to)
         return;
@@ -406,7 +415,7 @@ static void queries(handle *of)
     const bytes line = given_bytes();
     const mmdb_status status = mmdb_query(&of->db, line.at, line.length, &of->queried.rows);
     const int is_none = line.at == NULL || line.length == 0;
-    const uint32_t allowed = is_none ? only(MMDB_NO_LINE) : only(MMDB_DONE) | only(MMDB_REFUSED);
+    const uint32_t allowed = is_none ? only(MMDB_NO_LINE) : only(MMDB_DONE) | only(MMDB_REFUSED) | put_off(of);
     is_within(status, of->is_open ? allowed : only(MMDB_NOT_OPEN), "query");
     of->queried.has_rows = 1;
     of->queried.sum = sum_of(&of->queried.rows);
@@ -451,6 +460,25 @@ static void finalizes(handle *of)
         *to = of->kept[--of->count];
 }
 
+static void begins(handle *of)
+{
+    if (of->transactions == MOST_TRANSACTIONS)
+        return;
+    is_within(mmdb_begin(&of->db), only(of->is_open ? MMDB_DONE : MMDB_NOT_OPEN), "begin");
+    of->transactions += (size_t)of->is_open;
+    CHECK(mmdb_transactions(&of->db) == of->transactions);
+}
+
+static void commits_or_rolls_back(handle *of)
+{
+    const int is_commit = is_drawn(50);
+    const mmdb_status status = is_commit ? mmdb_commit(&of->db) : mmdb_rollback(&of->db);
+    const mmdb_status ended = of->transactions > 0 ? MMDB_DONE : MMDB_NO_TRANSACTION;
+    is_within(status, only(of->is_open ? ended : MMDB_NOT_OPEN), is_commit ? "commit" : "rollback");
+    of->transactions -= of->transactions > 0;
+    CHECK(mmdb_transactions(&of->db) == of->transactions);
+}
+
 /* The rows of each statement are as they were when it was executed. */
 static void looks_at_rows(handle *of)
 {
@@ -475,6 +503,8 @@ static void calls_on_null(void)
     CHECK(mmdb_prepare_reason(NULL, NULL, 1, &answer) == MMDB_NOT_OPEN && mmdb_statement_reason(NULL, 0, NULL) == MMDB_NOT_OPEN);
     CHECK(mmdb_query(NULL, "", 0, &rows) == MMDB_NOT_OPEN && mmdb_query(NULL, NULL, 1, NULL) == MMDB_NOT_OPEN);
     CHECK(mmdb_answer(NULL, &answer) == MMDB_NOT_OPEN && mmdb_refusal(NULL) == 0);
+    CHECK(mmdb_begin(NULL) == MMDB_NOT_OPEN && mmdb_transactions(NULL) == 0);
+    CHECK(mmdb_commit(NULL) == MMDB_NOT_OPEN && mmdb_rollback(NULL) == MMDB_NOT_OPEN);
     mmdb_close(NULL);
 }
 
@@ -483,7 +513,7 @@ typedef void (*maker)(handle *of);
 static const maker MAKERS[] = {
     commands, commands, commands, commands, loads,    loads,     feeds,    feeds,        prepares,     prepares,      prepares,
     binds,    binds,    binds,    binds,    executes, executes,  executes, asks_columns, asks_columns, looks_at_rows, tells,
-    queries,  queries,  asks_why,
+    queries,  queries,  asks_why, begins,   commits_or_rolls_back,
 };
 
 /* One call. Handles are seldom opened and closed, so that much becomes of what they have. */
@@ -511,7 +541,7 @@ int main(int count, char **words)
         call();
     for (size_t i = 0; i < HANDLES; i++)
         closes(&handles[i]);
-    for (size_t i = 0; i <= MMDB_TOO_LARGE; i++)
+    for (size_t i = 0; i <= MMDB_IN_TRANSACTION; i++)
         printf("%s: %" PRIu64 "\n", mmdb_status_text((uint32_t)i), statuses[i]);
     return checks_failed != 0;
 }
