@@ -47,6 +47,7 @@ impl Both {
         let savepoint = tx.savepoint()?;
         savepoint.execute("insert t (?, ?)", (4, LONG))?;
         savepoint.commit()?;
+        tx.execute("delete t where id < ?", [3])?;
         tx.commit()?;
         Ok(2)
     }
@@ -57,6 +58,7 @@ impl Both {
         tx.execute("insert t (?, ?)", (3, LONG))?;
         let savepoint = tx.savepoint()?;
         savepoint.load("t", (10..20).map(|id| (id, LONG)))?;
+        savepoint.execute("delete t where s = ?", [LONG])?;
         savepoint.rollback()?;
         Ok(1)
     }
