@@ -122,8 +122,8 @@ typedef enum mmdb_status {
                                     mmdb_refusal tell why, as `error 41 key exists` and a line feed; nothing changed */
     MMDB_TOO_LARGE = 13,         /* mmdb_execute, mmdb_query: the texts of the rows are more than 4 GiB together;
                                     mmdb_prepare: the database has 4294967296 statements. Nothing changed */
-    MMDB_SHARED = 14,            /* mmdb_execute and mmdb_query of a change; mmdb_command, mmdb_load, mmdb_feed, mmdb_begin,
-                                    mmdb_commit, mmdb_rollback: another handle shares the tables. Nothing changed */
+    MMDB_SHARED = 14,            /* mmdb_execute and mmdb_query of a change; mmdb_command, mmdb_load, mmdb_feed, mmdb_begin:
+                                    another handle shares the tables. Nothing changed */
     MMDB_NO_TRANSACTION = 15,    /* mmdb_commit, mmdb_rollback: no transaction is open */
     MMDB_IN_TRANSACTION = 16     /* what isn't done in a transaction yet: mmdb_execute and mmdb_query of an update;
                                     mmdb_command and mmdb_load of a line that begins with table (and not tables), index,
@@ -276,7 +276,7 @@ uint32_t mmdb_begin(mmdb *db);
 
 /* Ends the innermost transaction. After mmdb_commit the tables stay as they are; after mmdb_rollback they are those that it
    began with, whatever was done since. A rollback needs no memory.
-   Gives MMDB_DONE; or MMDB_NOT_OPEN, MMDB_NO_TRANSACTION or MMDB_SHARED, and then all is as it was. */
+   Gives MMDB_DONE; or MMDB_NOT_OPEN or MMDB_NO_TRANSACTION, and then all is as it was. */
 uint32_t mmdb_commit(mmdb *db);
 uint32_t mmdb_rollback(mmdb *db);
 
@@ -294,7 +294,8 @@ uint32_t mmdb_share(mmdb *db, mmdb *reader);
 /* Has a handle leave its tables, which are freed where no other handle shares them. It has none then, and a new stream.
    Its statements with their values, its rows and its answers stay: a statement is refused by 30 until the handle shares
    or declares its tables again.
-   Gives MMDB_DONE; or MMDB_NOT_OPEN, MMDB_IN_TRANSACTION or MMDB_NO_MEMORY, and then it is as it was. */
+   Gives MMDB_DONE; or MMDB_NOT_OPEN, MMDB_IN_TRANSACTION, or MMDB_NO_MEMORY where it has shared its tables with none, and
+   then it is as it was. */
 uint32_t mmdb_leave(mmdb *reader);
 
 /* Closes a handle and frees all that it holds; its answers are no longer valid. Tables that another handle shares stay.

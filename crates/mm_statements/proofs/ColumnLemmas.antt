@@ -44,12 +44,12 @@ use Rattle.plain_statements.specs.declared.resolution.Template.TheVariants as te
 use Rattle.plain_statements.specs.declared.statement.Statement.{Statement}
 use Rattle.plain_statements.specs.declared.statement.Statement.TheVariants as statement
 use Rattle.mm_session.specs.Columns.{column_told, columns_told}
-use Rattle.mm_session.specs.Sessions.{State}
 use Rattle.mm_session.specs.Shown.{places_shown}
 use Rattle.mm_statements.specs.Columns.{column_of, column_placed, columns_of_query, columns_of_table, columns_of_template, columns_shown, source_tables}
 use Rattle.mm_statements.specs.Databases.{DatabaseState}
 use Rattle.mm_statements.specs.Executing.{IsUntold, TellsColumns, columns_of}
 use Rattle.mm_prepared.specs.Kept.{IsKnown, SameSeen, named, seen}
+use Rattle.mm_statements.specs.Held.{Held}
 use Rattle.mm_statements.specs.Resolving.{IsUnresolved}
 use Rattle.mm_statements.specs.Right.{AreRight}
 use Rattle.mm_statements.specs.declared.faults.ExecuteFault.{ExecuteFault}
@@ -249,33 +249,33 @@ is-there None known = absurd known
 is-there (Some p) known = (p, refl)
 
 -- the columns of what is known of a statement are told of it
-pub known-told : (session : State) (old new : Statements) (number : ℕ) (r : Resolution) (cells : List Value) → IsKnown new number → AreRight session.database new → SameSeen old new
-    → ((p : Prepared) → named new number ≡ Some p → p.resolution ≡ Some r) → cells ≡ columns_of_template session.database r.template
-    → TellsColumns (state_of session old) number cells
-known-told session old new number r cells known right same resolution are =
+pub known-told : (held : Held) (old new : Statements) (number : ℕ) (r : Resolution) (cells : List Value) → IsKnown new number → AreRight held.session.database new → SameSeen old new
+    → ((p : Prepared) → named new number ≡ Some p → p.resolution ≡ Some r) → cells ≡ columns_of_template held.session.database r.template
+    → TellsColumns (state_of held old) number cells
+known-told held old new number r cells known right same resolution are =
     let (p, there) = is-there (named new number) known in
     let own = right number p there in
     record {
       kept = seen p;
-      there = statement-seen session old number ∙ sym (same number) ∙ ap (option_map seen) there;
+      there = statement-seen held old number ∙ sym (same number) ∙ ap (option_map seen) there;
       statement = own.statement;
       spelled = own.spelled;
       shown = λ values command is.
-          are ∙ resolution-told session.database p.line own.statement r own.spelled (known-resolves session.database p r own (resolution p there)) values command is;
+          are ∙ resolution-told held.session.database p.line own.statement r own.spelled (known-resolves held.session.database p r own (resolution p there)) values command is;
     }
 
 -- a statement that is refused, whatever is bound, is not told
-pub unresolved-untold : (session : State) (statements : Statements) (number : ℕ) (e : ExecuteFault)
-    → IsUnresolved session.database statements number e → IsUntold (state_of session statements) number e
-unresolved-untold session statements number fault.TooLong never = never
-unresolved-untold session statements number fault.Shared never = never
-unresolved-untold session statements number fault.InTransaction never = never
-unresolved-untold session statements number fault.NoSuchStatement none = statement-seen session statements number ∙ ap (option_map seen) none
-unresolved-untold session statements number (fault.Refused why) says = λ other.
+pub unresolved-untold : (held : Held) (statements : Statements) (number : ℕ) (e : ExecuteFault)
+    → IsUnresolved held.session.database statements number e → IsUntold (state_of held statements) number e
+unresolved-untold held statements number fault.TooLong never = never
+unresolved-untold held statements number fault.Shared never = never
+unresolved-untold held statements number fault.InTransaction never = never
+unresolved-untold held statements number fault.NoSuchStatement none = statement-seen held statements number ∙ ap (option_map seen) none
+unresolved-untold held statements number (fault.Refused why) says = λ other.
     let r = says other in
     record {
       kept = seen r.prepared;
-      there = statement-seen session statements number ∙ ap (option_map seen) r.there;
+      there = statement-seen held statements number ∙ ap (option_map seen) r.there;
       statement = r.statement;
       spelled = r.spelled;
       refuses = r.refuses;

@@ -27,6 +27,7 @@ use Rattle.mm_session.specs.Sessions.{State}
 use Rattle.mm_prepared.specs.Kept.{KeptStatement}
 use Rattle.mm_statements.specs.Databases.{DatabaseState, IsUnchanged}
 use Rattle.mm_statements.specs.Executing.{IsChangeOf, IsDeclined, IsEffectOf}
+use Rattle.mm_statements.specs.Held.{Held}
 use Rattle.mm_statements.specs.Faults.{IsUndone, execute_fault_of, execute_fault_of_change}
 use Rattle.mm_statements.specs.declared.faults.ChangeFault.{ChangeFault}
 use Rattle.mm_statements.specs.declared.faults.ChangeFault.TheVariants as changing
@@ -125,32 +126,32 @@ same-unfinished tables old new number why same says other = same-finished tables
 
 -- ---- its effect
 
-pub effect-of : (session : State) (statements : Statements) (number : ℕ) (m : Result Resolved Refusal)
-    → IsFinished session.database statements number m
-    → IsEffectOf (state_of session statements) number (effect_of_resolved session.limits session.database m)
-effect-of session statements number m f = record {
+pub effect-of : (held : Held) (statements : Statements) (number : ℕ) (m : Result Resolved Refusal)
+    → IsFinished held.session.database statements number m
+    → IsEffectOf (state_of held statements) number (effect_of_resolved held.session.limits held.session.database m)
+effect-of held statements number m f = record {
   kept = seen f.prepared;
-  there = statement-seen session statements number ∙ ap (option_map seen) f.there;
+  there = statement-seen held statements number ∙ ap (option_map seen) f.there;
   statement = f.statement;
   spelled = f.spelled;
-  is = ap (effect_of_resolved session.limits session.database) (sym f.means);
+  is = ap (effect_of_resolved held.session.limits held.session.database) (sym f.means);
 }
 
 -- a statement that could not be finished is declined so
-pub unfinished-declined : (session : State) (statements : Statements) (number : ℕ) (e : ExecuteFault)
-    → IsUnfinished session.database statements number e → IsDeclined (state_of session statements) number e
-unfinished-declined session statements number fault.TooLong never = tt
-unfinished-declined session statements number fault.Shared never = absurd never
-unfinished-declined session statements number fault.InTransaction never = absurd never
-unfinished-declined session statements number fault.NoSuchStatement none = statement-seen session statements number ∙ ap (option_map seen) none
-unfinished-declined session statements number (fault.Refused why) says = λ other. effect-of session statements number (Err why) (says other)
+pub unfinished-declined : (held : Held) (statements : Statements) (number : ℕ) (e : ExecuteFault)
+    → IsUnfinished held.session.database statements number e → IsDeclined (state_of held statements) number e
+unfinished-declined held statements number fault.TooLong never = tt
+unfinished-declined held statements number fault.Shared never = absurd never
+unfinished-declined held statements number fault.InTransaction never = absurd never
+unfinished-declined held statements number fault.NoSuchStatement none = statement-seen held statements number ∙ ap (option_map seen) none
+unfinished-declined held statements number (fault.Refused why) says = λ other. effect-of held statements number (Err why) (says other)
 
 -- a statement that was finished as a change is one
-pub change-of : (session : State) (statements : Statements) (number : ℕ) (c : Resolved) → IsFinished session.database statements number (Ok c)
-    → IsChange c → IsChangeOf (state_of session statements) number
-change-of session statements number c f change = record {
+pub change-of : (held : Held) (statements : Statements) (number : ℕ) (c : Resolved) → IsFinished held.session.database statements number (Ok c)
+    → IsChange c → IsChangeOf (state_of held statements) number
+change-of held statements number c f change = record {
   kept = seen f.prepared;
-  there = statement-seen session statements number ∙ ap (option_map seen) f.there;
+  there = statement-seen held statements number ∙ ap (option_map seen) f.there;
   statement = f.statement;
   spelled = f.spelled;
   command = c;
@@ -159,16 +160,16 @@ change-of session statements number c f change = record {
 }
 
 -- and one whose change was declined
-pub change-declined : (old new : State) (statements : Statements) (number : ℕ) (c : Resolved) (why : Refusal)
-    → IsFinished old.database statements number (Ok c) → HasDeclined old new (done old.limits old.database c) why
+pub change-declined : (old : Held) (new : State) (statements : Statements) (number : ℕ) (c : Resolved) (why : Refusal)
+    → IsFinished old.session.database statements number (Ok c) → HasDeclined old.session new (done old.session.limits old.session.database c) why
     → IsDeclined (state_of old statements) number (fault.Refused why)
 change-declined old new statements number c why f declined other =
     ⊎_elim (λ none. absurd (other none))
     (λ is. subst (IsEffectOf (state_of old statements) number) is (effect-of old statements number (Ok c) f)) declined.1
 
 -- so it is of a change that was not done
-pub change-undone : (old new : State) (statements : Statements) (number : ℕ) (c : Resolved) (f : ChangeFault)
-    → IsFinished old.database statements number (Ok c) → IsChange c → IsUndone old new (done old.limits old.database c) f
+pub change-undone : (old : Held) (new : State) (statements : Statements) (number : ℕ) (c : Resolved) (f : ChangeFault)
+    → IsFinished old.session.database statements number (Ok c) → IsChange c → IsUndone old.session new (done old.session.limits old.session.database c) f
     → IsDeclined (state_of old statements) number (execute_fault_of_change f)
 change-undone old new statements number c (changing.Refused why) finished change undone = change-declined old new statements number c why finished undone
 change-undone old new statements number c changing.Shared finished change undone = change-of old statements number c finished change
@@ -176,9 +177,13 @@ change-undone old new statements number c changing.InTransaction finished change
 
 -- ---- what stays
 
-pub unchanged : (before after : State) (old new : Statements) → after ≡ before → SameSeen old new
+pub unchanged : (before after : Held) (old new : Statements) → after ≡ before → SameSeen old new
     → IsUnchanged (state_of before old) (state_of after new)
-unchanged before after old new same seen = record { session = same; statements = same-seen before after old new seen }
+unchanged before after old new same seen = record {
+  session = ap (λ (h : Held). h.session) same;
+  shared = ap (λ (h : Held). h.shared) same;
+  statements = same-seen before after old new seen;
+}
 
 pub changed-right : (old new : State) (statements : Statements) (c : Resolved) (count : ℕ) → IsChange c
     → HasChanged new (done old.limits old.database c) count → AreRight old.database statements → AreRight new.database statements

@@ -3,30 +3,30 @@ use Rattle.std.proofs.Common.{◌≡◌, ℕ, ◌≤◌, length, sym, ap, subst,
 use Rattle.std.specs.Prelude.{slice_set}
 use Rattle.std.specs.Option.{option_map}
 use Rattle.plain_tables.specs.declared.value.Value.{Value}
-use Rattle.mm_session.specs.Sessions.{State}
 use Rattle.mm_prepared.specs.Kept.{KeptStatement}
 use Rattle.mm_statements.specs.Databases.{DatabaseState, NowNames, SameStatements, statement_at}
+use Rattle.mm_statements.specs.Held.{Held}
 use Rattle.mm_prepared.specs.Kept.{NamesNow, SameNamed, SameSeen, all_seen, named, seen, unresolved}
 use Rattle.mm_prepared.proofs.KeptLemmas.{all_seen-at}
 use Rattle.mm_prepared.specs.declared.kept.Prepared.{Prepared}
 use Rattle.mm_prepared.specs.declared.kept.Statements.{Statements}
 
 -- what a database of these parts is seen as
-abbrev pub state_of : State → Statements → DatabaseState
-state_of session statements = record { session = session; statements = all_seen statements }
+abbrev pub state_of : Held → Statements → DatabaseState
+state_of held statements = record { session = held.session; shared = held.shared; statements = all_seen statements }
 
-pub statement-seen : (session : State) (statements : Statements) (number : ℕ)
-    → statement_at (state_of session statements) number ≡ option_map seen (named statements number)
-statement-seen session statements number = all_seen-at statements number
+pub statement-seen : (held : Held) (statements : Statements) (number : ℕ)
+    → statement_at (state_of held statements) number ≡ option_map seen (named statements number)
+statement-seen held statements number = all_seen-at statements number
 
-pub same-seen : (before after : State) (old new : Statements) → SameSeen old new → SameStatements (state_of before old) (state_of after new)
+pub same-seen : (before after : Held) (old new : Statements) → SameSeen old new → SameStatements (state_of before old) (state_of after new)
 same-seen before after old new same number =
     statement-seen after new number ∙ same number ∙ sym (statement-seen before old number)
 
 pub named-seen : (old new : Statements) → SameNamed old new → SameSeen old new
 named-seen old new same number = ap (option_map seen) (same number)
 
-pub names-seen : (before after : State) (old new : Statements) (number : ℕ) (what : Option Prepared) → NamesNow old new number what
+pub names-seen : (before after : Held) (old new : Statements) (number : ℕ) (what : Option Prepared) → NamesNow old new number what
     → NowNames (state_of before old) (state_of after new) number (option_map seen what)
 names-seen before after old new number what names = record {
   own = statement-seen after new number ∙ ap (option_map seen) names.own;
@@ -51,28 +51,28 @@ some-seen None p e = cc
 some-seen (Some q) p e = (q, refl, cc)
 
 -- a number that is seen to name a statement names one that is seen so
-pub statement-named : (session : State) (statements : Statements) (number : ℕ) (p : KeptStatement)
-    → statement_at (state_of session statements) number ≡ Some p → (q : Prepared) × (named statements number ≡ Some q) × (seen q ≡ p)
-statement-named session statements number p is = some-seen (named statements number) p (sym (statement-seen session statements number) ∙ is)
+pub statement-named : (held : Held) (statements : Statements) (number : ℕ) (p : KeptStatement)
+    → statement_at (state_of held statements) number ≡ Some p → (q : Prepared) × (named statements number ≡ Some q) × (seen q ≡ p)
+statement-named held statements number p is = some-seen (named statements number) p (sym (statement-seen held statements number) ∙ is)
 
 -- where no statement is seen, none is
-pub statement-none : (session : State) (statements : Statements) (number : ℕ) → statement_at (state_of session statements) number ≡ None
+pub statement-none : (held : Held) (statements : Statements) (number : ℕ) → statement_at (state_of held statements) number ≡ None
     → named statements number ≡ None
-statement-none session statements number is = none-seen (named statements number) (sym (statement-seen session statements number) ∙ is)
+statement-none held statements number is = none-seen (named statements number) (sym (statement-seen held statements number) ∙ is)
 
 -- what is bound is seen
-pub bound-seen : (session : State) (old new : Statements) (number place : ℕ) (v : Value)
+pub bound-seen : (held : Held) (old new : Statements) (number place : ℕ) (v : Value)
     → ((q : Prepared) → named old number ≡ Some q → NamesNow old new number (Some (record q { bound = slice_set q.bound place v })))
-    → (p : KeptStatement) → statement_at (state_of session old) number ≡ Some p
-    → NowNames (state_of session old) (state_of session new) number (Some (record p { values = slice_set p.values place v }))
-bound-seen session old new number place v bound p is =
-    let (q, there, same) = statement-named session old number p is in
-    subst (λ (k : KeptStatement). NowNames (state_of session old) (state_of session new) number (Some (record k { values = slice_set k.values place v }))) same
-    (names-seen session session old new number (Some (record q { bound = slice_set q.bound place v })) (bound q there))
+    → (p : KeptStatement) → statement_at (state_of held old) number ≡ Some p
+    → NowNames (state_of held old) (state_of held new) number (Some (record p { values = slice_set p.values place v }))
+bound-seen held old new number place v bound p is =
+    let (q, there, same) = statement-named held old number p is in
+    subst (λ (k : KeptStatement). NowNames (state_of held old) (state_of held new) number (Some (record k { values = slice_set k.values place v }))) same
+    (names-seen held held old new number (Some (record q { bound = slice_set q.bound place v })) (bound q there))
 
-pub past-seen : (session : State) (statements : Statements) (number place : ℕ)
+pub past-seen : (held : Held) (statements : Statements) (number place : ℕ)
     → ((q : Prepared) → named statements number ≡ Some q → length q.bound ≤ place)
-    → (p : KeptStatement) → statement_at (state_of session statements) number ≡ Some p → length p.values ≤ place
-past-seen session statements number place past p is =
-    let (q, there, same) = statement-named session statements number p is in
+    → (p : KeptStatement) → statement_at (state_of held statements) number ≡ Some p → length p.values ≤ place
+past-seen held statements number place past p is =
+    let (q, there, same) = statement-named held statements number p is in
     subst (λ (k : KeptStatement). length k.values ≤ place) same (past q there)

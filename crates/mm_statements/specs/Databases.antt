@@ -1,13 +1,14 @@
 -- What a database with statements is seen as.
-use Rattle.std.specs.Prelude.{◌≡◌, ◌≢◌, ℕ, List, Option, None, refl, slice_index_or}
-use Rattle.std.specs.Coded.{Coded, code_by, coded×, coded_list, coded_option, coded_ℕ}
+use Rattle.std.specs.Prelude.{◌≡◌, ◌≢◌, ℕ, Bool, List, Option, None, IsTrue, refl, slice_index_or, true}
+use Rattle.std.specs.Coded.{Coded, code_by, coded×, coded_bool, coded_list, coded_option, coded_ℕ}
 use Rattle.plain_tables.specs.declared.value.Value.{Value}
 use Rattle.mm_prepared.specs.Kept.{KeptStatement}
 use Rattle.mm_session.specs.Sessions.{State}
 
--- A database is seen as its session, and the statements by their numbers.
+-- A database is seen as its session, whether other databases may share that, and the statements by their numbers.
 pub record DatabaseState : Type 0 where
   pub session : State
+  pub shared : Bool
   pub statements : List (Option KeptStatement)
 
 abbrev pub kept_code : Coded Value → Coded KeptStatement
@@ -17,8 +18,8 @@ kept_code value =
 
 abbrev pub database_code : Coded State → Coded Value → Coded DatabaseState
 database_code session value =
-    code_by (State × List (Option KeptStatement)) (coded× session (coded_list (coded_option (kept_code value)))) (λ d. (d.session, d.statements))
-    (λ p. record { session = p.0; statements = p.1 }) (λ _. refl)
+    code_by (State × (Bool × List (Option KeptStatement))) (coded× session (coded× coded_bool (coded_list (coded_option (kept_code value)))))
+    (λ d. (d.session, (d.shared, d.statements))) (λ p. record { session = p.0; shared = p.1.0; statements = p.1.1 }) (λ _. refl)
 
 -- the statement that a number names
 abbrev pub statement_at : DatabaseState → ℕ → Option KeptStatement
@@ -36,4 +37,10 @@ pub record NowNames (old new : DatabaseState) (number : ℕ) (what : Option Kept
 -- nothing has changed
 pub record IsUnchanged (old new : DatabaseState) : Type 0 where
   pub session : new.session ≡ old.session
+  pub shared : new.shared ≡ old.shared
   pub statements : SameStatements old new
+
+-- Nothing has changed, but that the session may be shared now.
+pub record SharesMore (old new : DatabaseState) : Type 0 where
+  pub same : new ≡ record old { shared = new.shared }
+  pub stays : IsTrue old.shared → new.shared ≡ true

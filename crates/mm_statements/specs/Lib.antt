@@ -3,6 +3,7 @@ pub mod Columns
 pub mod Databases
 pub mod Executing
 pub mod Faults
+pub mod Held
 pub mod LineLaws
 pub mod Preparing
 pub mod Querying

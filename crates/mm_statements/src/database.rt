@@ -2,17 +2,16 @@
 
 use crate::columns::push_columns;
 use crate::faults::{
-    BeginFault, EndFault, ExecuteFault, PrepareFault, QueryFault, RequestFault, ShareFault,
-    StreamFault,
+    BeginFault, ExecuteFault, PrepareFault, QueryFault, RequestFault, ShareFault, StreamFault,
 };
 use crate::querying::command_of_line;
 use crate::reading::{count_marks, meaning, readable};
 use crate::resolving::{command_of, resolution_of, resolve};
 use crate::shared::SharedSession;
-use mm_catalog::laws::a_catalog_is_consistent;
 use mm_cells::Cells;
 use mm_prepared::{Cell, Commands, Declined, Lent, Statements, may_declare};
 use mm_session::{Answer, Session};
+use mm_transactions::NoTransaction;
 use no_memory::NoMemory;
 use plain_statements::Template;
 use plain_tables::{Limits, Resolved, Value};
@@ -50,7 +49,7 @@ pub struct PreparedLine<'a> {
 /// them; the others are refused by `Shared`. In a transaction rows are inserted, loaded, deleted and read; all else is refused by `InTransaction`.
 #[derive(Drop)]
 pub struct Database {
-    session: SharedSession,
+    held: SharedSession,
     policy: Policy,
     statements: Statements,
     commands: Commands,
@@ -58,7 +57,7 @@ pub struct Database {
 
 impl Model for Database {
     ghost use Rattle.plain_tables.specs.contracts.value.Value.{the_row as value_row};
-    ghost use Rattle.mm_statements.specs.contracts.shared.SharedSession.{the_row as session_row};
+    ghost use Rattle.mm_session.specs.contracts.session.Session.{the_row as session_row};
     ghost use Rattle.mm_prepared.specs.Kept.{all_seen};
     ghost use Rattle.mm_statements.specs.Databases.{DatabaseState, database_code};
     ghost use Rattle.mm_statements.specs.Right.{AreRight};
@@ -67,9 +66,9 @@ impl Model for Database {
 
     ghost coded = { database_code session_row.coded value_row.coded };
 
-    ghost view = { λ d. record { session = d.session; statements = all_seen d.statements } };
+    ghost view = { λ d. record { session = d.held.session; shared = d.held.shared; statements = all_seen d.statements } };
 
-    ghost invariant = { λ d. AreRight d.session.database d.statements };
+    ghost invariant = { λ d. AreRight d.held.session.database d.statements };
 }
 
 impl Database {
@@ -86,27 +85,29 @@ impl Database {
     ghost use Rattle.mm_prepared.specs.Declaring.{begins_waiting, behind_blanks};
     ghost use Rattle.mm_prepared.specs.Cells.{IsSmall, cell_value};
     ghost use Rattle.mm_prepared.specs.Kept.{KeptStatement};
-    ghost use Rattle.mm_statements.specs.Databases.{statement_at, IsUnchanged, NowNames, SameStatements};
+    ghost use Rattle.mm_statements.specs.Databases.{statement_at, IsUnchanged, NowNames, SameStatements, SharesMore};
     ghost use Rattle.mm_statements.specs.Executing.{HasGiven, IsDeclined, IsEffectOf, IsUntold, TellsColumns};
     ghost use Rattle.mm_statements.specs.Preparing.{IsPrepared, IsUnpreparedFor};
     ghost use Rattle.mm_statements.specs.Querying.{IsEffectOfLine, IsUnanswered};
     ghost use Rattle.mm_prepared.specs.declared.declined.Declined.TheVariants as declined;
     ghost use Rattle.mm_statements.specs.declared.faults.ExecuteFault.TheVariants as fault;
-    ghost use Rattle.mm_statements.specs.declared.faults.EndFault.TheVariants as end_fault;
+    ghost use Rattle.mm_statements.specs.declared.faults.BeginFault.TheVariants as begin_fault;
+    ghost use Rattle.mm_statements.specs.declared.faults.QueryFault.TheVariants as query_fault;
     ghost use Rattle.mm_statements.specs.declared.faults.ShareFault.TheVariants as share_fault;
     ghost use Rattle.mm_statements.specs.declared.faults.RequestFault.TheVariants as request_fault;
     ghost use Rattle.mm_statements.specs.declared.faults.StreamFault.TheVariants as stream_fault;
     ghost use Rattle.plain_tables.specs.Effects.{Effect};
 
-    /// A database with no tables, under these limits, and no statements.
+    /// A database with no tables, under these limits, and no statements. It shares no session.
     pub fn new(alloc: Global, policy: Policy, limits: Limits) -> Result<Database, NoMemory>
         requires { limits.rows ≤ 16777216 }
         ensures session { IfOk result (λ d. d.session ≡ new_session limits [] d.session.catalog) }
         ensures none { IfOk result (λ d. (number : ℕ) → statement_at d number ≡ None) }
+        ensures alone { IfOk result (λ d. d.shared ≡ false) }
     {
         let session = Session::with_limits(alloc, policy, limits)?;
         Ok(Database {
-            session: SharedSession::new(alloc, session)?,
+            held: SharedSession::new(session),
             policy,
             statements: Statements::new(alloc),
             commands: Commands::new(alloc),
@@ -114,17 +115,20 @@ impl Database {
     }
 
     /// A database that shares the session, with no statements of its own. In a transaction there is none.
-    pub fn reader(&self, alloc: Global) -> Result<Database, ShareFault>
-        ensures session { IfOk result (λ d. d.session ≡ self.now.session) }
+    pub fn reader(&mut self, alloc: Global) -> Result<Database, ShareFault>
+        ensures session { IfOk result (λ d. d.session ≡ self.old.session) }
         ensures none { IfOk result (λ d. (number : ℕ) → statement_at d number ≡ None) }
-        ensures open { IsErrOf result share_fault.InTransaction → self.now.session.saved ≢ [] }
-        ensures waits { self.now.session.saved ≢ [] → result ≡ Err share_fault.InTransaction }
+        ensures shared { IfOk result (λ d. (d.shared ≡ true) × (self.new.shared ≡ true)) }
+        ensures stays { SharesMore self.old self.new }
+        ensures declined { IsErrOf result share_fault.InTransaction → self.new ≡ self.old }
+        ensures open { IsErrOf result share_fault.InTransaction → self.old.session.saved ≢ [] }
+        ensures waits { self.old.session.saved ≢ [] → result ≡ Err share_fault.InTransaction }
     {
-        if self.session.is_in_transaction() {
+        if self.held.is_in_transaction() {
             return Err(ShareFault::InTransaction);
         }
         Ok(Database {
-            session: self.session.another()?,
+            held: self.held.another(alloc, self.policy)?,
             policy: self.policy,
             statements: Statements::new(alloc),
             commands: Commands::new(alloc),
@@ -133,41 +137,42 @@ impl Database {
 
     /// Has another database share the session, in the place of its own, which ends where no third shares it. The other's statements
     /// and their values stay. What is known of their meaning is forgotten. In a transaction of either it is declined.
-    pub fn share(&self, other: &mut Database) -> Result<(), ShareFault>
-        ensures session { OnOk result (other.new.session ≡ self.now.session) }
+    pub fn share(&mut self, alloc: Global, other: &mut Database) -> Result<(), ShareFault>
+        ensures session { OnOk result (other.new.session ≡ self.old.session) }
         ensures statements { OnOk result (SameStatements other.old other.new) }
+        ensures shared { OnOk result ((other.new.shared ≡ true) × (self.new.shared ≡ true)) }
+        ensures stays { SharesMore self.old self.new }
+        ensures declined { IsErrOf result share_fault.InTransaction → self.new ≡ self.old }
         ensures unchanged { OnErr result (other.new ≡ other.old) }
-        ensures open { IsErrOf result share_fault.InTransaction → (self.now.session.saved ≢ []) ⊎ (other.old.session.saved ≢ []) }
-        ensures waits { (self.now.session.saved ≢ []) ⊎ (other.old.session.saved ≢ []) → result ≡ Err share_fault.InTransaction }
+        ensures open { IsErrOf result share_fault.InTransaction → (self.old.session.saved ≢ []) ⊎ (other.old.session.saved ≢ []) }
+        ensures waits { (self.old.session.saved ≢ []) ⊎ (other.old.session.saved ≢ []) → result ≡ Err share_fault.InTransaction }
     {
-        if self.session.is_in_transaction() || other.session.is_in_transaction() {
+        if self.held.is_in_transaction() || other.held.is_in_transaction() {
             return Err(ShareFault::InTransaction);
         }
-        let session = self.session.another()?;
+        let held = self.held.another(alloc, self.policy)?;
         other.statements.forget();
-        other.session = session;
+        other.held = held;
         other.policy = self.policy;
         Ok(())
     }
 
-    /// Leaves the session, which ends where no other database shares it, for a new one without tables. The statements and their values
-    /// stay. What is known of their meaning is forgotten. In a transaction it is declined.
+    /// Leaves the session, which ends where no other database shares it, for one without tables. The statements and their values stay.
+    /// What is known of their meaning is forgotten. In a transaction it is declined. Only where nothing is shared it takes memory.
     pub fn leave(&mut self, alloc: Global) -> Result<(), ShareFault>
         ensures session { OnOk result (self.new.session ≡ new_session self.old.session.limits [] self.new.session.catalog) }
         ensures statements { OnOk result (SameStatements self.old self.new) }
+        ensures alone { OnOk result (self.new.shared ≡ false) }
+        ensures own { IsErrOf result share_fault.NoMemory → self.old.shared ≡ false }
         ensures unchanged { OnErr result (self.new ≡ self.old) }
         ensures open { IsErrOf result share_fault.InTransaction → self.old.session.saved ≢ [] }
         ensures waits { self.old.session.saved ≢ [] → result ≡ Err share_fault.InTransaction }
     {
-        if self.session.is_in_transaction() {
+        if self.held.is_in_transaction() {
             return Err(ShareFault::InTransaction);
         }
-        let catalog = self.session.catalog();
-        a_catalog_is_consistent(catalog);
-        let session = Session::with_limits(alloc, self.policy, catalog.limits())?;
-        let session = SharedSession::new(alloc, session)?;
+        self.held.leave(alloc, self.policy)?;
         self.statements.forget();
-        self.session = session;
         Ok(())
     }
 
@@ -175,49 +180,53 @@ impl Database {
     pub fn session(&self) -> &Session
         ensures { result.now ≡ self.now.session }
     {
-        self.session.session()
+        self.held.session()
     }
 
     /// How many transactions are open.
     pub fn transactions(&self) -> usize
         ensures { result ≡ length self.now.session.saved }
     {
-        self.session.transactions()
+        self.held.transactions()
     }
 
-    /// Begins a transaction, in those that are open. The stream goes on as before.
+    /// Begins a transaction, in those that are open. The session isn't shared then. The stream goes on as before.
     pub fn begin(&mut self) -> Result<(), BeginFault>
         ensures begun { OnOk result (tables_of self.new.session ≡ begun (tables_of self.old.session)) }
+        ensures alone { OnOk result (self.new.shared ≡ false) }
+        ensures shared { IsErrOf result begin_fault.Shared → IsTrue self.old.shared }
         ensures unchanged { OnErr result (self.new ≡ self.old) }
         ensures stream { IsAtSamePlace self.old.session self.new.session }
         ensures statements { SameStatements self.old self.new }
     {
-        self.session.begin()
+        self.held.begin()
     }
 
     /// Ends the innermost transaction, and keeps what was done in it. The stream goes on as before.
-    pub fn commit(&mut self) -> Result<(), EndFault>
+    pub fn commit(&mut self) -> Result<(), NoTransaction>
         ensures open { OnOk result (self.old.session.saved ≢ []) }
         ensures committed { OnOk result (tables_of self.new.session ≡ committed (tables_of self.old.session)) }
-        ensures none { IsErrOf result end_fault.NoTransaction → self.old.session.saved ≡ [] }
+        ensures none { OnErr result (self.old.session.saved ≡ []) }
+        ensures alone { OnOk result (self.new.shared ≡ false) }
         ensures unchanged { OnErr result (self.new ≡ self.old) }
         ensures stream { IsAtSamePlace self.old.session self.new.session }
         ensures statements { SameStatements self.old self.new }
     {
-        self.session.commit()
+        self.held.commit()
     }
 
     /// Ends the innermost transaction, and undoes what was done in it: the tables are those that it began with. It takes no memory.
     /// The stream goes on as before. What is known of the statements' meaning is forgotten.
-    pub fn rollback(&mut self) -> Result<(), EndFault>
+    pub fn rollback(&mut self) -> Result<(), NoTransaction>
         ensures open { OnOk result (self.old.session.saved ≢ []) }
         ensures rolled_back { OnOk result (tables_of self.new.session ≡ rolled_back (tables_of self.old.session)) }
-        ensures none { IsErrOf result end_fault.NoTransaction → self.old.session.saved ≡ [] }
+        ensures none { OnErr result (self.old.session.saved ≡ []) }
+        ensures alone { OnOk result (self.new.shared ≡ false) }
         ensures unchanged { OnErr result (self.new ≡ self.old) }
         ensures stream { IsAtSamePlace self.old.session self.new.session }
         ensures statements { SameStatements self.old self.new }
     {
-        self.session.rollback()?;
+        self.held.rollback()?;
         self.statements.forget();
         Ok(())
     }
@@ -240,6 +249,8 @@ impl Database {
 
         // Where it isn't, or another database shares the session, nothing has changed.
         ensures unchanged { OnErr result ((self.new ≡ self.old) × (answer.new ≡ answer.old)) }
+        ensures shared { IsErrOf result request_fault.Shared → IsTrue self.old.shared }
+        ensures keeps { self.new.shared ≡ self.old.shared }
 
         // The stream goes on as before, and the request stands behind what of it was answered.
         ensures stream { StaysInStream self.old.session self.new.session }
@@ -252,7 +263,7 @@ impl Database {
         // The statements stay.
         ensures statements { SameStatements self.old self.new }
     {
-        self.session.answer_request(line, block, answer)?;
+        self.held.answer_request(line, block, answer)?;
         if may_declare(line) {
             self.statements.forget();
         }
@@ -276,7 +287,9 @@ impl Database {
         ensures limits { self.new.session.limits ≡ self.old.session.limits }
 
         // Another database shares the session.
-        ensures shared { IsErrOf result stream_fault.Shared → (self.new.session ≡ self.old.session) × Keeps (W.contents w.old) (W.contents w.new) }
+        ensures shared { IsErrOf result stream_fault.Shared → IsTrue self.old.shared × (self.new.session ≡ self.old.session) × Keeps (W.contents w.old) (W.contents w.new) }
+
+        ensures keeps { self.new.shared ≡ self.old.shared }
 
         // A transaction is open.
         ensures in_transaction { IsErrOf result stream_fault.InTransaction → (self.new.session ≡ self.old.session) × Keeps (W.contents w.old) (W.contents w.new) }
@@ -287,7 +300,7 @@ impl Database {
         // The statements stay.
         ensures statements { SameStatements self.old self.new }
     {
-        let fed = self.session.feed(piece, w);
+        let fed = self.held.feed(piece, w);
         self.statements.forget();
         fed
     }
@@ -299,16 +312,17 @@ impl Database {
         ensures unchanged { IsErrOf result stream_fault.Ended → (self.new.session ≡ self.old.session) × Keeps (W.contents w.old) (W.contents w.new) }
         ensures ok { OnOk result (Gains (W.contents w.old) (W.contents w.new) (Finishes self.old.session self.new.session)) }
         ensures write { IsErrOf result stream_fault.Write → Gains (W.contents w.old) (W.contents w.new) (BreaksOff self.old.session self.new.session [] true) }
-        ensures shared { IsErrOf result stream_fault.Shared → (self.new.session ≡ self.old.session) × Keeps (W.contents w.old) (W.contents w.new) }
+        ensures shared { IsErrOf result stream_fault.Shared → IsTrue self.old.shared × (self.new.session ≡ self.old.session) × Keeps (W.contents w.old) (W.contents w.new) }
         ensures in_transaction { IsErrOf result stream_fault.InTransaction → (self.new.session ≡ self.old.session) × Keeps (W.contents w.old) (W.contents w.new) }
         ensures open { IsErrOf result stream_fault.InTransaction → self.old.session.saved ≢ [] }
         ensures waits { self.old.session.ended ≡ false → self.old.session.saved ≢ [] → result ≡ Err stream_fault.InTransaction }
         ensures over { result ≢ Err stream_fault.Shared → result ≢ Err stream_fault.InTransaction → IsTrue self.new.session.ended }
         ensures saved { self.new.session.saved ≡ self.old.session.saved }
         ensures limits { self.new.session.limits ≡ self.old.session.limits }
+        ensures keeps { self.new.shared ≡ self.old.shared }
         ensures statements { SameStatements self.old self.new }
     {
-        let ended = self.session.end(w);
+        let ended = self.held.end(w);
         self.statements.forget();
         ended
     }
@@ -340,10 +354,11 @@ impl Database {
         ensures kept { IfOk result (λ n. NowNames self.old self.new n.statement (Some (record { line = without_return line.now; values = replicate n.places value.Null }))) }
         ensures refused { IfErr result (IsUnpreparedFor self.old.session.database (without_return line.now)) }
         ensures session { self.new.session ≡ self.old.session }
+        ensures keeps { self.new.shared ≡ self.old.shared }
         ensures unchanged { OnErr result (IsUnchanged self.old self.new) }
     {
         let line = readable(line)?;
-        let resolution = meaning(alloc, self.session.catalog(), &line)?;
+        let resolution = meaning(alloc, self.held.catalog(), &line)?;
         let places = count_marks(line.as_str().as_bytes());
         let statement = self
             .statements
@@ -359,6 +374,7 @@ impl Database {
         ensures declined { IfErr result (λ e. e ≡ declined.NoSuchStatement) }
         ensures none { OnErr result (statement_at self.old number ≡ None) }
         ensures session { self.new.session ≡ self.old.session }
+        ensures keeps { self.new.shared ≡ self.old.shared }
         ensures unchanged { OnErr result (IsUnchanged self.old self.new) }
     {
         self.commands.empty(number);
@@ -374,6 +390,7 @@ impl Database {
         ensures declined { IfErr result (λ e. e ≢ declined.NoMemory → (p : KeptStatement) → statement_at self.old number ≡ Some p → length p.values ≤ place) }
         ensures small { IsSmall cell.entry → result ≢ Err declined.NoMemory }
         ensures session { self.new.session ≡ self.old.session }
+        ensures keeps { self.new.shared ≡ self.old.shared }
         ensures unchanged { OnErr result (IsUnchanged self.old self.new) }
     {
         self.statements.bind(number, place, cell)
@@ -386,29 +403,31 @@ impl Database {
         ensures done { IfOk result (λ given. (effect : Effect) × IsEffectOf self.old number effect × HasGiven self.new.session effect given (values_of shown.new)) }
         ensures missing { statement_at self.old number ≡ None → result ≡ Err fault.NoSuchStatement }
         ensures declined { IfErr result (IsDeclined self.old number) }
+        ensures shared { IsErrOf result fault.Shared → IsTrue self.old.shared }
         ensures too_long { IsErrOf result ExecuteFault.TooLong → AreFull (values_of shown.new) }
         ensures unchanged { OnErr result (IsUnchanged self.old self.new) }
 
         // The stream goes on as before, and the statements stay.
         ensures stream { StaysInStream self.old.session self.new.session }
         ensures statements { SameStatements self.old self.new }
+        ensures keeps { self.new.shared ≡ self.old.shared }
     {
         shown.clear();
-        resolve(&self.session, &mut self.statements, number)?;
+        resolve(&self.held, &mut self.statements, number)?;
         let kept = self.commands.at(number);
         let lent = command_of(&self.statements, number, kept)?;
         let command = match lent {
             Lent::Insert { table, row } => {
-                self.session.insert(table, row)?;
+                self.held.insert(table, row)?;
                 return Ok(Executed::Changed(1));
             }
             Lent::Command(command) => command,
         };
         if let Resolved::Select(query) = command {
-            let columns = self.session.select(query, shown)?;
+            let columns = self.held.select(query, shown)?;
             return Ok(Executed::Rows { columns });
         }
-        let count = self.session.change(command)?;
+        let count = self.held.change(command)?;
         Ok(Executed::Changed(count))
     }
 
@@ -422,12 +441,12 @@ impl Database {
         ensures unchanged { IsUnchanged self.old self.new }
     {
         cells.clear();
-        resolve(&self.session, &mut self.statements, number)?;
+        resolve(&self.held, &mut self.statements, number)?;
         let resolution = resolution_of(&self.statements, number);
         let Template::Select(query) = &resolution.template else {
             return Ok(());
         };
-        push_columns(cells, self.session.catalog(), query)?;
+        push_columns(cells, self.held.catalog(), query)?;
         Ok(())
     }
 
@@ -444,20 +463,22 @@ impl Database {
     ) -> Result<Executed, QueryFault>
         ensures done { IfOk result (λ given. (effect : Effect) × IsEffectOfLine self.old.session (without_return line.now) effect × HasGiven self.new.session effect given (values_of cells.new)) }
         ensures refused { IfErr result (IsUnanswered self.old.session (without_return line.now)) }
+        ensures shared { IsErrOf result query_fault.Shared → IsTrue self.old.shared }
         ensures too_long { IsErrOf result QueryFault.TooLong → AreFull (values_of cells.new) }
         ensures unchanged { OnErr result (IsUnchanged self.old self.new) }
 
         // The stream goes on as before, and the statements stay.
         ensures stream { StaysInStream self.old.session self.new.session }
         ensures statements { SameStatements self.old self.new }
+        ensures keeps { self.new.shared ≡ self.old.shared }
     {
         cells.clear();
-        let command = command_of_line(alloc, &self.session, line)?;
+        let command = command_of_line(alloc, &self.held, line)?;
         if let Resolved::Select(query) = &command {
-            let columns = self.session.select(query, cells)?;
+            let columns = self.held.select(query, cells)?;
             return Ok(Executed::Rows { columns });
         }
-        let count = self.session.change(&command)?;
+        let count = self.held.change(&command)?;
         Ok(Executed::Changed(count))
     }
 }

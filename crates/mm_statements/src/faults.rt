@@ -252,15 +252,6 @@ impl From<NoMemory> for BeginFault {
     }
 }
 
-/// Why no transaction ends. Nothing has changed.
-#[derive(Clone, Copy, Debug, PartialEq, Eq)]
-pub enum EndFault {
-    /// None is open.
-    NoTransaction,
-    /// Another database shares the tables.
-    Shared,
-}
-
 /// Why no tables are shared or left. Nothing has changed.
 #[derive(Clone, Copy, Debug, PartialEq, Eq)]
 pub enum ShareFault {

@@ -16,6 +16,7 @@
 //!   forgotten, and worked out anew from the line when the statement is executed next.
 //! - What is declined changes nothing.
 //! - Several databases may share a session. Each reads its tables by statements of its own, and none changes them while another is there.
+//!   A database that shares none has it for itself, and is never declined because of others.
 //! - In a transaction rows are inserted, loaded, deleted and read. All else is declined there, for now, and no tables are shared
 //!   or left.
 #![tactic(auto)]
@@ -31,7 +32,7 @@ mod shared;
 
 pub use database::{Database, Executed, Numbered, PreparedLine};
 pub use faults::{
-    BeginFault, EndFault, ExecuteFault, PrepareFault, QueryFault, RequestFault, ShareFault,
-    StreamFault,
+    BeginFault, ExecuteFault, PrepareFault, QueryFault, RequestFault, ShareFault, StreamFault,
 };
 pub use mm_prepared::{Bound, Cell, Declined, Prepared, Statements, finish};
+pub use mm_transactions::NoTransaction;

@@ -28,13 +28,13 @@ fn is_statement(command: &Command) -> bool
 /// end is no part of it.
 pub fn command_of_line(
     alloc: Global,
-    session: &SharedSession,
+    held: &SharedSession,
     line: &[u8],
 ) -> Result<Resolved, Refusal>
-    ensures spelled { IfOk result (λ r. IsMeaningOfLine session.now.database (without_return line.now) (Ok r)) }
-    ensures meant { IfOk result (λ r. IsMeant session.now.limits session.now.database r) }
+    ensures spelled { IfOk result (λ r. IsMeaningOfLine held.now.session.database (without_return line.now) (Ok r)) }
+    ensures meant { IfOk result (λ r. IsMeant held.now.session.limits held.now.session.database r) }
     ensures rows { IfOk result IsOfRows }
-    ensures refused { IfErr result (IsUnqueried session.now (without_return line.now)) }
+    ensures refused { IfErr result (IsUnqueried held.now.session (without_return line.now)) }
 {
     let line = readable(line)?;
     let command = match parse(alloc, &line) {
@@ -45,5 +45,5 @@ pub fn command_of_line(
     if !is_statement(&command) {
         return Err(Refusal::NotACommand);
     }
-    session.catalog().resolve(command, &[])
+    held.catalog().resolve(command, &[])
 }

@@ -20,22 +20,22 @@ use plain_tables::{Refusal, Resolved};
 
 // Works out what the statement of a number means of the tables.
 fn resolve_anew(
-    session: &SharedSession,
+    held: &SharedSession,
     statements: &mut Statements,
     number: usize,
 ) -> Result<(), ExecuteFault>
-    requires { AreRight session.now.database statements.old }
-    ensures right { AreRight session.now.database statements.new }
+    requires { AreRight held.now.session.database statements.old }
+    ensures right { AreRight held.now.session.database statements.new }
     ensures same { SameSeen statements.old statements.new }
     ensures known { OnOk result (IsKnown statements.new number) }
     ensures missing { named statements.old number ≡ None → result ≡ Err fault.NoSuchStatement }
-    ensures refused { IfErr result (IsUnresolved session.now.database statements.old number) }
+    ensures refused { IfErr result (IsUnresolved held.now.session.database statements.old number) }
 {
     let Some(prepared) = statements.get(number) else {
         return Err(ExecuteFault::NoSuchStatement);
     };
     let line = Line::new(prepared.line.as_str());
-    let resolution = meaning(prepared.bound.allocator(), session.catalog(), &line)?;
+    let resolution = meaning(prepared.bound.allocator(), held.catalog(), &line)?;
     // The number names a statement, so this is never declined.
     let _ = statements.set_resolution(number, resolution);
     Ok(())
@@ -44,23 +44,23 @@ fn resolve_anew(
 /// Works out what the statement of a number means of the tables, where that isn't known.
 #[inline]
 pub fn resolve(
-    session: &SharedSession,
+    held: &SharedSession,
     statements: &mut Statements,
     number: usize,
 ) -> Result<(), ExecuteFault>
-    requires { AreRight session.now.database statements.old }
-    ensures right { AreRight session.now.database statements.new }
+    requires { AreRight held.now.session.database statements.old }
+    ensures right { AreRight held.now.session.database statements.new }
     ensures same { SameSeen statements.old statements.new }
     ensures known { OnOk result (IsKnown statements.new number) }
     ensures missing { named statements.old number ≡ None → result ≡ Err fault.NoSuchStatement }
-    ensures refused { IfErr result (IsUnresolved session.now.database statements.old number) }
+    ensures refused { IfErr result (IsUnresolved held.now.session.database statements.old number) }
 {
     if let Some(prepared) = statements.get(number) {
         if prepared.resolution.is_some() {
             return Ok(());
         }
     }
-    resolve_anew(session, statements, number)
+    resolve_anew(held, statements, number)
 }
 
 /// What the statement of a number means of the tables, whatever values are bound.

@@ -14,143 +14,217 @@ ghost use Rattle.mm_session.specs.Changing.{HasChanged, IsChange, ShowsValues};
 ghost use Rattle.mm_prepared.specs.Declaring.{begins_waiting, behind_blanks};
 ghost use Rattle.mm_session.specs.OneRequest.{AnswersOne, GoesBetween, IsAtSamePlace, StaysInStream};
 ghost use Rattle.mm_transactions.specs.Log.{AreSettled};
-ghost use Rattle.mm_session.specs.Sessions.{BreaksOff, Feeds, Finishes, Gains, tables_of};
+ghost use Rattle.mm_session.specs.Sessions.{BreaksOff, Feeds, Finishes, Gains, new_session, tables_of};
 ghost use Rattle.mm_statements.specs.Faults.{IsRewriting, IsUndone};
+ghost use Rattle.mm_statements.specs.declared.faults.BeginFault.TheVariants as begin_fault;
 ghost use Rattle.mm_statements.specs.declared.faults.ChangeFault.TheVariants as change_fault;
-ghost use Rattle.mm_statements.specs.declared.faults.EndFault.TheVariants as end_fault;
 ghost use Rattle.mm_statements.specs.declared.faults.RequestFault.TheVariants as request_fault;
 ghost use Rattle.mm_statements.specs.declared.faults.StreamFault.TheVariants as stream_fault;
 
-use crate::faults::{BeginFault, ChangeFault, EndFault, RequestFault, StreamFault};
+use crate::faults::{BeginFault, ChangeFault, RequestFault, StreamFault};
 use mm_catalog::Catalog;
+use mm_catalog::laws::a_catalog_is_consistent;
 use mm_cells::{CellFault, Cells};
 use mm_prepared::waits_in_transaction;
 use mm_session::{Answer, Session};
+use mm_transactions::NoTransaction;
 use no_memory::NoMemory;
 use plain_tables::{Query, Resolved, TableNumber, Value};
+use plan_chooser::Policy;
 use std::alloc::Global;
 use std::io::Write;
 use std::marker::Model;
+use std::mem;
 use std::sync::Arc;
 
-/// A session behind a counted owner. Each database that holds it reads it, and the last that is left changes it. It is seen as the session.
+/// A session of a database's own, or one behind a counted owner that databases share. The last that is left of these changes it. It is
+/// seen as the session, and whether that is shared.
 #[derive(Drop)]
 pub struct SharedSession {
-    session: Arc<Session, Global>,
+    // The session that isn't shared. Beside a shared one it has no tables, and is there once that is left.
+    own: Session,
+    shared: Option<Arc<Session, Global>>,
 }
 
 impl Model for SharedSession {
+    ghost use Rattle.std.specs.Prelude.{IfSome, is_some};
     ghost use Rattle.std.specs.Arc.{arc_value};
-    ghost use Rattle.mm_session.specs.Sessions.{State};
+    ghost use Rattle.std.specs.Option.{option_map_or};
     ghost use Rattle.mm_session.specs.contracts.session.Session.{the_row as session_row};
+    ghost use Rattle.mm_statements.specs.Held.{Held, IsBeside, held_code};
 
-    ghost Value = { State };
+    ghost Value = { Held };
 
-    ghost coded = { session_row.coded };
+    ghost coded = { held_code session_row.coded };
 
-    ghost view = { λ s. arc_value s.session };
+    ghost view = { λ s. record { session = option_map_or arc_value s.shared s.own; shared = is_some s.shared } };
+
+    ghost invariant = { λ s. IfSome s.shared (λ shared. IsBeside s.own (arc_value shared)) };
 }
 
 impl SharedSession {
+    ghost use Rattle.std.specs.Arc.{arc_value};
+
     /// Holds a session that nobody else does.
-    pub fn new(alloc: Global, session: Session) -> Result<SharedSession, NoMemory>
-        ensures { IfOk result (λ s. s ≡ session) }
+    pub fn new(session: Session) -> SharedSession
+        ensures { result ≡ record { session = session; shared = false } }
     {
-        let session = Arc::new(alloc, session)?;
-        Ok(SharedSession { session })
+        SharedSession {
+            own: session,
+            shared: None,
+        }
     }
 
-    /// Holds the session once more.
-    pub fn another(&self) -> Result<SharedSession, NoMemory>
-        ensures { IfOk result (λ s. s ≡ self.now) }
+    // A session without tables, under the same limits.
+    fn emptied(&self, alloc: Global, policy: Policy) -> Result<Session, NoMemory>
+        ensures { IfOk result (λ s. s ≡ new_session self.now.session.limits [] s.catalog) }
     {
-        let session = Arc::try_clone(&self.session)?;
-        Ok(SharedSession { session })
+        let catalog = self.catalog();
+        a_catalog_is_consistent(catalog);
+        Session::with_limits(alloc, policy, catalog.limits())
+    }
+
+    // Another owner of the session, which is shared then. Even where there is no memory for that owner it may be.
+    fn owner(&mut self, alloc: Global, policy: Policy) -> Result<Arc<Session, Global>, NoMemory>
+        requires { self.old.session.saved ≡ [] }
+        ensures owner { IfOk result (λ a. arc_value a ≡ self.old.session) }
+        ensures shared { OnOk result (self.new.shared ≡ true) }
+        ensures session { self.new.session ≡ self.old.session }
+        ensures stays { IsTrue self.old.shared → self.new.shared ≡ true }
+    {
+        if let Some(shared) = &self.shared {
+            return Ok(Arc::try_clone(shared)?);
+        }
+        let empty = self.emptied(alloc, policy)?;
+        match Arc::new(alloc, mem::replace(&mut self.own, empty)) {
+            Ok(session) => Ok(Arc::try_clone(self.shared.insert(session))?),
+            Err(mut failed) => {
+                mem::swap(&mut self.own, &mut failed.value);
+                Err(NoMemory::from(failed))
+            }
+        }
+    }
+
+    /// Holds the session once more: it is shared then. Even where there is no memory for that it may be.
+    pub fn another(&mut self, alloc: Global, policy: Policy) -> Result<SharedSession, NoMemory>
+        requires { self.old.session.saved ≡ [] }
+        ensures another { IfOk result (λ s. s ≡ record { session = self.old.session; shared = true }) }
+        ensures shared { OnOk result (self.new.shared ≡ true) }
+        ensures session { self.new.session ≡ self.old.session }
+        ensures stays { IsTrue self.old.shared → self.new.shared ≡ true }
+    {
+        let own = self.emptied(alloc, policy)?;
+        let session = self.owner(alloc, policy)?;
+        Ok(SharedSession {
+            own,
+            shared: Some(session),
+        })
+    }
+
+    /// Leaves the session for one without tables. Only where it isn't shared that takes memory.
+    pub fn leave(&mut self, alloc: Global, policy: Policy) -> Result<(), NoMemory>
+        ensures left { OnOk result (self.new.session ≡ new_session self.old.session.limits [] self.new.session.catalog) }
+        ensures alone { self.new.shared ≡ false }
+        ensures own { OnErr result (self.old.shared ≡ false) }
+        ensures unchanged { OnErr result (self.new ≡ self.old) }
+    {
+        if self.shared.is_none() {
+            self.own = self.emptied(alloc, policy)?;
+        }
+        self.shared = None;
+        Ok(())
     }
 
     /// The session, lent.
     pub fn session(&self) -> &Session
-        ensures { result.now ≡ self.now }
+        ensures { result.now ≡ self.now.session }
     {
-        &self.session
+        match &self.shared {
+            Some(session) => session,
+            None => &self.own,
+        }
     }
 
     /// The tables, lent.
     pub fn catalog(&self) -> &Catalog
-        ensures own { result.now ≡ self.now.catalog }
-        ensures tables { database_of result.now ≡ self.now.database }
-        ensures limits { result.now.limits ≡ self.now.limits }
+        ensures own { result.now ≡ self.now.session.catalog }
+        ensures tables { database_of result.now ≡ self.now.session.database }
+        ensures limits { result.now.limits ≡ self.now.session.limits }
     {
         self.session().catalog()
     }
 
     /// How many transactions are open.
     pub fn transactions(&self) -> usize
-        ensures { result ≡ length self.now.saved }
+        ensures { result ≡ length self.now.session.saved }
     {
         self.session().transactions()
     }
 
     /// Whether a transaction is open.
     pub fn is_in_transaction(&self) -> bool
-        ensures open { result ≡ true → self.now.saved ≢ [] }
-        ensures none { result ≡ false → self.now.saved ≡ [] }
+        ensures open { result ≡ true → self.now.session.saved ≢ [] }
+        ensures none { result ≡ false → self.now.session.saved ≡ [] }
     {
         self.transactions() > 0
     }
 
-    /// Begins a transaction, as the session does, where nobody else holds it.
+    /// Begins a transaction, as the session does, where nobody else holds it. It isn't shared then.
     pub fn begin(&mut self) -> Result<(), BeginFault>
-        ensures begun { OnOk result (tables_of self.new ≡ begun (tables_of self.old)) }
-        ensures catalog { self.new.catalog ≡ self.old.catalog }
+        ensures begun { OnOk result (tables_of self.new.session ≡ begun (tables_of self.old.session)) }
+        ensures catalog { self.new.session.catalog ≡ self.old.session.catalog }
+        ensures alone { OnOk result (self.new.shared ≡ false) }
+        ensures shared { IsErrOf result begin_fault.Shared → IsTrue self.old.shared }
         ensures unchanged { OnErr result (self.new ≡ self.old) }
-        ensures stream { IsAtSamePlace self.old self.new }
+        ensures stream { IsAtSamePlace self.old.session self.new.session }
     {
-        match Arc::get_mut(&mut self.session) {
-            Some(session) => Ok(session.begin()?),
-            None => Err(BeginFault::Shared),
-        }
+        let Some(shared) = &mut self.shared else {
+            return Ok(self.own.begin()?);
+        };
+        let Some(session) = Arc::get_mut(shared) else {
+            return Err(BeginFault::Shared);
+        };
+        session.begin()?;
+        mem::swap(&mut self.own, session);
+        self.shared = None;
+        Ok(())
     }
 
-    /// Ends the innermost transaction, and keeps what was done in it, as the session does, where nobody else holds it.
-    pub fn commit(&mut self) -> Result<(), EndFault>
-        ensures open { OnOk result (self.old.saved ≢ []) }
-        ensures committed { OnOk result (tables_of self.new ≡ committed (tables_of self.old)) }
-        ensures catalog { AreSettled self.old.catalog self.new.catalog }
-        ensures none { IsErrOf result end_fault.NoTransaction → self.old.saved ≡ [] }
+    /// Ends the innermost transaction, and keeps what was done in it, as the session does. None is open while it is shared.
+    pub fn commit(&mut self) -> Result<(), NoTransaction>
+        ensures open { OnOk result (self.old.session.saved ≢ []) }
+        ensures alone { OnOk result (self.new.shared ≡ false) }
+        ensures committed { OnOk result (tables_of self.new.session ≡ committed (tables_of self.old.session)) }
+        ensures catalog { AreSettled self.old.session.catalog self.new.session.catalog }
+        ensures none { OnErr result (self.old.session.saved ≡ []) }
         ensures unchanged { OnErr result (self.new ≡ self.old) }
-        ensures stream { IsAtSamePlace self.old self.new }
+        ensures stream { IsAtSamePlace self.old.session self.new.session }
     {
-        let Some(session) = Arc::get_mut(&mut self.session) else {
-            return Err(EndFault::Shared);
-        };
-        match session.commit() {
-            Ok(()) => Ok(()),
-            Err(_) => Err(EndFault::NoTransaction),
+        if self.shared.is_some() {
+            return Err(NoTransaction);
         }
+        self.own.commit()
     }
 
-    /// Ends the innermost transaction, and undoes what was done in it, as the session does, where nobody else holds it.
-    pub fn rollback(&mut self) -> Result<(), EndFault>
-        ensures open { OnOk result (self.old.saved ≢ []) }
-        ensures rolled_back { OnOk result (tables_of self.new ≡ rolled_back (tables_of self.old)) }
-        ensures none { IsErrOf result end_fault.NoTransaction → self.old.saved ≡ [] }
+    /// Ends the innermost transaction, and undoes what was done in it, as the session does. None is open while it is shared.
+    pub fn rollback(&mut self) -> Result<(), NoTransaction>
+        ensures open { OnOk result (self.old.session.saved ≢ []) }
+        ensures alone { OnOk result (self.new.shared ≡ false) }
+        ensures rolled_back { OnOk result (tables_of self.new.session ≡ rolled_back (tables_of self.old.session)) }
+        ensures none { OnErr result (self.old.session.saved ≡ []) }
         ensures unchanged { OnErr result (self.new ≡ self.old) }
-        ensures stream { IsAtSamePlace self.old self.new }
+        ensures stream { IsAtSamePlace self.old.session self.new.session }
     {
-        let Some(session) = Arc::get_mut(&mut self.session) else {
-            return Err(EndFault::Shared);
-        };
-        match session.rollback() {
-            Ok(()) => Ok(()),
-            Err(_) => Err(EndFault::NoTransaction),
+        if self.shared.is_some() {
+            return Err(NoTransaction);
         }
+        self.own.rollback()
     }
 
     /// Makes the cells the values that a select shows, as the session does.
     pub fn select(&self, query: &Query, cells: &mut Cells) -> Result<usize, CellFault>
-        requires { IsMeant self.now.limits self.now.database (resolved.Select query.now) }
-        ensures shown { IfOk result (λ columns. ShowsValues (done self.now.limits self.now.database (resolved.Select query.now)).outcome columns (values_of cells.new)) }
+        requires { IsMeant self.now.session.limits self.now.session.database (resolved.Select query.now) }
+        ensures shown { IfOk result (λ columns. ShowsValues (done self.now.session.limits self.now.session.database (resolved.Select query.now)).outcome columns (values_of cells.new)) }
         ensures some { IfOk result (λ columns. 0 < columns) }
         ensures too_long { IsErrOf result CellFault.TooLong → AreFull (values_of cells.new) }
     {
@@ -159,18 +233,23 @@ impl SharedSession {
 
     /// Does an insert, an update or a delete, as the session does, where nobody else holds it. In a transaction an update is declined.
     pub fn change(&mut self, command: &Resolved) -> Result<usize, ChangeFault>
-        requires meant { IsMeant self.old.limits self.old.database command.now }
+        requires meant { IsMeant self.old.session.limits self.old.session.database command.now }
         requires change { IsChange command.now }
-        ensures done { IfOk result (HasChanged self.new (done self.old.limits self.old.database command.now)) }
-        ensures refused { IfErr result (IsUndone self.old self.new (done self.old.limits self.old.database command.now)) }
+        ensures done { IfOk result (HasChanged self.new.session (done self.old.session.limits self.old.session.database command.now)) }
+        ensures refused { IfErr result (IsUndone self.old.session self.new.session (done self.old.session.limits self.old.session.database command.now)) }
         ensures unchanged { OnErr result (self.new ≡ self.old) }
-        ensures waits { self.old.saved ≢ [] → IsRewriting command.now → result ≡ Err change_fault.InTransaction }
-        ensures stream { StaysInStream self.old self.new }
+        ensures waits { self.old.session.saved ≢ [] → IsRewriting command.now → result ≡ Err change_fault.InTransaction }
+        ensures shared { IsErrOf result change_fault.Shared → IsTrue self.old.shared }
+        ensures keeps { self.new.shared ≡ self.old.shared }
+        ensures stream { StaysInStream self.old.session self.new.session }
     {
         if matches!(command, Resolved::Update { .. }) && self.is_in_transaction() {
             return Err(ChangeFault::InTransaction);
         }
-        match Arc::get_mut(&mut self.session) {
+        let Some(shared) = &mut self.shared else {
+            return Ok(self.own.change(command)?);
+        };
+        match Arc::get_mut(shared) {
             Some(session) => Ok(session.change(command)?),
             None => Err(ChangeFault::Shared),
         }
@@ -178,13 +257,18 @@ impl SharedSession {
 
     /// Puts a row into a table, as the session does, where nobody else holds it.
     pub fn insert(&mut self, table: TableNumber, values: &[Value]) -> Result<(), ChangeFault>
-        requires { IsMeant self.old.limits self.old.database (resolved.Insert table values.now) }
-        ensures done { OnOk result (HasChanged self.new (done self.old.limits self.old.database (resolved.Insert table values.now)) 1) }
-        ensures refused { IfErr result (IsUndone self.old self.new (done self.old.limits self.old.database (resolved.Insert table values.now))) }
+        requires { IsMeant self.old.session.limits self.old.session.database (resolved.Insert table values.now) }
+        ensures done { OnOk result (HasChanged self.new.session (done self.old.session.limits self.old.session.database (resolved.Insert table values.now)) 1) }
+        ensures refused { IfErr result (IsUndone self.old.session self.new.session (done self.old.session.limits self.old.session.database (resolved.Insert table values.now))) }
         ensures unchanged { OnErr result (self.new ≡ self.old) }
-        ensures stream { StaysInStream self.old self.new }
+        ensures shared { IsErrOf result change_fault.Shared → IsTrue self.old.shared }
+        ensures keeps { self.new.shared ≡ self.old.shared }
+        ensures stream { StaysInStream self.old.session self.new.session }
     {
-        match Arc::get_mut(&mut self.session) {
+        let Some(shared) = &mut self.shared else {
+            return Ok(self.own.insert(table, values)?);
+        };
+        match Arc::get_mut(shared) {
             Some(session) => Ok(session.insert(table, values)?),
             None => Err(ChangeFault::Shared),
         }
@@ -198,37 +282,42 @@ impl SharedSession {
         block: &[u8],
         answer: &mut Answer,
     ) -> Result<(), RequestFault>
-        ensures ok { OnOk result (AnswersOne self.old.limits self.old.database (record { line = line.now; block = block.now }) answer.new self.new.database) }
+        ensures ok { OnOk result (AnswersOne self.old.session.limits self.old.session.database (record { line = line.now; block = block.now }) answer.new self.new.session.database) }
         ensures err { IsErrOf result request_fault.NotOneRequest → ¬ (IsWhole (record { line = line.now; block = block.now })) }
         ensures unchanged { OnErr result ((self.new ≡ self.old) × (answer.new ≡ answer.old)) }
-        ensures stream { StaysInStream self.old self.new }
-        ensures run { OnOk result (GoesBetween self.old self.new (record { line = line.now; block = block.now }) answer.new) }
-        ensures open { IsErrOf result request_fault.InTransaction → (self.old.saved ≢ []) × (begins_waiting (behind_blanks line.now) ≡ true) }
-        ensures waits { self.old.saved ≢ [] → begins_waiting (behind_blanks line.now) ≡ true → result ≡ Err request_fault.InTransaction }
+        ensures stream { StaysInStream self.old.session self.new.session }
+        ensures run { OnOk result (GoesBetween self.old.session self.new.session (record { line = line.now; block = block.now }) answer.new) }
+        ensures open { IsErrOf result request_fault.InTransaction → (self.old.session.saved ≢ []) × (begins_waiting (behind_blanks line.now) ≡ true) }
+        ensures waits { self.old.session.saved ≢ [] → begins_waiting (behind_blanks line.now) ≡ true → result ≡ Err request_fault.InTransaction }
+        ensures shared { IsErrOf result request_fault.Shared → IsTrue self.old.shared }
+        ensures keeps { self.new.shared ≡ self.old.shared }
     {
         if self.is_in_transaction() && waits_in_transaction(line) {
             return Err(RequestFault::InTransaction);
         }
-        let Some(session) = Arc::get_mut(&mut self.session) else {
-            return Err(RequestFault::Shared);
+        let Some(shared) = &mut self.shared else {
+            return Ok(self.own.answer_request(line, block, answer)?);
         };
-        session.answer_request(line, block, answer)?;
-        Ok(())
+        match Arc::get_mut(shared) {
+            Some(session) => Ok(session.answer_request(line, block, answer)?),
+            None => Err(RequestFault::Shared),
+        }
     }
 
     /// Takes the next bytes of the stream, as the session does, where nobody else holds it.
     pub fn feed<W: Write>(&mut self, piece: &[u8], w: &mut W) -> Result<(), StreamFault>
-        ensures ended { IsErrOf result stream_fault.Ended ↔ IsTrue self.old.ended }
+        ensures ended { IsErrOf result stream_fault.Ended ↔ IsTrue self.old.session.ended }
         ensures unchanged { IsErrOf result stream_fault.Ended → (self.new ≡ self.old) × Keeps (W.contents w.old) (W.contents w.new) }
-        ensures ok { OnOk result (Gains (W.contents w.old) (W.contents w.new) (Feeds self.old self.new piece.now)) }
-        ensures write { IsErrOf result stream_fault.Write → Gains (W.contents w.old) (W.contents w.new) (BreaksOff self.old self.new piece.now false) }
-        ensures over { IsErrOf result stream_fault.Write → IsTrue self.new.ended }
-        ensures limits { self.new.limits ≡ self.old.limits }
-        ensures shared { IsErrOf result stream_fault.Shared → (self.new ≡ self.old) × Keeps (W.contents w.old) (W.contents w.new) }
-        ensures in_transaction { IsErrOf result stream_fault.InTransaction → (self.new ≡ self.old) × Keeps (W.contents w.old) (W.contents w.new) }
-        ensures open { IsErrOf result stream_fault.InTransaction → self.old.saved ≢ [] }
-        ensures waits { self.old.ended ≡ false → self.old.saved ≢ [] → result ≡ Err stream_fault.InTransaction }
-        ensures saved { self.new.saved ≡ self.old.saved }
+        ensures ok { OnOk result (Gains (W.contents w.old) (W.contents w.new) (Feeds self.old.session self.new.session piece.now)) }
+        ensures write { IsErrOf result stream_fault.Write → Gains (W.contents w.old) (W.contents w.new) (BreaksOff self.old.session self.new.session piece.now false) }
+        ensures over { IsErrOf result stream_fault.Write → IsTrue self.new.session.ended }
+        ensures limits { self.new.session.limits ≡ self.old.session.limits }
+        ensures shared { IsErrOf result stream_fault.Shared → IsTrue self.old.shared × (self.new.session ≡ self.old.session) × Keeps (W.contents w.old) (W.contents w.new) }
+        ensures keeps { self.new.shared ≡ self.old.shared }
+        ensures in_transaction { IsErrOf result stream_fault.InTransaction → (self.new.session ≡ self.old.session) × Keeps (W.contents w.old) (W.contents w.new) }
+        ensures open { IsErrOf result stream_fault.InTransaction → self.old.session.saved ≢ [] }
+        ensures waits { self.old.session.ended ≡ false → self.old.session.saved ≢ [] → result ≡ Err stream_fault.InTransaction }
+        ensures saved { self.new.session.saved ≡ self.old.session.saved }
     {
         if self.session().has_ended() {
             return Err(StreamFault::Ended);
@@ -236,26 +325,29 @@ impl SharedSession {
         if self.is_in_transaction() {
             return Err(StreamFault::InTransaction);
         }
-        let Some(session) = Arc::get_mut(&mut self.session) else {
-            return Err(StreamFault::Shared);
+        let Some(shared) = &mut self.shared else {
+            return Ok(self.own.feed(piece, w)?);
         };
-        session.feed(piece, w)?;
-        Ok(())
+        match Arc::get_mut(shared) {
+            Some(session) => Ok(session.feed(piece, w)?),
+            None => Err(StreamFault::Shared),
+        }
     }
 
     /// Ends the stream, as the session does, where nobody else holds it.
     pub fn end<W: Write>(&mut self, w: &mut W) -> Result<(), StreamFault>
-        ensures ended { IsErrOf result stream_fault.Ended ↔ IsTrue self.old.ended }
+        ensures ended { IsErrOf result stream_fault.Ended ↔ IsTrue self.old.session.ended }
         ensures unchanged { IsErrOf result stream_fault.Ended → (self.new ≡ self.old) × Keeps (W.contents w.old) (W.contents w.new) }
-        ensures ok { OnOk result (Gains (W.contents w.old) (W.contents w.new) (Finishes self.old self.new)) }
-        ensures write { IsErrOf result stream_fault.Write → Gains (W.contents w.old) (W.contents w.new) (BreaksOff self.old self.new [] true) }
-        ensures over { result ≢ Err stream_fault.Shared → result ≢ Err stream_fault.InTransaction → IsTrue self.new.ended }
-        ensures limits { self.new.limits ≡ self.old.limits }
-        ensures shared { IsErrOf result stream_fault.Shared → (self.new ≡ self.old) × Keeps (W.contents w.old) (W.contents w.new) }
-        ensures in_transaction { IsErrOf result stream_fault.InTransaction → (self.new ≡ self.old) × Keeps (W.contents w.old) (W.contents w.new) }
-        ensures open { IsErrOf result stream_fault.InTransaction → self.old.saved ≢ [] }
-        ensures waits { self.old.ended ≡ false → self.old.saved ≢ [] → result ≡ Err stream_fault.InTransaction }
-        ensures saved { self.new.saved ≡ self.old.saved }
+        ensures ok { OnOk result (Gains (W.contents w.old) (W.contents w.new) (Finishes self.old.session self.new.session)) }
+        ensures write { IsErrOf result stream_fault.Write → Gains (W.contents w.old) (W.contents w.new) (BreaksOff self.old.session self.new.session [] true) }
+        ensures over { result ≢ Err stream_fault.Shared → result ≢ Err stream_fault.InTransaction → IsTrue self.new.session.ended }
+        ensures limits { self.new.session.limits ≡ self.old.session.limits }
+        ensures shared { IsErrOf result stream_fault.Shared → IsTrue self.old.shared × (self.new.session ≡ self.old.session) × Keeps (W.contents w.old) (W.contents w.new) }
+        ensures keeps { self.new.shared ≡ self.old.shared }
+        ensures in_transaction { IsErrOf result stream_fault.InTransaction → (self.new.session ≡ self.old.session) × Keeps (W.contents w.old) (W.contents w.new) }
+        ensures open { IsErrOf result stream_fault.InTransaction → self.old.session.saved ≢ [] }
+        ensures waits { self.old.session.ended ≡ false → self.old.session.saved ≢ [] → result ≡ Err stream_fault.InTransaction }
+        ensures saved { self.new.session.saved ≡ self.old.session.saved }
     {
         if self.session().has_ended() {
             return Err(StreamFault::Ended);
@@ -263,10 +355,12 @@ impl SharedSession {
         if self.is_in_transaction() {
             return Err(StreamFault::InTransaction);
         }
-        let Some(session) = Arc::get_mut(&mut self.session) else {
-            return Err(StreamFault::Shared);
+        let Some(shared) = &mut self.shared else {
+            return Ok(self.own.end(w)?);
         };
-        session.end(w)?;
-        Ok(())
+        match Arc::get_mut(shared) {
+            Some(session) => Ok(session.end(w)?),
+            None => Err(StreamFault::Shared),
+        }
     }
 }

@@ -14,10 +14,11 @@ pub record AreLimits (rows block : ℕ) : Type 0 where
   pub rows_fit : rows ≤ 16777216
   pub block_fits : block ≤ 16777216
 
--- a database with no tables and no statements, under these limits, to which no call has answered
+-- a database with no tables and no statements, under these limits, that shares nothing and to which no call has answered
 pub record IsNew (limits : Limits) (d : Database) : Type 0 where
   pub session : d.inner.session ≡ new_session limits [] d.inner.session.catalog
   pub none : (number : ℕ) → statement_at d.inner number ≡ None
+  pub alone : d.inner.shared ≡ false
   pub answer : d.answer ≡ []
   pub reason : d.reason ≡ []
 
@@ -42,6 +43,7 @@ pub record AnswersRequest (asked : Request) (old new : Database) : Type 0 where
   pub answers : AnswersOne old.inner.session.limits old.inner.session.database asked new.answer new.inner.session.database
   pub stays : StaysInStream old.inner.session new.inner.session
   pub between : GoesBetween old.inner.session new.inner.session asked new.answer
+  pub shared : new.inner.shared ≡ old.inner.shared
   pub statements : SameStatements old.inner new.inner
   pub rows : KeepsRows old new
 
@@ -54,6 +56,7 @@ pub record TellsIndexes (name : List ℕ) (old new : Database) : Type 0 where
 -- The session took the piece, and the answers that it gained are kept.
 pub record TakesPiece (piece : List ℕ) (old new : Database) : Type 0 where
   pub feeds : Feeds old.inner.session new.inner.session piece new.answer
+  pub shared : new.inner.shared ≡ old.inner.shared
   pub statements : SameStatements old.inner new.inner
   pub rows : KeepsRows old new
 
@@ -64,6 +67,7 @@ pub record LosesStream (piece : List ℕ) (old new : Database) : Type 0 where
   pub over : IsTrue new.inner.session.ended
   pub limits : new.inner.session.limits ≡ old.inner.session.limits
   pub saved : new.inner.session.saved ≡ old.inner.session.saved
+  pub shared : new.inner.shared ≡ old.inner.shared
   pub statements : SameStatements old.inner new.inner
   pub rows : KeepsRows old new
 

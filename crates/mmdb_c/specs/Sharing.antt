@@ -1,32 +1,44 @@
 -- Sharing: what a database has once it shares the tables of another, once it has left them, and why it changes none meanwhile.
-use Rattle.std.specs.Prelude.{◌≡◌, ℕ, List, [], Option, Some, None}
+use Rattle.std.specs.Prelude.{◌≡◌, ℕ, Bool, List, [], Option, Some, None, IsTrue, false, true}
 use Rattle.plain_streams.specs.Requests.{without_return}
 use Rattle.mm_session.specs.Sessions.{State, new_session}
 use Rattle.mm_statements.specs.Databases.{IsUnchanged, SameStatements, statement_at}
+use Rattle.mm_statements.specs.Databases as databases
 use Rattle.mm_statements.specs.Executing.{IsChangeOf}
 use Rattle.mm_statements.specs.Querying.{IsChangeOfLine}
 use Rattle.mmdb_c.specs.Calls.{KeepsRows}
 use Rattle.mmdb_c.specs.declared.database.Database.{Database}
 
--- Its session is this one. Its statements, the values that are bound to them, the answer, the reason and all rows are as they were.
-pub record ChangesSession (it : State) (old new : Database) : Type 0 where
+-- Other databases may have its session too.
+abbrev pub IsShared : Database → Type 0
+IsShared d = IsTrue d.inner.shared
+
+-- Nothing has changed, but that its session may be shared now.
+pub record SharesMore (old new : Database) : Type 0 where
+  pub inner : databases.SharesMore old.inner new.inner
+  pub others : new ≡ record old { inner = new.inner }
+
+-- Its session is this one, which it shares or not. Its statements, the values that are bound to them, the answer, the reason and all rows are as they were.
+pub record ChangesSession (it : State) (is_shared : Bool) (old new : Database) : Type 0 where
   pub session : new.inner.session ≡ it
+  pub shared : new.inner.shared ≡ is_shared
   pub statements : SameStatements old.inner new.inner
   pub answer : new.answer ≡ old.answer
   pub reason : new.reason ≡ old.reason
   pub rows : KeepsRows old new
 
--- It has the session of the other, and with it the tables.
+-- It shares the session of the other, and with it the tables.
 abbrev pub Shares : Database → Database → Database → Type 0
-Shares other old new = ChangesSession other.inner.session old new
+Shares other old new = ChangesSession other.inner.session true old new
 
 -- It has a session of its own, without tables.
 abbrev pub Leaves : Database → Database → Type 0
-Leaves old new = ChangesSession (new_session old.inner.session.limits [] new.inner.session.catalog) old new
+Leaves old new = ChangesSession (new_session old.inner.session.limits [] new.inner.session.catalog) false old new
 
--- It has the session of the other, and no statements; no call has answered.
+-- It shares the session of the other, and has no statements; no call has answered.
 pub record OpensOn (other d : Database) : Type 0 where
   pub session : d.inner.session ≡ other.inner.session
+  pub shared : d.inner.shared ≡ true
   pub none : (number : ℕ) → statement_at d.inner number ≡ None
   pub answer : d.answer ≡ []
   pub reason : d.reason ≡ []
@@ -43,12 +55,14 @@ pub record LosesAnswer (old new : Database) : Type 0 where
   pub rows : KeepsRows old new
   pub answer : new.answer ≡ []
 
--- The statement is an insert, an update or a delete with the values that are bound, and the answer is empty.
+-- The session is shared, the statement is an insert, an update or a delete with the values that are bound, and the answer is empty.
 pub record IsKeptOff (number : ℕ) (old new : Database) : Type 0 where
+  pub shared : IsShared old
   pub change : IsChangeOf old.inner number
   pub answer : new.answer ≡ []
 
--- The line is an insert, an update or a delete, and the answer is empty.
+-- The session is shared, the line is an insert, an update or a delete, and the answer is empty.
 pub record IsLineKeptOff (line : List ℕ) (old new : Database) : Type 0 where
+  pub shared : IsShared old
   pub change : IsChangeOfLine old.inner.session.database (without_return line)
   pub answer : new.answer ≡ []

@@ -64,6 +64,7 @@ pub record Prepares (line : List ℕ) (old new : Database) (told : Statement) : 
   pub fresh : statement_at old.inner told.number ≡ None
   pub kept : NowNames old.inner new.inner told.number (Some (record { line = without_return line; values = replicate told.places value.Null }))
   pub session : new.inner.session ≡ old.inner.session
+  pub shared : new.inner.shared ≡ old.inner.shared
   pub answer : new.answer ≡ []
   pub rows : KeepsRows old new
 
@@ -94,6 +95,7 @@ pub record Binds (number place : ℕ) (v : Value) (old new : Database) : Type 0 
   pub there : statement_at old.inner number ≡ Some kept
   pub bound : NowNames old.inner new.inner number (Some (record kept { values = slice_set kept.values place v }))
   pub session : new.inner.session ≡ old.inner.session
+  pub shared : new.inner.shared ≡ old.inner.shared
   pub answer : new.answer ≡ old.answer
   pub rows : KeepsRows old new
 
@@ -105,6 +107,7 @@ shown_by d number = option_map_or values_of (slice_get d.shown.items number) []
 pub record Finalizes (number : ℕ) (old new : Database) : Type 0 where
   pub freed : NowNames old.inner new.inner number None
   pub session : new.inner.session ≡ old.inner.session
+  pub shared : new.inner.shared ≡ old.inner.shared
   pub answer : new.answer ≡ old.answer
   pub gone : shown_by new number ≡ []
   pub rows : KeepsOthers number old new
@@ -115,6 +118,7 @@ pub record HasExecuted (number : ℕ) (old new : Database) (given : Executed) : 
   pub is : IsEffectOf old.inner number effect
   pub gave : HasGiven new.inner.session effect given (shown_by new number)
   pub stream : StaysInStream old.inner.session new.inner.session
+  pub shared : new.inner.shared ≡ old.inner.shared
   pub statements : SameStatements old.inner new.inner
 
 -- what C is told of how many values there are: how many rows were changed; or how many rows they are, and of how many columns
@@ -168,6 +172,7 @@ pub record HasQueried (line : List ℕ) (old new : Database) (told : Rows) (give
   pub gave : HasGiven new.inner.session effect given (values_of new.queried)
   pub tells : Tells new.queried given told
   pub stream : StaysInStream old.inner.session new.inner.session
+  pub shared : new.inner.shared ≡ old.inner.shared
   pub statements : SameStatements old.inner new.inner
 
 -- So it is, and the answer is empty.

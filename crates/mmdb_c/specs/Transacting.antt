@@ -1,5 +1,5 @@
 -- Transacting: what a database has once a transaction began or ended, and how changes are declined meanwhile.
-use Rattle.std.specs.Prelude.{◌≡◌, ◌≢◌, ℕ, List, [], true}
+use Rattle.std.specs.Prelude.{◌≡◌, ◌≢◌, ℕ, List, [], false, true}
 use Rattle.plain_streams.specs.Requests.{without_return}
 use Rattle.plain_tables.specs.Transactions.{Transactional}
 use Rattle.mm_prepared.specs.Declaring.{begins_waiting, behind_blanks}
@@ -15,14 +15,19 @@ use Rattle.mmdb_c.specs.declared.database.Database.{Database}
 abbrev pub IsInTransaction : Database → Type 0
 IsInTransaction d = d.inner.session.saved ≢ []
 
+-- none is
+abbrev pub IsOutside : Database → Type 0
+IsOutside d = d.inner.session.saved ≡ []
+
 -- A transaction is open, and the line begins as a declaration or an update.
 abbrev pub PutsOff : List ℕ → Database → Type 0
 PutsOff line d = IsInTransaction d × (begins_waiting (behind_blanks line) ≡ true)
 
--- That became of the tables and of what its transactions began with. The stream is where it was, and the statements, the values that
+-- That became of the tables, which no other database shares, and of what its transactions began with. The stream is where it was, and the statements, the values that
 -- are bound to them, the answer, the reason and all rows are as they were.
 pub record Steps (step : Transactional → Transactional) (old new : Database) : Type 0 where
   pub tables : tables_of new.inner.session ≡ step (tables_of old.inner.session)
+  pub alone : new.inner.shared ≡ false
   pub stream : IsAtSamePlace old.inner.session new.inner.session
   pub statements : SameStatements old.inner new.inner
   pub answer : new.answer ≡ old.answer

@@ -27,7 +27,7 @@ pub struct Database {
 
 impl Database {
     ghost use Rattle.mmdb_c.specs.Calls.{request, IsNew, AnswersRequest, TellsIndexes, TakesPiece, LosesStream, IsAsBefore};
-    ghost use Rattle.mmdb_c.specs.Sharing.{LosesAnswer};
+    ghost use Rattle.mmdb_c.specs.Sharing.{IsShared, LosesAnswer};
     ghost use Rattle.mmdb_c.specs.Transacting.{IsInTransaction, PutsOff};
 
     /// A database with no tables and no statements, an empty answer and an empty reason.
@@ -51,6 +51,7 @@ impl Database {
         ensures err { IsErrOf result request_fault.NotOneRequest → ¬ (IsWhole (request line.now block.now)) }
         ensures open { IsErrOf result request_fault.InTransaction → PutsOff line.now self.old }
         ensures waits { PutsOff line.now self.old → result ≡ Err request_fault.InTransaction }
+        ensures sharing { IsErrOf result request_fault.Shared → IsShared self.old }
         ensures unchanged { OnErr result (self.new ≡ self.old) }
     {
         self.inner.answer_request(line, block, &mut self.answer)
@@ -70,6 +71,7 @@ impl Database {
         ensures ended { IsErrOf result stream_fault.Ended ↔ IsTrue self.old.inner.session.ended }
         ensures unchanged { IsErrOf result stream_fault.Ended → self.new ≡ self.old }
         ensures shared { IsErrOf result stream_fault.Shared → LosesAnswer self.old self.new }
+        ensures sharing { IsErrOf result stream_fault.Shared → IsShared self.old }
         ensures put_off { IsErrOf result stream_fault.InTransaction → LosesAnswer self.old self.new }
         ensures open { IsErrOf result stream_fault.InTransaction → IsInTransaction self.old }
         ensures waits { self.old.inner.session.ended ≡ false → IsInTransaction self.old → result ≡ Err stream_fault.InTransaction }

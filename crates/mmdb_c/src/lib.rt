@@ -5,7 +5,7 @@
 //!
 //! - A handle that is closed owns nothing, and a call on it does nothing.
 //! - Several handles may share a session. Each has statements, answers and rows of its own. While they share it none of them changes its
-//!   tables.
+//!   tables. `SHARED` comes only of a handle that has shared its tables and not left them since, and never in a transaction.
 //! - In a transaction rows are inserted, loaded, deleted and read; all else is put off by a status of its own.
 //! - After each status but `DONE` the tables are as they were, unless a piece found no room for its answers.
 #![tactic(auto)]
@@ -15,7 +15,7 @@ ghost use Rattle.std.specs.Vec.{vec_ptr, vec_len};
 ghost use Rattle.plain_streams.specs.Division.{IsWhole};
 ghost use Rattle.mm_session.specs.Refused.{TellsRefusal};
 ghost use Rattle.mmdb_c.specs.Calls.{AreLimits, IsNew, request, Becomes, AnswersRequest, TellsIndexes, TakesPiece, LosesStream, IsAsBefore};
-ghost use Rattle.mmdb_c.specs.Sharing.{LosesAnswer};
+ghost use Rattle.mmdb_c.specs.Sharing.{IsShared, LosesAnswer};
 ghost use Rattle.mmdb_c.specs.Transacting.{IsInTransaction, PutsOff};
 
 mod database;
@@ -145,6 +145,7 @@ fn answer_request(
     ensures judged { IsSome handle.old.database × (line.now ≢ []) → (result ≡ DONE) ⊎ ((result ≡ NOT_ONE_REQUEST) ⊎ ((result ≡ SHARED) ⊎ (result ≡ IN_TRANSACTION))) }
     ensures in_transaction { result ≡ IN_TRANSACTION → IsSomeAnd handle.old.database (PutsOff line.now) }
     ensures waits { (line.now ≢ []) × IsSomeAnd handle.old.database (PutsOff line.now) → result ≡ IN_TRANSACTION }
+    ensures sharing { result ≡ SHARED → IsSomeAnd handle.old.database IsShared }
     ensures done { result ≡ DONE → Becomes handle.old.database handle.new.database (AnswersRequest (request line.now block.now)) }
     ensures told { result ≡ DONE → IsSomeAnd handle.new.database (λ d. answer.new.length ≡ length d.answer) }
     ensures unchanged { result ≢ DONE → (handle.new.database ≡ handle.old.database) × (answer.new ≡ answer.old) }
@@ -184,6 +185,7 @@ pub extern "C" fn mmdb_command(
     ensures judged { IsSome handle.old.database × (line.now ≢ []) → (result ≡ DONE) ⊎ ((result ≡ NOT_ONE_REQUEST) ⊎ ((result ≡ SHARED) ⊎ (result ≡ IN_TRANSACTION))) }
     ensures in_transaction { result ≡ IN_TRANSACTION → IsSomeAnd handle.old.database (PutsOff line.now) }
     ensures waits { (line.now ≢ []) × IsSomeAnd handle.old.database (PutsOff line.now) → result ≡ IN_TRANSACTION }
+    ensures sharing { result ≡ SHARED → IsSomeAnd handle.old.database IsShared }
     ensures done { result ≡ DONE → Becomes handle.old.database handle.new.database (AnswersRequest (request line.now [])) }
     ensures told { result ≡ DONE → IsSomeAnd handle.new.database (λ d. answer.new.length ≡ length d.answer) }
     ensures unchanged { result ≢ DONE → (handle.new.database ≡ handle.old.database) × (answer.new ≡ answer.old) }
@@ -207,6 +209,7 @@ pub extern "C" fn mmdb_load(
     ensures judged { IsSome handle.old.database × (line.now ≢ []) → (result ≡ DONE) ⊎ ((result ≡ NOT_ONE_REQUEST) ⊎ ((result ≡ SHARED) ⊎ (result ≡ IN_TRANSACTION))) }
     ensures in_transaction { result ≡ IN_TRANSACTION → IsSomeAnd handle.old.database (PutsOff line.now) }
     ensures waits { (line.now ≢ []) × IsSomeAnd handle.old.database (PutsOff line.now) → result ≡ IN_TRANSACTION }
+    ensures sharing { result ≡ SHARED → IsSomeAnd handle.old.database IsShared }
     ensures done { result ≡ DONE → Becomes handle.old.database handle.new.database (AnswersRequest (request line.now block.now)) }
     ensures told { result ≡ DONE → IsSomeAnd handle.new.database (λ d. answer.new.length ≡ length d.answer) }
     ensures unchanged { result ≢ DONE → (handle.new.database ≡ handle.old.database) × (answer.new ≡ answer.old) }
@@ -246,6 +249,7 @@ pub extern "C" fn mmdb_feed(alloc: Global, handle: &mut Handle, piece: &[u8]) ->
     ensures done { result ≡ DONE → Becomes handle.old.database handle.new.database (TakesPiece piece.now) }
     ensures no_memory { result ≡ NO_MEMORY → Becomes handle.old.database handle.new.database (LosesStream piece.now) }
     ensures shared { result ≡ SHARED → Becomes handle.old.database handle.new.database LosesAnswer }
+    ensures sharing { result ≡ SHARED → IsSomeAnd handle.old.database IsShared }
     ensures put_off { result ≡ IN_TRANSACTION → Becomes handle.old.database handle.new.database LosesAnswer }
     ensures in_transaction { result ≡ IN_TRANSACTION → IsSomeAnd handle.old.database IsInTransaction }
     ensures waits { IsSomeAnd handle.old.database (λ d. (d.inner.session.ended ≡ false) × IsInTransaction d) → result ≡ IN_TRANSACTION }

@@ -63,7 +63,7 @@ impl Database {
     ghost use Rattle.mm_cells.specs.Reading.{AreFull};
     ghost use Rattle.mm_cells.specs.Values.{values_of};
     ghost use Rattle.mm_statements.specs.Executing.{IsDeclined};
-    ghost use Rattle.mmdb_c.specs.Sharing.{IsKeptOff, IsLineKeptOff};
+    ghost use Rattle.mmdb_c.specs.Sharing.{IsKeptOff, IsLineKeptOff, IsShared};
     ghost use Rattle.mmdb_c.specs.Transacting.{IsLinePutOff, IsPutOff};
 
     /// Keeps the statement that a line spells; the answer is empty then. Where it is refused, that is the answer, and at another fault
@@ -126,6 +126,7 @@ impl Database {
         requires { number < length self.old.shown.items }
         ensures done { OnOk result (HasTold number self.old self.new rows.new) }
         ensures declined { IfErr result (IsDeclined self.old.inner number) }
+        ensures sharing { IsErrOf result ExecuteFault.Shared → IsShared self.old }
         ensures too_long { IsErrOf result ExecuteFault.TooLong → AreFull (shown_by self.new number) }
         ensures unchanged { OnErr result (KeepsAll self.old self.new) }
         ensures others { KeepsOthers number self.old self.new }

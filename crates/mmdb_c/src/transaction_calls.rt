@@ -1,13 +1,14 @@
 //! The calls on transactions.
 
-ghost use Rattle.std.specs.Prelude.{◌≡◌, ◌≢◌, ◌↔◌, ◌⊎◌, [], IfSome, IsNone, IsSome, IsSomeAnd, length};
+ghost use Rattle.std.specs.Prelude.{◌≡◌, ◌≢◌, ◌↔◌, ◌⊎◌, IfSome, IsNone, IsSome, IsSomeAnd, length};
 ghost use Rattle.plain_tables.specs.Transactions.{begun, committed, rolled_back};
 ghost use Rattle.mmdb_c.specs.Calls.{Becomes};
-ghost use Rattle.mmdb_c.specs.Transacting.{IsInTransaction, Steps};
+ghost use Rattle.mmdb_c.specs.Sharing.{IsShared};
+ghost use Rattle.mmdb_c.specs.Transacting.{IsInTransaction, IsOutside, Steps};
 
 use crate::handle::Handle;
 use crate::{DONE, NO_MEMORY, NO_TRANSACTION, NOT_OPEN, SHARED};
-use mm_statements::{BeginFault, EndFault};
+use mm_statements::BeginFault;
 use std::alloc::Global;
 
 /// Begins a transaction, in those that are open.
@@ -16,6 +17,7 @@ pub extern "C" fn mmdb_begin(alloc: Global, handle: &mut Handle) -> u32
     ensures not_open { (result ≡ NOT_OPEN) ↔ IsNone handle.old.database }
     ensures open { IsSome handle.old.database → (result ≡ DONE) ⊎ ((result ≡ NO_MEMORY) ⊎ (result ≡ SHARED)) }
     ensures done { result ≡ DONE → Becomes handle.old.database handle.new.database (Steps begun) }
+    ensures sharing { result ≡ SHARED → IsSomeAnd handle.old.database IsShared }
     ensures unchanged { result ≢ DONE → handle.new.database ≡ handle.old.database }
 {
     let Some(mut database) = handle.take(alloc) else {
@@ -34,10 +36,9 @@ pub extern "C" fn mmdb_begin(alloc: Global, handle: &mut Handle) -> u32
 #[unsafe(no_mangle)]
 pub extern "C" fn mmdb_commit(alloc: Global, handle: &mut Handle) -> u32
     ensures not_open { (result ≡ NOT_OPEN) ↔ IsNone handle.old.database }
-    ensures open { IsSome handle.old.database → (result ≡ DONE) ⊎ ((result ≡ NO_TRANSACTION) ⊎ (result ≡ SHARED)) }
-    ensures some { result ≡ DONE → IsSomeAnd handle.old.database IsInTransaction }
+    ensures none { (result ≡ NO_TRANSACTION) ↔ IsSomeAnd handle.old.database IsOutside }
+    ensures open { (result ≡ DONE) ↔ IsSomeAnd handle.old.database IsInTransaction }
     ensures done { result ≡ DONE → Becomes handle.old.database handle.new.database (Steps committed) }
-    ensures none { result ≡ NO_TRANSACTION → IsSomeAnd handle.old.database (λ d. d.inner.session.saved ≡ []) }
     ensures unchanged { result ≢ DONE → handle.new.database ≡ handle.old.database }
 {
     let Some(mut database) = handle.take(alloc) else {
@@ -47,8 +48,7 @@ pub extern "C" fn mmdb_commit(alloc: Global, handle: &mut Handle) -> u32
     handle.put(alloc, database);
     match ended {
         Ok(()) => DONE,
-        Err(EndFault::NoTransaction) => NO_TRANSACTION,
-        Err(EndFault::Shared) => SHARED,
+        Err(_) => NO_TRANSACTION,
     }
 }
 
@@ -56,10 +56,9 @@ pub extern "C" fn mmdb_commit(alloc: Global, handle: &mut Handle) -> u32
 #[unsafe(no_mangle)]
 pub extern "C" fn mmdb_rollback(alloc: Global, handle: &mut Handle) -> u32
     ensures not_open { (result ≡ NOT_OPEN) ↔ IsNone handle.old.database }
-    ensures open { IsSome handle.old.database → (result ≡ DONE) ⊎ ((result ≡ NO_TRANSACTION) ⊎ (result ≡ SHARED)) }
-    ensures some { result ≡ DONE → IsSomeAnd handle.old.database IsInTransaction }
+    ensures none { (result ≡ NO_TRANSACTION) ↔ IsSomeAnd handle.old.database IsOutside }
+    ensures open { (result ≡ DONE) ↔ IsSomeAnd handle.old.database IsInTransaction }
     ensures done { result ≡ DONE → Becomes handle.old.database handle.new.database (Steps rolled_back) }
-    ensures none { result ≡ NO_TRANSACTION → IsSomeAnd handle.old.database (λ d. d.inner.session.saved ≡ []) }
     ensures unchanged { result ≢ DONE → handle.new.database ≡ handle.old.database }
 {
     let Some(mut database) = handle.take(alloc) else {
@@ -69,8 +68,7 @@ pub extern "C" fn mmdb_rollback(alloc: Global, handle: &mut Handle) -> u32
     handle.put(alloc, database);
     match ended {
         Ok(()) => DONE,
-        Err(EndFault::NoTransaction) => NO_TRANSACTION,
-        Err(EndFault::Shared) => SHARED,
+        Err(_) => NO_TRANSACTION,
     }
 }
 

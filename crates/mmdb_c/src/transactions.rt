@@ -1,13 +1,14 @@
 //! Transactions of a database.
 
 use crate::database::Database;
-use mm_statements::{BeginFault, EndFault};
+use mm_statements::{BeginFault, NoTransaction};
 
 impl Database {
-    ghost use Rattle.std.specs.Prelude.{◌≡◌, [], IsErrOf, length, OnErr, OnOk};
+    ghost use Rattle.std.specs.Prelude.{◌≡◌, IsErrOf, length, OnErr, OnOk};
     ghost use Rattle.plain_tables.specs.Transactions.{begun, committed, rolled_back};
-    ghost use Rattle.mm_statements.specs.declared.faults.EndFault.TheVariants as end_fault;
-    ghost use Rattle.mmdb_c.specs.Transacting.{IsInTransaction, Steps};
+    ghost use Rattle.mm_statements.specs.declared.faults.BeginFault.TheVariants as begin_fault;
+    ghost use Rattle.mmdb_c.specs.Sharing.{IsShared};
+    ghost use Rattle.mmdb_c.specs.Transacting.{IsInTransaction, IsOutside, Steps};
 
     /// How many transactions are open.
     pub fn transactions(&self) -> usize
@@ -19,26 +20,27 @@ impl Database {
     /// Begins a transaction, in those that are open.
     pub fn begin(&mut self) -> Result<(), BeginFault>
         ensures done { OnOk result (Steps begun self.old self.new) }
+        ensures shared { IsErrOf result begin_fault.Shared → IsShared self.old }
         ensures unchanged { OnErr result (self.new ≡ self.old) }
     {
         self.inner.begin()
     }
 
     /// Ends the innermost transaction, and keeps what was done in it.
-    pub fn commit(&mut self) -> Result<(), EndFault>
+    pub fn commit(&mut self) -> Result<(), NoTransaction>
         ensures open { OnOk result (IsInTransaction self.old) }
         ensures done { OnOk result (Steps committed self.old self.new) }
-        ensures none { IsErrOf result end_fault.NoTransaction → self.old.inner.session.saved ≡ [] }
+        ensures none { OnErr result (IsOutside self.old) }
         ensures unchanged { OnErr result (self.new ≡ self.old) }
     {
         self.inner.commit()
     }
 
     /// Ends the innermost transaction, and undoes what was done in it. It takes no memory.
-    pub fn rollback(&mut self) -> Result<(), EndFault>
+    pub fn rollback(&mut self) -> Result<(), NoTransaction>
         ensures open { OnOk result (IsInTransaction self.old) }
         ensures done { OnOk result (Steps rolled_back self.old self.new) }
-        ensures none { IsErrOf result end_fault.NoTransaction → self.old.inner.session.saved ≡ [] }
+        ensures none { OnErr result (IsOutside self.old) }
         ensures unchanged { OnErr result (self.new ≡ self.old) }
     {
         self.inner.rollback()

@@ -219,12 +219,12 @@ static long refusals_of_leaving(mmdb *reader)
         }
         GIVES(given, MMDB_NO_MEMORY);
         CHECK(has_rows(reader, 1));
-        GIVES(query(reader, "delete t", NULL), MMDB_SHARED);
     }
 }
 
 static long refusals_of_sharing(mmdb *db, mmdb *reader)
 {
+    const int was_closed = reader->inside == NULL;
     long met = 0;
     for (;; met++) {
         mmdb_status given;
@@ -235,7 +235,7 @@ static long refusals_of_sharing(mmdb *db, mmdb *reader)
             return met;
         }
         GIVES(given, MMDB_NO_MEMORY);
-        CHECK(reader->inside == NULL);
+        CHECK((reader->inside == NULL) == was_closed);
         GIVES(query(db, "update t set s = 'one'", NULL), MMDB_DONE);
     }
 }
@@ -244,10 +244,11 @@ static void memory_is_refused(void)
 {
     mmdb db = opened(), reader = MMDB_CLOSED;
     CHECK(refusals_of_sharing(&db, &reader) > 0);
-    CHECK(refusals_of_leaving(&reader) > 0);
-    /* A handle that is open needs none to share tables. */
-    CHECK(refusals_of_sharing(&db, &reader) == 0);
+    /* A handle that shares tables needs none to leave them. */
+    CHECK(refusals_of_leaving(&reader) == 0);
+    CHECK(refusals_of_sharing(&db, &reader) > 0);
     mmdb_close(&reader);
+    CHECK(refusals_of_leaving(&db) > 0);
     mmdb_close(&db);
 }
 

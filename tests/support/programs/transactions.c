@@ -323,8 +323,8 @@ static void none_begins_where_tables_are_shared(void)
     mmdb reader = MMDB_CLOSED;
     GIVES(mmdb_share(&both.db, &reader), MMDB_DONE);
     GIVES(mmdb_begin(&both.db), MMDB_SHARED);
-    GIVES(mmdb_commit(&reader), MMDB_SHARED);
-    GIVES(mmdb_rollback(&both.db), MMDB_SHARED);
+    GIVES(mmdb_commit(&reader), MMDB_NO_TRANSACTION);
+    GIVES(mmdb_rollback(&both.db), MMDB_NO_TRANSACTION);
     CHECK(mmdb_transactions(&both.db) == 0);
     mmdb_close(&reader);
     GIVES(mmdb_begin(&both.db), MMDB_DONE);

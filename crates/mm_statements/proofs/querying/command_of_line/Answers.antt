@@ -22,11 +22,11 @@ pub returns-then-not-is_statement-clause-refused : goal.returns-then-not-is_stat
 returns-then-not-is_statement-clause-refused c =
     let other : is_statement c.in-Ok.command ≡ false = grind arith in
     rw (← c.in_ok-line.ensures.text)
-    (other-unqueried c.args.session.now c.in_ok-line.line c.in_ok-line.ensures.readable c.in-Ok.command c.in-Ok.ensures.command other)
+    (other-unqueried c.args.held.now.session c.in_ok-line.line c.in_ok-line.ensures.readable c.in-Ok.command c.in-Ok.ensures.command other)
 
 pub returns-clause-spelled : goal.returns-clause-spelled
 returns-clause-spelled c =
-    let s = c.args.session.now in
+    let s = c.args.held.now.session in
     let is : is_statement c.in-Ok.command ≡ true = grind arith in
     rw (← c.in_ok-line.ensures.text)
     (MatchResult-weaker c.resolve.result c.resolve.ensures.meant
@@ -35,7 +35,7 @@ returns-clause-spelled c =
 
 pub returns-clause-meant : goal.returns-clause-meant
 returns-clause-meant c =
-    let s = c.args.session.now in
+    let s = c.args.held.now.session in
     let is : is_statement c.in-Ok.command ≡ true = grind arith in
     MatchResult-weaker c.resolve.result c.resolve.ensures.meant
     (λ r means. meaning-meant s.limits s.database c.in_ok-line.line r (line-means s c.in_ok-line.line c.in_ok-line.ensures.readable c.in-Ok.command c.in-Ok.ensures.command is _ (Ok r) (rw c.catalog.ensures.tables at means)))
@@ -43,7 +43,7 @@ returns-clause-meant c =
 
 pub returns-clause-rows : goal.returns-clause-rows
 returns-clause-rows c =
-    let s = c.args.session.now in
+    let s = c.args.held.now.session in
     let is : is_statement c.in-Ok.command ≡ true = grind arith in
     MatchResult-weaker c.resolve.result c.resolve.ensures.meant
     (λ r means. meaning-rows s.database c.in_ok-line.line r (line-means s c.in_ok-line.line c.in_ok-line.ensures.readable c.in-Ok.command c.in-Ok.ensures.command is _ (Ok r) (rw c.catalog.ensures.tables at means)))
@@ -51,7 +51,7 @@ returns-clause-rows c =
 
 pub returns-clause-refused : goal.returns-clause-refused
 returns-clause-refused c =
-    let s = c.args.session.now in
+    let s = c.args.held.now.session in
     let is : is_statement c.in-Ok.command ≡ true = grind arith in
     rw (← c.in_ok-line.ensures.text)
     (MatchResult-weaker c.resolve.result c.resolve.ensures.refused (λ r any. any)

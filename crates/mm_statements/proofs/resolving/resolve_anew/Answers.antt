@@ -12,12 +12,12 @@ use Rattle.mm_statements.proofs.resolving.resolve_anew.Goals as goal
 pub new-line-requires : goal.new-line-requires
 new-line-requires c = λ found.
     let p = c.in-Some.prepared.now in
-    let right : IsRight c.args.session.now.database p = c.requires c.args.number p (sym c.in-Some.ensures) in
+    let right : IsRight c.args.held.now.session.database p = c.requires c.args.number p (sym c.in-Some.ensures) in
     spelled-unbroken p.line right.statement right.spelled (subst (λ l. Contains l 10) c.as_str.ensures found)
 
 pub returns-in_err-resolution-clause-refused : goal.returns-in_err-resolution-clause-refused
 returns-in_err-resolution-clause-refused c =
-    let tables = c.args.session.now.database in
+    let tables = c.args.held.now.session.database in
     let p = c.in-Some.prepared.now in
     let there : named c.args.statements.now c.args.number ≡ Some p = sym c.in-Some.ensures in
     let right : IsRight tables p = c.requires c.args.number p there in
@@ -29,7 +29,7 @@ returns-in_err-resolution-clause-refused c =
 
 pub returns-clause-right : goal.returns-clause-right
 returns-clause-right c =
-    let tables = c.args.session.now.database in
+    let tables = c.args.held.now.session.database in
     let p = c.in-Some.prepared.now in
     let r = c.in_ok-resolution.resolution in
     let means : LineMeans tables p.line r = rw (c.catalog.ensures.tables, c.new-line.ensures, c.as_str.ensures) at c.in_ok-resolution.ensures.means in

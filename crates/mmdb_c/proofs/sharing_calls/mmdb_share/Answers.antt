@@ -7,5 +7,5 @@ use Rattle.mmdb_c.proofs.sharing_calls.mmdb_share.Goals as goal
 pub returns-clause-in_transaction : goal.returns-clause-in_transaction
 returns-clause-in_transaction c is =
     ⊎_elim
-    (λ own. inl (subst (λ (o : Option Database). IsSomeAnd o IsInTransaction) (sym c.in-Some.ensures.taken) (subst IsInTransaction c.deref.ensures own))) inr
+    (λ own. inl (subst (λ (o : Option Database). IsSomeAnd o IsInTransaction) (sym c.in-Some.ensures.taken) (subst IsInTransaction c.deref_mut.ensures.value own))) inr
     (c.join-joined.ensures.open (c.status_of.ensures.in_transaction.0 is))

@@ -9,23 +9,23 @@ use Rattle.mm_statements.proofs.database.Database.bind.Goals as goal
 
 pub invariant_of-self : goal.invariant_of-self
 invariant_of-self c =
-    bind-right c.self.inside.session.database c.self.inside.statements c.bind.new.self c.args.number c.args.place (cell_value c.args.cell) declined.NoSuchStatement c.bind.result
+    bind-right c.self.inside.held.session.database c.self.inside.statements c.bind.new.self c.args.number c.args.place (cell_value c.args.cell) declined.NoSuchStatement c.bind.result
     c.bind.ensures.bound c.bind.ensures.unchanged c.bind.ensures.missing c.self.invariant
 
 pub returns-clause-bound : goal.returns-clause-bound
 returns-clause-bound c =
     rw (← c.self.view_is)
-    (on_ok_weaker c.bind.result (bound-seen c.self.inside.session c.self.inside.statements c.bind.new.self c.args.number c.args.place (cell_value c.args.cell)) c.bind.ensures.bound)
+    (on_ok_weaker c.bind.result (bound-seen c.self.inside.held c.self.inside.statements c.bind.new.self c.args.number c.args.place (cell_value c.args.cell)) c.bind.ensures.bound)
 
 pub returns-clause-declined : goal.returns-clause-declined
 returns-clause-declined c =
     rw (← c.self.view_is)
     (MatchResult-weaker c.bind.result c.bind.ensures.declined (λ x any. any)
-    (λ e past other. past-seen c.self.inside.session c.self.inside.statements c.args.number c.args.place (past other)))
+    (λ e past other. past-seen c.self.inside.held c.self.inside.statements c.args.number c.args.place (past other)))
 
 pub returns-clause-unchanged : goal.returns-clause-unchanged
 returns-clause-unchanged c =
-    let s = c.self.inside.session in
+    let s = c.self.inside.held in
     let old = c.self.inside.statements in
     rw (← c.self.view_is)
     (on_err_weaker c.bind.result (λ same. unchanged s s old c.bind.new.self refl (named-seen old c.bind.new.self same)) c.bind.ensures.unchanged)

@@ -5,4 +5,4 @@ use Rattle.mm_statements.proofs.SeenLemmas.{statement-seen}
 use Rattle.mm_statements.proofs.database.Database.new.Goals as goal
 
 pub returns-clause-none : goal.returns-clause-none
-returns-clause-none c = λ number. statement-seen c.in_ok-session.session c.new-2.result number ∙ ap (option_map seen) (c.new-2.ensures number)
+returns-clause-none c = λ number. statement-seen c.new.result c.new-2.result number ∙ ap (option_map seen) (c.new-2.ensures number)

@@ -21,14 +21,14 @@ pub returns-in_err-resolution-clause-refused : goal.returns-in_err-resolution-cl
 returns-in_err-resolution-clause-refused c =
     let e = err_from_is_err_and c.from_residual-in_err-resolution.result c.from_residual-in_err-resolution.ensures.1 in
     rw (← c.self.view_is, ← c.in_ok-line.ensures.text, e.1, e.2)
-    (unprepared-for c.self.inside.session.database c.in_ok-line.line _
+    (unprepared-for c.self.inside.held.session.database c.in_ok-line.line _
     (λ other.
-    unmeant-unprepared c.self.inside.session.database c.in_ok-line.line _ c.in_ok-line.ensures.readable
+    unmeant-unprepared c.self.inside.held.session.database c.in_ok-line.line _ c.in_ok-line.ensures.readable
     (rw c.catalog.ensures.tables at (c.in_err-resolution.ensures.refused other))))
 
 pub returns-in_err-statement-clause-unchanged : goal.returns-in_err-statement-clause-unchanged
 returns-in_err-statement-clause-unchanged c =
-    let s = c.self.inside.session in
+    let s = c.self.inside.held in
     let old = c.self.inside.statements in
     rw (← c.self.view_is)
     (on-err c.from_residual-in_err-statement.result
@@ -36,7 +36,7 @@ returns-in_err-statement-clause-unchanged c =
 
 pub invariant_of-self-2 : goal.invariant_of-self-2
 invariant_of-self-2 c =
-    let tables = c.self.inside.session.database in
+    let tables = c.self.inside.held.session.database in
     let line = c.as_str-2.result.now in
     let places = c.count_marks-places.result in
     let r = c.in_ok-resolution.resolution in
@@ -48,7 +48,7 @@ invariant_of-self-2 c =
 
 pub returns-clause-prepared : goal.returns-clause-prepared
 returns-clause-prepared c =
-    let tables = c.self.inside.session.database in
+    let tables = c.self.inside.held.session.database in
     let line = c.in_ok-line.line in
     let places = c.count_marks-places.result in
     let r = c.in_ok-resolution.resolution in
@@ -58,7 +58,7 @@ returns-clause-prepared c =
 
 pub returns-clause-kept : goal.returns-clause-kept
 returns-clause-kept c =
-    let s = c.self.inside.session in
+    let s = c.self.inside.held in
     let old = c.self.inside.statements in
     let new = c.prepare.new.self in
     let n = c.in_ok-statement.statement in

@@ -20,7 +20,7 @@ returns-in_err-command-clause-refused c =
 pub returns-in_err-columns-clause-refused : goal.returns-in_err-columns-clause-refused
 returns-in_err-columns-clause-refused c =
     let e = err_from_is_err_and c.from_residual-in_err-columns.result c.from_residual-in_err-columns.ensures.1 in
-    rw (← c.self.view_is, e.1, e.2) (cells-unanswered c.self.inside.session _ c.in_err-columns.field-0.0 c.in_ok-command.ensures.spelled.readable)
+    rw (← c.self.view_is, e.1, e.2) (cells-unanswered c.self.inside.held.session _ c.in_err-columns.field-0.0 c.in_ok-command.ensures.spelled.readable)
 
 pub returns-in_err-columns-clause-too_long : goal.returns-in_err-columns-clause-too_long
 returns-in_err-columns-clause-too_long c =
@@ -32,7 +32,7 @@ returns-in_err-columns-clause-too_long c =
 
 pub returns-in-Select-clause-done : goal.returns-in-Select-clause-done
 returns-in-Select-clause-done c =
-    let s = c.self.inside.session in
+    let s = c.self.inside.held.session in
     let command = resolved.Select c.in-Select.query in
     let means : IsMeaningOfLine s.database _ (Ok command) = rw c.in-Select.is at c.in_ok-command.ensures.spelled in
     rw (← c.self.view_is)
@@ -42,21 +42,20 @@ pub returns-in_err-count-clause-refused : goal.returns-in_err-count-clause-refus
 returns-in_err-count-clause-refused c =
     let e = err_from_is_err_and c.from_residual-in_err-count.result c.from_residual-in_err-count.ensures.1 in
     rw (← c.self.view_is, e.1, e.2)
-    (change-unanswered c.self.inside.session c.change.new.self _ c.in_ok-command.command _ c.in_ok-command.ensures.spelled
+    (change-unanswered c.self.inside.held.session c.change.new.self.session _ c.in_ok-command.command _ c.in_ok-command.ensures.spelled
     (rows-change c.in_ok-command.command c.in_ok-command.ensures.rows c.in_default.not-Select) c.in_err-count.ensures.refused)
 
 pub returns-in_err-count-clause-unchanged : goal.returns-in_err-count-clause-unchanged
 returns-in_err-count-clause-unchanged c =
-    let s = c.self.inside.session in
     let statements = c.self.inside.statements in
     rw (← c.self.view_is)
     (on-err c.from_residual-in_err-count.result
-    (unchanged s c.change.new.self statements statements
+    (unchanged c.self.inside.held c.change.new.self statements statements
     c.in_err-count.ensures.unchanged (λ number. refl)))
 
 pub returns-clause-done : goal.returns-clause-done
 returns-clause-done c =
-    let s = c.self.inside.session in
+    let s = c.self.inside.held.session in
     let command = c.in_ok-command.command in
     rw (← c.self.view_is)
     (done s.limits s.database command, effect-of-line s _ (Ok command) c.in_ok-command.ensures.spelled, (c.in_ok-count.ensures.done, c.clear.ensures))
@@ -64,5 +63,5 @@ returns-clause-done c =
 pub invariant_of-self-2 : goal.invariant_of-self-2
 invariant_of-self-2 c =
     let command = c.in_ok-command.command in
-    changed-right c.self.inside.session c.change.new.self c.self.inside.statements command c.in_ok-count.count
+    changed-right c.self.inside.held.session c.change.new.self.session c.self.inside.statements command c.in_ok-count.count
     (rows-change command c.in_ok-command.ensures.rows c.in_default.not-Select) c.in_ok-count.ensures.done c.self.invariant

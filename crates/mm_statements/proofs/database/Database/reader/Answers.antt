@@ -5,4 +5,4 @@ use Rattle.mm_statements.proofs.SeenLemmas.{statement-seen}
 use Rattle.mm_statements.proofs.database.Database.reader.Goals as goal
 
 pub returns-clause-none : goal.returns-clause-none
-returns-clause-none c = λ number. statement-seen c.args.self.now.session c.new.result number ∙ ap (option_map seen) (c.new.ensures number)
+returns-clause-none c = λ number. statement-seen c.self.inside.held c.new.result number ∙ ap (option_map seen) (c.new.ensures number)

@@ -4,10 +4,10 @@ use Rattle.mm_statements.proofs.database.Database.rollback.Goals as goal
 
 pub invariant_of-self-2 : goal.invariant_of-self-2
 invariant_of-self-2 c =
-    forgotten-right c.self.inside.session.database c.rollback.new.self.database c.self.inside.statements c.forget.new.self c.forget.ensures c.self.invariant
+    forgotten-right c.self.inside.held.session.database c.rollback.new.self.session.database c.self.inside.statements c.forget.new.self c.forget.ensures c.self.invariant
 
 pub returns-clause-statements : goal.returns-clause-statements
 returns-clause-statements c =
     rw (← c.self.view_is)
-    (same-seen c.self.inside.session c.rollback.new.self c.self.inside.statements c.forget.new.self
+    (same-seen c.self.inside.held c.rollback.new.self c.self.inside.statements c.forget.new.self
     (forgotten-seen c.self.inside.statements c.forget.new.self c.forget.ensures))

@@ -4,10 +4,10 @@ use Rattle.mm_statements.proofs.database.Database.share.Goals as goal
 
 pub invariant_of-other : goal.invariant_of-other
 invariant_of-other c =
-    forgotten-right c.other.inside.session.database c.in_ok-session.session.database c.other.inside.statements c.forget.new.self c.forget.ensures c.other.invariant
+    forgotten-right c.other.inside.held.session.database c.in_ok-held.held.session.database c.other.inside.statements c.forget.new.self c.forget.ensures c.other.invariant
 
 pub returns-clause-statements : goal.returns-clause-statements
 returns-clause-statements c =
     rw (← c.other.view_is)
-    (same-seen c.other.inside.session c.in_ok-session.session c.other.inside.statements c.forget.new.self
+    (same-seen c.other.inside.held c.in_ok-held.held c.other.inside.statements c.forget.new.self
     (forgotten-seen c.other.inside.statements c.forget.new.self c.forget.ensures))

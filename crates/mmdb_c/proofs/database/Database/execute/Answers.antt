@@ -14,7 +14,7 @@ returns-in-Ok-clause-done c =
     let told = c.in-Ok.ensures.done in
     let done = told.1 in
     record {
-      done = (told.0, record { effect = done.effect; is = done.is; gave = done.gave; stream = done.stream; statements = done.statements }, told.2);
+      done = (told.0, record { effect = done.effect; is = done.is; gave = done.gave; stream = done.stream; shared = done.shared; statements = done.statements }, told.2);
       answer = c.execute_there.ensures.answer ∙ c.clear.ensures;
     }
 

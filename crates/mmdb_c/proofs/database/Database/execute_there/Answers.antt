@@ -45,6 +45,7 @@ returns-clause-done c =
         is = done.1;
         gave = subst (HasGiven c.execute.new.self.session done.0 given) (sym (ap (λ o. option_map_or values_of o []) there)) done.2;
         stream = c.execute.ensures.stream;
+        shared = c.execute.ensures.keeps;
         statements = c.execute.ensures.statements;
       },
       rw there (subst (λ (p : Cells). Tells p given c.tell.new.self) told c.tell.ensures),

@@ -14,6 +14,7 @@ returns-clause-write c is = record {
   over = c.feed.ensures.over is;
   limits = c.feed.ensures.limits;
   saved = c.feed.ensures.saved;
+  shared = c.feed.ensures.keeps;
   statements = c.feed.ensures.statements;
   rows = record { shown = refl; queried = refl; columns = refl };
 }
@@ -22,16 +23,16 @@ pub returns-clause-shared : goal.returns-clause-shared
 returns-clause-shared c is =
     let same = c.feed.ensures.shared is in
     record {
-      inner = record { session = same.0; statements = c.feed.ensures.statements };
+      inner = record { session = same.1; shared = c.feed.ensures.keeps; statements = c.feed.ensures.statements };
       rows = record { shown = refl; queried = refl; columns = refl };
-      answer = same.1 ∙ c.clear.ensures;
+      answer = same.2 ∙ c.clear.ensures;
     }
 
 pub returns-clause-put_off : goal.returns-clause-put_off
 returns-clause-put_off c is =
     let same = c.feed.ensures.in_transaction is in
     record {
-      inner = record { session = same.0; statements = c.feed.ensures.statements };
+      inner = record { session = same.0; shared = c.feed.ensures.keeps; statements = c.feed.ensures.statements };
       rows = record { shown = refl; queried = refl; columns = refl };
       answer = same.1 ∙ c.clear.ensures;
     }

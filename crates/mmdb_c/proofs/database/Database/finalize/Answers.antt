@@ -13,6 +13,7 @@ returns-in-Some-clause-freed c =
     record {
       freed = c.in_ok-finalize.ensures.freed;
       session = c.finalize.ensures.session;
+      shared = c.finalize.ensures.keeps;
       answer = refl;
       gone = ap (λ o. option_map_or values_of o []) (set-same items n c.new.result c.in-Some.ensures.item.3.0) ∙ c.new.ensures;
       rows = record { others = λ other parts apart there. set-other items n other c.new.result parts apart there; queried = refl; columns = refl };
@@ -25,6 +26,7 @@ returns-in_default-clause-freed c =
     record {
       freed = c.in_ok-finalize.ensures.freed;
       session = c.finalize.ensures.session;
+      shared = c.finalize.ensures.keeps;
       answer = refl;
       gone = ap (λ o. option_map_or values_of o []) (slice_get_past items n c.in_default.ensures.item.3);
       rows = record { others = λ other parts apart there. there; queried = refl; columns = refl };
