@@ -14,8 +14,8 @@ ROUNDS = 100
 HELD = re.compile(rb"\n\[held (\d+), most \d+\]\n([a-z ]+)\n")
 # What a list that has grown again may have more than one that grew once.
 LIST_STEP = 1_024
-# The greatest part by which what is held behind a commit differs from what the same changes outside leave.
-MOST_SPARE = 0.1
+# The greatest part that is held behind a commit beyond what the same changes outside leave.
+MOST_SPARE = 0.05
 
 
 def tearDownModule():
@@ -69,7 +69,7 @@ class Memory(compiling.Programs):
         self.assertEqual({held for what, held in marks if what == "closed"}, {0})
         held = dict(marks)
         for what, plain in (("committed", "plain"), ("gone by a commit", "gone")):
-            self.assertLess(abs(held[what] - held[plain]), MOST_SPARE * held[plain], what)
+            self.assertLess(held[what], (1 + MOST_SPARE) * held[plain], what)
 
 
 if __name__ == "__main__":
