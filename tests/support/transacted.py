@@ -16,10 +16,10 @@ FED = 0.1
 # The chance that a unit which was put off is done behind the transactions.
 DONE_BEHIND = 0.8
 # The commands that are done in each transaction.
-NEVER_PUT_OFF = ("insert", "load", "select", "dump", "tables")
+NEVER_PUT_OFF = ("insert", "load", "delete", "select", "dump", "tables")
 # What has to come in a run of many streams.
 COVERED = [f"{what}, {number} open" for what in ("begun", "committed", "rolled back") for number in range(1, MOST_OPEN + 1)]
-COVERED += ["fed around", "put off", "of insert undone", "of load undone"]
+COVERED += ["fed around", "put off", "of insert undone", "of load undone", "of delete undone"]
 
 
 def copy_of(table):
