@@ -13,6 +13,8 @@ MOST_OPEN = 3
 # The chances that a transaction begins, is committed and is rolled back before a unit.
 BEGUN, COMMITTED, ROLLED_BACK = 0.15, 0.07, 0.1
 FED = 0.1
+# The chance that rows are deleted which are there, as a stream's own deletes mostly find none.
+TAKEN = 0.08
 # The chance that a unit which was put off is done behind the transactions.
 DONE_BEHIND = 0.8
 # The commands that are done in each transaction.
@@ -115,6 +117,19 @@ class Run:
                 self.begin()
         elif luck < BEGUN + COMMITTED + ROLLED_BACK and self.open:
             self.end(luck < BEGUN + COMMITTED)
+        elif luck > 1 - TAKEN and self.open:
+            self.take_some()
+
+    def take_some(self):
+        """Deletes rows that are there, and inserts one of them again."""
+        tables = [table for table in self.judge.tables.by_name.values() if table.rows]
+        if tables:
+            table = self.draw.choice(tables)
+            values = [written(value) for value in self.draw.choice(table.rows)]
+            if None not in values:
+                sign = self.draw.choice(["=", "=", "<=", ">="])
+                self.do(f"delete {table.name} where {table.columns[0].name} {sign} {values[0]}".encode(), b"", iter(()))
+                self.do(f"insert {table.name} ({', '.join(values)})".encode(), b"", iter(()))
 
     def begin(self):
         self.handle.begin()
