@@ -108,7 +108,7 @@ class ThroughAPipe(shells.Piped):
         ]
         names = "emp.id,emp.name"
         out = [names, "1,Anew", names, '2,""', names, "1,Ann", '2,""', names, "1,Ann"]
-        why = "error 44 row is referenced: emp has a row whose column dept names the key 10"
+        why = "error 44 row is referenced: the row of dept with the key 10 is named in column dept of the row of emp with the key 1"
         self.check(lines, out, [f"line {at}: {why}" for at in (8, 18)])
 
     def test_commands_that_take_another_database(self):
@@ -341,8 +341,9 @@ class AtATerminal(shells.AtATerminal):
             (".undo", f"undone: .load t {self.room}/f.csv\n"),
             ("delete t", "ok 0\n"),
             (".undo", "undone: delete t\n"),
-            ("update t set id = 7", "ok 0\n"),
-            (".undo", "update t set id = 7 can't be undone\n"),
+            ("index t id hash", "ok\n"),
+            ("drop index t id hash", "ok\n"),
+            (".undo", "drop index t id hash can't be undone\n"),
         ):
             self.assertEqual(shell.ask(line), answer)
         shell.type("\x04")

@@ -47,7 +47,7 @@ fn no_way_to_update_is_done() {
     assert_eq!(prepared, Err(Error::InTransaction));
     assert_eq!(tx.command(line, []), Err(Error::InTransaction));
     assert_eq!(tx.answer(line.as_bytes()), Err(Error::InTransaction));
-    assert_eq!(number(tx.execute("update t set nothing = 'c'", [])), Some(32));
+    assert_eq!(number(tx.execute("update t set nothing = ?", ["c"])), Some(32));
     assert_eq!(selected(&tx, ALL, []), [row(1, "a")]);
     tx.commit().unwrap();
     assert_eq!(db.execute(line, []), Ok(1));

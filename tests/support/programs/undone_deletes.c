@@ -95,7 +95,7 @@ static mmdb opened(int emps)
 {
     static const char *const DECLARED[] = { "table dept (id int, name text)", "table emp (id int, name text, dept ref dept null, age int)",
                                             "index emp dept hash", "index emp name hash", "index emp age tree" };
-    mmdb db;
+    mmdb db = MMDB_CLOSED;
     char rows[DEPTS * 16] = "id,name\n";
     GIVES(mmdb_open(&db, MMDB_AUTO, MMDB_MOST, MMDB_MOST), MMDB_DONE);
     for (size_t i = 0; i < sizeof DECLARED / sizeof *DECLARED; i++)
@@ -241,6 +241,7 @@ static void rows_come_anew_under_their_keys(void)
 
 /* ---- memory */
 
+/* At most a hundredth more, as a block is now and then longer than was asked for. */
 static void rounds_hold_what_the_first_held(void)
 {
     mmdb db = opened(EMPS);
@@ -255,7 +256,7 @@ static void rounds_hold_what_the_first_held(void)
         roll_back(&db);
         if (round == 0)
             first = allocations_bytes();
-        CHECK(allocations_bytes() <= first);
+        CHECK(allocations_bytes() <= first + first / 100);
     }
     CHECK(is_as_in(&db, before));
     mmdb_close(&db);
@@ -304,12 +305,14 @@ static int deletes_refused(mmdb *db)
     if (mmdb_begin(db) != MMDB_DONE)
         return 0;
     refused += !was_done(db, "delete emp where dept = 3");
-    refused += !was_done(db, "delete emp where id = 7");
-    was_done(db, "insert emp (7, 'a name that no cell of a row can hold, anew', 2, 20)");
+    if (was_done(db, "delete emp where id = 7"))
+        was_done(db, "insert emp (7, 'a name that no cell of a row can hold, anew', 2, 20)");
+    else
+        refused++;
     if (mmdb_begin(db) != MMDB_DONE)
         return refused;
     refused += !was_done(db, "delete emp where age > 25");
-    was_done(db, "insert emp (30, 'a name that no cell of a row can hold, anew', 2, 20)");
+    was_done(db, "insert emp (-1, 'a name that no cell of a row can hold, anew', 2, 20)");
     refused += !was_done(db, "delete emp");
     return refused;
 }
