@@ -125,7 +125,7 @@ down_then old mid new f g all both a b =
     counted_as old new (λ table r. 0 + 0) (λ table r. f table r + g table r) none all (λ table r. refl) (λ table r. sym (both table r)) (counted_then old mid new none f none g a b)
 
 -- a row as it was
-counted_row : (old new : List RelationState) (m f : ℕ → TupleRef → ℕ) → AreCountedBy old new m f → (table : ℕ) (t : RelationState) (r : TupleRef) → slice_get new table ≡ Some t → IsSome (finite.get t.rows r)
+pub counted_row : (old new : List RelationState) (m f : ℕ → TupleRef → ℕ) → AreCountedBy old new m f → (table : ℕ) (t : RelationState) (r : TupleRef) → slice_get new table ≡ Some t → IsSome (finite.get t.rows r)
     → (s : RelationState) × (slice_get old table ≡ Some s) × IsSome (finite.get s.rows r) × (referrers_at t.referrers r + f table r ≡ referrers_at s.referrers r + m table r)
 counted_row old new m f h table t r here held =
     let s = slice_get-inside old table (omega (arith, h.recounted.count, slice_get_within new table t here)) in

@@ -58,7 +58,7 @@ module _ (refs : List TupleRef) (i : ℕ) (r : TupleRef) (within : i < length re
   ]
 
   -- no other is
-  others_than : (q : TupleRef) → (Contains (take (i + 1) refs) q → ⊥) → (q ≢ r) × (Contains (take i refs) q → ⊥)
+  pub others_than : (q : TupleRef) → (Contains (take (i + 1) refs) q → ⊥) → (q ≢ r) × (Contains (take i refs) q → ⊥)
   others_than q other = (
     λ same. other (subst (λ xs. Contains xs q) (sym next) (subst (Contains (take i refs ++ r ∷ [])) (sym same) (Contains-push (take i refs) r))),
     λ there. other (subst (λ xs. Contains xs q) (sym next) (Contains-append_left (take i refs) (r ∷ []) q there)),

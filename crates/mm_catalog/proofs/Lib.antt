@@ -57,6 +57,7 @@ pub mod LoadSteps
 pub mod NamedTables
 pub mod UpdateNeeds
 pub mod UpdateRefused
+pub mod Relinking
 pub mod UpdateDone
 pub mod TreeShapes
 pub mod IndexShapes

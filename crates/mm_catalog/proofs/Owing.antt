@@ -26,7 +26,7 @@ use Rattle.mm_catalog.proofs.Lists.{each_set, map-zip-all}
 use Rattle.mm_catalog.proofs.Outlined.{changed_here}
 use Rattle.mm_catalog.proofs.Taking.{IsSplit}
 
-kept_aside : (s : RelationState) (hidden : Tuples Row) (k : ℕ) → IsKept s → IsKept (record s { hidden = hidden; owed = k })
+pub kept_aside : (s : RelationState) (hidden : Tuples Row) (k : ℕ) → IsKept s → IsKept (record s { hidden = hidden; owed = k })
 kept_aside s hidden k kept = record { keyed = kept.keyed; few = kept.few; width = kept.width; trees = kept.trees; hashes = kept.hashes; within = kept.within }
 
 current_aside : (keys : Keys) (s : RelationState) (hidden : Tuples Row) (k : ℕ) → IsCurrent keys s → IsCurrent keys (record s { hidden = hidden; owed = k })

@@ -1,6 +1,7 @@
 pub mod Assigned
 pub mod Cells
 pub mod Changes
+pub mod ChangedBack
 pub mod Consistent
 pub mod Created
 pub mod Deleted

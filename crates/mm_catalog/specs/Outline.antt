@@ -9,7 +9,10 @@ use Rattle.part_raw.specs.declared.tuple_ref.TupleRef.{TupleRef}
 use Rattle.part_raw.specs.Store.{Tuples}
 use Rattle.plain_tables.specs.declared.command.Limits.{Limits}
 use Rattle.plain_tables.specs.declared.schema.Schema.{Schema}
+use Rattle.plain_tables.specs.declared.numbers.ColumnNumber.{ColumnNumber}
 use Rattle.mm_relation.specs.Rows.{Row}
+use Rattle.mm_relation.specs.Settings.{with_cells}
+use Rattle.mm_relation.specs.declared.row.Cell.{Cell}
 use Rattle.mm_relation.specs.State.{RelationState}
 use Rattle.mm_relation.specs.declared.numbers.DeclaredIndex.{DeclaredIndex}
 use Rattle.mm_catalog.specs.Consistent.{IsConsistent}
@@ -53,6 +56,15 @@ abbrev pub with_those : List TupleRef → Tuples Row → Tuples Row → Tuples R
 with_those [] others rows = rows
 with_those (r ∷ refs) others rows = option_map_or (λ row. finite.insert (with_those refs others rows) r row) (finite.get others r) (with_those refs others rows)
 
+-- cells that rows are to have again, each row's under its reference
+abbrev pub RowCells : Type 0
+RowCells = List (TupleRef × List (ColumnNumber × Cell))
+
+-- the rows with those cells
+abbrev pub with_row_cells : RowCells → Tuples Row → Tuples Row
+with_row_cells [] rows = rows
+with_row_cells (c ∷ cells) rows = option_map_or (λ row. finite.insert (with_row_cells cells rows) c.0 (with_cells c.1 row)) (finite.get rows c.0) (with_row_cells cells rows)
+
 -- the list with another element in the place of a number, if there is one
 abbrev pub changed_at : {A : Type 0} → (A → A) → ℕ → List A → List A
 changed_at change n xs = option_map_or (λ x. slice_set xs n (change x)) (slice_get xs n) xs
@@ -74,6 +86,13 @@ with_shown n refs o = record o { relations = changed_at (shown refs) n o.relatio
 
 abbrev pub with_dropped : ℕ → List TupleRef → Outline → Outline
 with_dropped n refs o = record o { relations = changed_at (dropped refs) n o.relations }
+
+-- rows have these cells again, which are owed no longer
+abbrev pub changed_back : RowCells → RelationOutline → RelationOutline
+changed_back cells s = record s { rows = with_row_cells cells s.rows; owed = s.owed - length cells }
+
+abbrev pub with_changed_back : ℕ → RowCells → Outline → Outline
+with_changed_back n cells o = record o { relations = changed_at (changed_back cells) n o.relations }
 
 -- the table of a number has a row under each of these references, each given once
 pub record HoldsOnce (o : Outline) (n : ℕ) (refs : List TupleRef) : Type 0 where
@@ -105,3 +124,16 @@ pub record HidesOnce (o : Outline) (n : ℕ) (refs : List TupleRef) : Type 0 whe
 pub record HasRowsHidden (old new : Outline) (n : ℕ) (refs : List TupleRef) : Type 0 where
   pub hides : HidesOnce new n refs
   pub others : with_shown n refs new ≡ old
+
+-- The table of a number has a row for each of these, each given once, and owes them beside its hidden rows.
+pub record OwesCells (o : Outline) (n : ℕ) (cells : RowCells) : Type 0 where
+  pub relation : RelationOutline
+  pub there : slice_get o.relations n ≡ Some relation
+  pub held : All (λ c. IsSome (finite.get relation.rows c.0)) cells
+  pub once : AllPairs (λ c d. c.0 ≢ d.0) cells
+  pub owed : length cells + finite.len relation.hidden ≤ relation.owed
+
+-- cells of rows of the table of a number are others now, and nothing else differs
+pub record HasCellsChanged (old new : Outline) (n : ℕ) (cells : RowCells) : Type 0 where
+  pub owes : OwesCells new n cells
+  pub others : with_changed_back n cells new ≡ old

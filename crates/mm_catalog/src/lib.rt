@@ -20,6 +20,7 @@
 mod before;
 mod by_key;
 mod catalog;
+mod changing_back;
 mod create;
 mod declare;
 mod delete;

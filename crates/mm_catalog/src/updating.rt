@@ -118,7 +118,7 @@ fn link_set(relation: &Relation, set: &(ColumnNumber, StoredCell)) -> Option<Lin
 }
 
 // So many referrers more for each row that these cells link to, and for each such cell.
-fn count_up_sets(
+pub fn count_up_sets(
     before: &mut [Relation],
     relation: &Relation,
     sets: &[(ColumnNumber, StoredCell)],
