@@ -58,6 +58,8 @@ pub mod NamedTables
 pub mod UpdateNeeds
 pub mod UpdateRefused
 pub mod Relinking
+pub mod CellsBack
+pub mod ChangedBack
 pub mod UpdateDone
 pub mod TreeShapes
 pub mod IndexShapes

@@ -1,5 +1,5 @@
 -- The links of a row in the columns of some cells, and a row whose cells are set back.
-use Rattle.std.proofs.Common.{◌≡◌, ◌≢◌, ℕ, ◌+◌, ◌-◌, ◌*◌, ◌<◌, ◌≤◌, ◌++◌, Bool, List, [], ◌∷◌, Option, Some, None, IsSome, refl, sym, ap, ◌∙◌, subst, arith, length, map, take, drop, get_or, append-nil, inl, inr}
+use Rattle.std.proofs.Common.{◌≡◌, ◌≢◌, ℕ, ◌+◌, ◌-◌, ◌*◌, ◌<◌, ◌≤◌, ◌++◌, Bool, List, [], ◌∷◌, Option, Some, None, IsSome, sym, ap, ◌∙◌, subst, arith, length, take, drop, get_or, append-nil, inl, inr}
 use Rattle.std.specs.List.{All, AllPairs, Contains, count_by, filter_map, slice_get}
 use Rattle.std.specs.Option.{option_map, option_map_or}
 use Rattle.std.specs.FinMap.{get}
@@ -13,15 +13,15 @@ use Rattle.mm_relation.specs.Settings.{with_cells}
 use Rattle.mm_catalog.proofs.Lists.{get-take}
 use Rattle.mm_relation.specs.Reading.{cell_value}
 use Rattle.part_raw.specs.declared.tuple_ref.TupleRef.{TupleRef}
-use Rattle.mm_relation.specs.Changes.{IsChanged, IsChangedBack}
-use Rattle.mm_relation.specs.Rows.{Row, referrers_at}
+use Rattle.mm_relation.specs.Changes.{IsChangedBack}
+use Rattle.mm_relation.specs.Rows.{Row}
 use Rattle.mm_relation.specs.State.{IsCurrent, IsKept, RelationState, linked_keys}
 use Rattle.mm_catalog.specs.declared.references.link.Link.{Link}
 use Rattle.mm_catalog.specs.Assigned.{CellSet, links_at, row_links_at, set_link, set_links}
 use Rattle.mm_catalog.specs.ChangedBack.{AreChangedBack, AreRelinked, CanBeChangedBack, CellsFit, cells_of_row}
 use Rattle.mm_catalog.specs.Counted.{AreCountedBy, HaveAtLeast, HaveRoom, IsHeldIn, LeadIntoCounted, linked_of, naming, none}
-use Rattle.mm_catalog.specs.Linked.{Linked, is_link_to, link_at, relation_links, row_links, target_at}
-use Rattle.mm_catalog.proofs.Counted.{all_held_still, counted_as, counted_none, counted_row, counted_then, down_then, enough_left, naming-append}
+use Rattle.mm_catalog.specs.Linked.{Linked, is_link_to, link_at, relation_links, target_at}
+use Rattle.mm_catalog.proofs.Counted.{all_held_still, counted_none, counted_row, counted_then, naming-append}
 use Rattle.mm_catalog.proofs.HideSteps.{keys_once, not_yet, others_than}
 use Rattle.mm_catalog.proofs.LinksHeld.{Contains-filter_map}
 use Rattle.mm_catalog.proofs.Owing.{kept_aside}

@@ -196,7 +196,7 @@ named_at relations to n counted h = at (slice_get relations n) refl h
     at (Some s) e h = (s, e, held_from_key s.rows to h, counted s e)
 
 -- each link of a row that can be read names a row that is held
-link_read_at : (relations : List RelationState) (targets : List (Option ℕ)) (row : Row) → IsReadable (linked_keys targets relations) (length targets) row → LeadIntoCounted relations targets → (column : ℕ) (link : Linked) → link_at targets row column ≡ Some link → IsHeldIn relations link
+pub link_read_at : (relations : List RelationState) (targets : List (Option ℕ)) (row : Row) → IsReadable (linked_keys targets relations) (length targets) row → LeadIntoCounted relations targets → (column : ℕ) (link : Linked) → link_at targets row column ≡ Some link → IsHeldIn relations link
 link_read_at relations targets row readable counted column link e =
     let parts = link_parts targets row column link e in
     let read : IsSome (row_value (linked_keys targets relations) column row) = readable column (target_within targets column link.0 parts.0) in

@@ -22,7 +22,7 @@ use Rattle.mm_catalog.specs.Consistent.{AreCounted, IsConsistent}
 use Rattle.mm_catalog.specs.Counted.{HaveRoom}
 use Rattle.mm_catalog.specs.Hidden.{AreShownAt, CanBeShown, CanShow}
 use Rattle.mm_catalog.specs.Linked.{HasLinksOrNulls, links_to, target_at}
-use Rattle.mm_catalog.specs.Outline.{HidesOnce, IsOutline, Outline, RelationOutline, is_among, outline_of, relation_outline, shown, with_shown, with_those}
+use Rattle.mm_catalog.specs.Outline.{HidesOnce, IsOutline, Outline, RelationOutline, changed_at, is_among, outline_of, relation_outline, shown, with_shown, with_those}
 use Rattle.mm_catalog.specs.Recounted.{HaveReferrers, IsRewritten}
 use Rattle.mm_catalog.proofs.Among.{among_at}
 use Rattle.mm_catalog.proofs.Back.{lead_back}
@@ -87,34 +87,37 @@ module _ (c d : CatalogState) (alike : outline_of d ≡ outline_of c) where
         ∙ map-zip-all (λ (t : List ℕ × RelationState). table_of c.relations t.0 t.1) (λ (t : List ℕ × RelationState). table_of d.relations t.0 t.1) c.names c.relations d.relations as_many
         (λ k name s t named was now. table_alike k name s t was now)
 
--- ---- what is asked of the rows
+-- ---- a catalog whose outline is that of another but for one relation
 
--- a consistent catalog d would have these rows too
-module _ (c d : CatalogState) (ok : IsConsistent c) (fine : IsConsistent d) (n : ℕ) (refs : List TupleRef) (all : outline_of d ≡ with_shown n refs (outline_of c)) (s : RelationState) (there : slice_get c.relations n ≡ Some s) where
-  outlines_all : map relation_outline d.relations ≡ set (map relation_outline c.relations) n (shown refs (relation_outline s))
+-- the outline of one with another relation in the place of a number
+abbrev pub with_other : ℕ → (RelationOutline → RelationOutline) → Outline → Outline
+with_other n change o = record o { relations = changed_at change n o.relations }
+
+module _ (c d : CatalogState) (ok : IsConsistent c) (n : ℕ) (change : RelationOutline → RelationOutline) (all : outline_of d ≡ with_other n change (outline_of c)) (s : RelationState) (there : slice_get c.relations n ≡ Some s) where
+  outlines_all : map relation_outline d.relations ≡ set (map relation_outline c.relations) n (change (relation_outline s))
   outlines_all =
       ap (λ (o : Outline). o.relations) all
-      ∙ changed_here (shown refs) n (map relation_outline c.relations) (relation_outline s) (slice_get-map relation_outline c.relations n ∙ ap (option_map relation_outline) there)
+      ∙ changed_here change n (map relation_outline c.relations) (relation_outline s) (slice_get-map relation_outline c.relations n ∙ ap (option_map relation_outline) there)
 
   -- the relation of this outline
-  d_at : (k : ℕ) (o : RelationOutline) → slice_get (set (map relation_outline c.relations) n (shown refs (relation_outline s))) k ≡ Some o → (t : RelationState) × (slice_get d.relations k ≡ Some t) × (relation_outline t ≡ o)
+  d_at : (k : ℕ) (o : RelationOutline) → slice_get (set (map relation_outline c.relations) n (change (relation_outline s))) k ≡ Some o → (t : RelationState) × (slice_get d.relations k ≡ Some t) × (relation_outline t ≡ o)
   d_at k o at = option_map_some relation_outline (slice_get d.relations k) o (sym (slice_get-map relation_outline d.relations k) ∙ ap (λ os. slice_get os k) outlines_all ∙ at)
 
-  pub d_here : (t : RelationState) × (slice_get d.relations n ≡ Some t) × (relation_outline t ≡ shown refs (relation_outline s))
+  pub d_here : (t : RelationState) × (slice_get d.relations n ≡ Some t) × (relation_outline t ≡ change (relation_outline s))
   d_here =
-      d_at n (shown refs (relation_outline s))
-      (slice_get_set (map relation_outline c.relations) n (shown refs (relation_outline s)) (slice_get_within (map relation_outline c.relations) n (relation_outline s) (slice_get-map relation_outline c.relations n ∙ ap (option_map relation_outline) there)))
+      d_at n (change (relation_outline s))
+      (slice_get_set (map relation_outline c.relations) n (change (relation_outline s)) (slice_get_within (map relation_outline c.relations) n (relation_outline s) (slice_get-map relation_outline c.relations n ∙ ap (option_map relation_outline) there)))
 
   d_other : (k : ℕ) (u : RelationState) → k ≢ n → slice_get c.relations k ≡ Some u → (t : RelationState) × (slice_get d.relations k ≡ Some t) × (relation_outline t ≡ relation_outline u)
   d_other k u other at =
       d_at k (relation_outline u)
-      (slice_get-set_other (map relation_outline c.relations) n k (shown refs (relation_outline s)) other ∙ slice_get-map relation_outline c.relations k ∙ ap (option_map relation_outline) at)
+      (slice_get-set_other (map relation_outline c.relations) n k (change (relation_outline s)) other ∙ slice_get-map relation_outline c.relations k ∙ ap (option_map relation_outline) at)
 
   abbrev key_in : TupleRef → Option RelationState → Option Value
   key_in to found = option_and_then (λ (u : RelationState). key_at u.rows to) found
 
-  -- they are read under the same keys
-  keys_there : linked_keys s.targets d.relations ≡ linked_keys s.targets c.relations
+  -- its rows are read under the same keys
+  pub keys_there : linked_keys s.targets d.relations ≡ linked_keys s.targets c.relations
   keys_there = λ i column to. at column to i
     where
       at : (column : ℕ) (to : TupleRef) → linked_keys s.targets d.relations column to ≡ linked_keys s.targets c.relations column to
@@ -128,14 +131,21 @@ module _ (c d : CatalogState) (ok : IsConsistent c) (fine : IsConsistent d) (n :
                 ap (key_in to) t.1 ∙ ap (λ (o : RelationOutline). key_at o.rows to) t.2 ∙ ap (key_in to) (sym u.1)
           ] refl
 
+-- ---- what is asked of the rows
+
+-- a consistent catalog d would have these rows too
+module _ (c d : CatalogState) (ok : IsConsistent c) (fine : IsConsistent d) (n : ℕ) (refs : List TupleRef) (all : outline_of d ≡ with_shown n refs (outline_of c)) (s : RelationState) (there : slice_get c.relations n ≡ Some s) where
+  here : (t : RelationState) × (slice_get d.relations n ≡ Some t) × (relation_outline t ≡ shown refs (relation_outline s))
+  here = d_here c d ok n (shown refs) all s there
+
   abbrev t : RelationState
-  t = d_here.0
+  t = here.0
 
   rows_all : t.rows ≡ with_those refs s.hidden s.rows
-  rows_all = ap (λ (o : RelationOutline). o.rows) d_here.2
+  rows_all = ap (λ (o : RelationOutline). o.rows) here.2
 
   targets_all : t.targets ≡ s.targets
-  targets_all = ap (λ (o : RelationOutline). o.targets) d_here.2
+  targets_all = ap (λ (o : RelationOutline). o.targets) here.2
 
   module _ (hidden : All (λ r. IsSome (get s.hidden r)) refs) where
     row_there : (r : TupleRef) (row : Row) → Contains refs r → get s.hidden r ≡ Some row → get t.rows r ≡ Some row
@@ -143,19 +153,19 @@ module _ (c d : CatalogState) (ok : IsConsistent c) (fine : IsConsistent d) (n :
 
     can_read : (r : TupleRef) (row : Row) → Contains refs r → get s.hidden r ≡ Some row → IsReadable (linked_keys s.targets (take n c.relations)) (length s.targets) row
     can_read r row among at =
-        subst (λ keys. IsReadable keys (length s.targets) row) (keys_there ∙ sym (keys_before s.targets c.relations n (lead_back c ok n s there)))
-        (subst (λ targets. IsReadable (linked_keys targets d.relations) (length targets) row) targets_all ((among_at d fine n t d_here.1).current.readable r row (row_there r row among at)))
+        subst (λ keys. IsReadable keys (length s.targets) row) (keys_there c d ok n (shown refs) all s there ∙ sym (keys_before s.targets c.relations n (lead_back c ok n s there)))
+        (subst (λ targets. IsReadable (linked_keys targets d.relations) (length targets) row) targets_all ((among_at d fine n t here.1).current.readable r row (row_there r row among at)))
 
     pub can_be_shown : AllPairs (λ q r. q ≢ r) refs → ((r : TupleRef) → IsSome (get s.hidden r) → get s.rows r ≡ None) → CanBeShown (take n c.relations) s refs
     can_be_shown once apart =
         let stands = stands_at c ok n s there in
         let few : len s.rows + length refs ≤ 16777216 =
-        omega (arith, ap len rows_all, with_more s.hidden s.rows refs hidden once apart, (among_at d fine n t d_here.1).kept.few) in
+        omega (arith, ap len rows_all, with_more s.hidden s.rows refs hidden once apart, (among_at d fine n t here.1).kept.few) in
         record {
           kept = stands.kept;
           hidden = hidden;
           once = once;
-          keys = subst KeysDiffer rows_all (among_at d fine n t d_here.1).kept.keyed.keys_differ;
+          keys = subst KeysDiffer rows_all (among_at d fine n t here.1).kept.keyed.keys_differ;
           few = few;
           readable = can_read;
           named = λ r row among at. links_read (take n c.relations) s.targets row (can_read r row among at) stands.counted;
@@ -211,7 +221,7 @@ module _ (c d : CatalogState) (ok : IsConsistent c) (fine : IsConsistent d) (n :
   -- its rows have links or nulls as those of d
   linked : (r : TupleRef) (row : Row) → get a.rows r ≡ Some row → HasLinksOrNulls a.targets row
   linked r row at =
-      let t = d_here c d ok fine n refs all b h.there in
+      let t = d_here c d ok n (shown refs) all b h.there in
       let same : relation_outline a ≡ relation_outline t.0 = alike_at d e alike n t.0 a t.1 rewritten.here in
       subst (λ targets. HasLinksOrNulls targets row) (ap (λ (o : RelationOutline). o.targets) (sym same))
       ((among_at d fine n t.0 t.1).linked r row (ap (λ (o : RelationOutline). get o.rows r) (sym same) ∙ at))

@@ -1,5 +1,5 @@
 -- What of a catalog an undone change restores: all but the shape of the indexes and the numbers of referrers.
-use Rattle.std.specs.Prelude.{◌≡◌, ◌≢◌, ℕ, ◌+◌, ◌-◌, ◌≤◌, not, Bool, List, [], ◌∷◌, Option, Some, IsSome, All, ◌++◌, length, map, slice_get, slice_set}
+use Rattle.std.specs.Prelude.{◌≡◌, ◌≢◌, ℕ, ◌+◌, ◌-◌, ◌*◌, ◌<◌, ◌≤◌, not, Bool, List, [], ◌∷◌, Option, Some, IsSome, All, ◌++◌, drop, length, map, slice_get, slice_set, take}
 use Rattle.std.specs.List.{AllPairs, list_any}
 use Rattle.std.specs.Option.{option_map_or}
 use Rattle.std.specs.Ordering.{eq_by_cmp}
@@ -9,12 +9,12 @@ use Rattle.part_raw.specs.declared.tuple_ref.TupleRef.{TupleRef}
 use Rattle.part_raw.specs.Store.{Tuples}
 use Rattle.plain_tables.specs.declared.command.Limits.{Limits}
 use Rattle.plain_tables.specs.declared.schema.Schema.{Schema}
-use Rattle.plain_tables.specs.declared.numbers.ColumnNumber.{ColumnNumber}
 use Rattle.mm_relation.specs.Rows.{Row}
 use Rattle.mm_relation.specs.Settings.{with_cells}
-use Rattle.mm_relation.specs.declared.row.Cell.{Cell}
 use Rattle.mm_relation.specs.State.{RelationState}
 use Rattle.mm_relation.specs.declared.numbers.DeclaredIndex.{DeclaredIndex}
+use Rattle.mm_catalog.specs.Assigned.{CellSet}
+use Rattle.mm_catalog.specs.ChangedBack.{cells_of_row}
 use Rattle.mm_catalog.specs.Consistent.{IsConsistent}
 use Rattle.mm_catalog.specs.State.{CatalogState}
 
@@ -56,14 +56,11 @@ abbrev pub with_those : List TupleRef → Tuples Row → Tuples Row → Tuples R
 with_those [] others rows = rows
 with_those (r ∷ refs) others rows = option_map_or (λ row. finite.insert (with_those refs others rows) r row) (finite.get others r) (with_those refs others rows)
 
--- cells that rows are to have again, each row's under its reference
-abbrev pub RowCells : Type 0
-RowCells = List (TupleRef × List (ColumnNumber × Cell))
-
--- the rows with those cells
-abbrev pub with_row_cells : RowCells → Tuples Row → Tuples Row
-with_row_cells [] rows = rows
-with_row_cells (c ∷ cells) rows = option_map_or (λ row. finite.insert (with_row_cells cells rows) c.0 (with_cells c.1 row)) (finite.get rows c.0) (with_row_cells cells rows)
+-- the rows, where those of these references have so many cells each again, one row's behind the other's
+abbrev pub with_row_cells : List TupleRef → ℕ → List CellSet → Tuples Row → Tuples Row
+with_row_cells [] width cells rows = rows
+with_row_cells (r ∷ refs) width cells rows =
+    option_map_or (λ row. finite.insert (with_row_cells refs width (drop width cells) rows) r (with_cells (take width cells) row)) (finite.get rows r) (with_row_cells refs width (drop width cells) rows)
 
 -- the list with another element in the place of a number, if there is one
 abbrev pub changed_at : {A : Type 0} → (A → A) → ℕ → List A → List A
@@ -87,12 +84,12 @@ with_shown n refs o = record o { relations = changed_at (shown refs) n o.relatio
 abbrev pub with_dropped : ℕ → List TupleRef → Outline → Outline
 with_dropped n refs o = record o { relations = changed_at (dropped refs) n o.relations }
 
--- rows have these cells again, which are owed no longer
-abbrev pub changed_back : RowCells → RelationOutline → RelationOutline
-changed_back cells s = record s { rows = with_row_cells cells s.rows; owed = s.owed - length cells }
+-- these rows have so many cells each again, and are owed no longer
+abbrev pub changed_back : List TupleRef → ℕ → List CellSet → RelationOutline → RelationOutline
+changed_back refs width cells s = record s { rows = with_row_cells refs width cells s.rows; owed = s.owed - length refs }
 
-abbrev pub with_changed_back : ℕ → RowCells → Outline → Outline
-with_changed_back n cells o = record o { relations = changed_at (changed_back cells) n o.relations }
+abbrev pub with_changed_back : ℕ → List TupleRef → ℕ → List CellSet → Outline → Outline
+with_changed_back n refs width cells o = record o { relations = changed_at (changed_back refs width cells) n o.relations }
 
 -- the table of a number has a row under each of these references, each given once
 pub record HoldsOnce (o : Outline) (n : ℕ) (refs : List TupleRef) : Type 0 where
@@ -125,15 +122,21 @@ pub record HasRowsHidden (old new : Outline) (n : ℕ) (refs : List TupleRef) : 
   pub hides : HidesOnce new n refs
   pub others : with_shown n refs new ≡ old
 
--- The table of a number has a row for each of these, each given once, and owes them beside its hidden rows.
-pub record OwesCells (o : Outline) (n : ℕ) (cells : RowCells) : Type 0 where
+-- The table of a number has a row under each of these references, each given once, and owes them beside its hidden rows. There are
+-- so many cells for each, in columns of their own behind the key.
+pub record OwesCells (o : Outline) (n : ℕ) (refs : List TupleRef) (width : ℕ) (cells : List CellSet) : Type 0 where
   pub relation : RelationOutline
   pub there : slice_get o.relations n ≡ Some relation
-  pub held : All (λ c. IsSome (finite.get relation.rows c.0)) cells
-  pub once : AllPairs (λ c d. c.0 ≢ d.0) cells
-  pub owed : length cells + finite.len relation.hidden ≤ relation.owed
+  pub held : All (λ r. IsSome (finite.get relation.rows r)) refs
+  pub once : AllPairs (λ q r. q ≢ r) refs
+  pub owed : length refs + finite.len relation.hidden ≤ relation.owed
+  pub count : length cells ≡ length refs * width
+  pub narrow : width ≤ length relation.targets
+  pub behind_key : All (λ c. 0 < c.0.0) cells
+  pub columns : All (λ c. c.0.0 < length relation.targets) cells
+  pub apart : (k : ℕ) → k < length refs → AllPairs (λ c d. c.0.0 ≡ d.0.0 → ⊥) (cells_of_row width cells k)
 
 -- cells of rows of the table of a number are others now, and nothing else differs
-pub record HasCellsChanged (old new : Outline) (n : ℕ) (cells : RowCells) : Type 0 where
-  pub owes : OwesCells new n cells
-  pub others : with_changed_back n cells new ≡ old
+pub record HasCellsChanged (old new : Outline) (n : ℕ) (refs : List TupleRef) (width : ℕ) (cells : List CellSet) : Type 0 where
+  pub owes : OwesCells new n refs width cells
+  pub others : with_changed_back n refs width cells new ≡ old

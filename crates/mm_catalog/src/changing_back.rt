@@ -13,6 +13,7 @@ ghost use Rattle.mm_catalog.specs.ChangedBack.{AreChangedBack, AreChangedBackAt,
 ghost use Rattle.mm_catalog.specs.Counted.{AreCountedBy, HaveAtLeast, HaveRoom, IsHeldIn, naming, none};
 
 use crate::before::Before;
+use crate::catalog::Catalog;
 use crate::references::counting::count_down;
 use crate::references::link::link_in;
 use crate::updating::count_up_sets;
@@ -83,9 +84,9 @@ fn change_each_back(
     }
 }
 
-/// Sets cells of rows of the relation of this number to what they were, where each row has so many, one row's behind the other's. Its
-/// links lead into the relations before it. It takes no memory.
-pub fn change_rows_back(
+// Sets cells of rows of the relation of this number to what they were, where each row has so many, one row's behind the other's. Its
+// links lead into the relations before it. It takes no memory.
+fn change_rows_back(
     relations: &mut [Relation],
     table: TableNumber,
     rows: &[TupleRef],
@@ -98,4 +99,24 @@ pub fn change_rows_back(
 {
     let (before, rest) = relations.split_at_mut(table.0);
     change_each_back(before, &mut rest[0], rows, width, cells);
+}
+
+impl Catalog {
+    ghost use Rattle.mm_catalog.specs.Outline.{IsOutline, OwesCells, outline_of, with_changed_back};
+
+    /// Sets cells of rows of a table to what they were, where each row has so many, one row's behind the other's, and a catalog can
+    /// have them so. The rows are owed no longer. It takes no memory, and never fails.
+    pub fn change_back(
+        &mut self,
+        table: TableNumber,
+        rows: &[TupleRef],
+        width: usize,
+        cells: &mut [(ColumnNumber, StoredCell)],
+    )
+        requires owes { OwesCells (outline_of self.old) table.0 rows.now width cells.old }
+        requires stands { IsOutline (with_changed_back table.0 rows.now width cells.old (outline_of self.old)) }
+        ensures { outline_of self.new ≡ with_changed_back table.0 rows.now width cells.old (outline_of self.old) }
+    {
+        change_rows_back(self.relations.as_mut_slice(), table, rows, width, cells)
+    }
 }

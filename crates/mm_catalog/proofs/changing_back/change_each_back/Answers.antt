@@ -1,4 +1,4 @@
-use Rattle.std.proofs.Common.{◌≡◌, ◌+◌, ◌*◌, ◌-◌, ◌≤◌, IsSome, is_some, ap, arith, drop, get_or, length, refl, sym, ◌∙◌, subst, take}
+use Rattle.std.proofs.Common.{◌≡◌, ◌+◌, ◌*◌, ◌-◌, ◌≤◌, is_some, ap, arith, drop, get_or, length, refl, sym, ◌∙◌, subst, take}
 use Rattle.std.specs.FinMap as finite
 use Rattle.std.proofs.Math.Nat.{mul-le-mul_right}
 use Rattle.std.proofs.lemmas.List.{get_or_default, length-drop, length-take, length-take-le}
@@ -6,7 +6,6 @@ use Rattle.std.proofs.lemmas.Slice.{drop-put_mid}
 use borrow.Rule.Slice.PartMut.{same_len_mid}
 use lib.Seq.{drop-drop}
 use Rattle.std.proofs.lemmas.Option.{none-some}
-use Rattle.mm_catalog.specs.Assigned.{CellSet}
 use Rattle.mm_relation.specs.Changes.{IsChangedBack}
 use Rattle.mm_relation.specs.State.{IsCurrent}
 use Rattle.mm_catalog.specs.ChangedBack.{AreRelinked, CellsFit, cells_of_row}

@@ -1,8 +1,8 @@
-use Rattle.std.proofs.Common.{◌≡◌, ◌+◌, ◌*◌, IsSome, arith, length, refl, sym, ◌∙◌, subst}
+use Rattle.std.proofs.Common.{IsSome, arith, refl, sym, subst}
 use Rattle.std.specs.List.{All}
 use Rattle.part_raw.proofs.Tuples.{held_tuple}
 use Rattle.mm_relation.specs.Reading.{cell_value}
-use Rattle.mm_relation.specs.State.{IsCurrent, linked_keys}
+use Rattle.mm_relation.specs.State.{IsCurrent}
 use Rattle.mm_catalog.specs.Assigned.{CellSet, row_links_at}
 use Rattle.mm_catalog.proofs.Counted.{all_held_still}
 use Rattle.mm_catalog.proofs.Relinking.{gone_enough, gone_held, relinked}
