@@ -60,6 +60,8 @@ pub mod UpdateRefused
 pub mod Relinking
 pub mod CellsBack
 pub mod ChangedBack
+pub mod Noted
+pub mod NotedBack
 pub mod UpdateDone
 pub mod TreeShapes
 pub mod IndexShapes

@@ -1,5 +1,5 @@
 -- A relation that owes more rows is otherwise as it was, and one of which hidden rows are dropped.
-use Rattle.std.proofs.Common.{◌≡◌, ℕ, ◌+◌, ◌≤◌, ◌++◌, List, Some, None, IsSome, refl, sym, ap, ◌∙◌, subst, arith, length, map, set}
+use Rattle.std.proofs.Common.{◌≡◌, ℕ, ◌+◌, ◌-◌, ◌≤◌, ◌++◌, List, Some, None, IsSome, refl, sym, ap, ◌∙◌, subst, arith, length, map, set}
 use Rattle.std.specs.List.{slice_get}
 use Rattle.std.specs.FinMap.{get, len}
 use Rattle.std.specs.Option.{option_map}
@@ -18,7 +18,7 @@ use Rattle.mm_catalog.specs.Consistent.{IsConsistent}
 use Rattle.mm_catalog.specs.Deleted.{AreRemoved, AreUnlinked}
 use Rattle.mm_catalog.specs.Hidden.{AreHidden, AreHiddenAt, without_hidden}
 use Rattle.mm_catalog.specs.Linked.{relation_links}
-use Rattle.mm_catalog.specs.Outline.{changed_at, dropped, outline_of, relation_outline, with_dropped}
+use Rattle.mm_catalog.specs.Outline.{RelationOutline, changed_at, dropped, outline_of, relation_outline, with_dropped, without}
 use Rattle.mm_catalog.specs.Standing.{StandsBeside}
 use Rattle.mm_catalog.proofs.Alike.{AreAlike, AreAlike-set, consistent_alike, table_alike}
 use Rattle.mm_catalog.proofs.Among.{among_at}
@@ -81,11 +81,11 @@ module _ (relations : List RelationState) (n : ℕ) (refs : List TupleRef) (firs
     owed = owed ∙ ap (λ (u : RelationState). u.owed) owing;
   }
 
--- ---- hidden rows that are dropped
+-- ---- a relation with other hidden rows, that owes other rows
 
-module _ (c : CatalogState) (ok : IsConsistent c) (n : ℕ) (refs : List TupleRef) (s : RelationState) (there : slice_get c.relations n ≡ Some s) where
+module _ (c : CatalogState) (ok : IsConsistent c) (n : ℕ) (hidden : Tuples Row) (k : ℕ) (s : RelationState) (there : slice_get c.relations n ≡ Some s) where
   abbrev t : RelationState
-  t = without_hidden refs s
+  t = record s { hidden = hidden; owed = k }
 
   abbrev all : List RelationState
   all = set c.relations n t
@@ -93,33 +93,46 @@ module _ (c : CatalogState) (ok : IsConsistent c) (n : ℕ) (refs : List TupleRe
   abbrev d : CatalogState
   d = record c { relations = all }
 
-  pub dropped_relations : all ≡ changed_at (without_hidden refs) n c.relations
-  dropped_relations = sym (changed_here (without_hidden refs) n c.relations s there)
-
   alike : AreAlike c.relations all
   alike = AreAlike-set c.relations n s t there (record { schema = refl; outline = refl; referrers = refl; counted = λ counted. counted })
 
-  same_declared : (k : ℕ) (u v : RelationState) → slice_get c.relations k ≡ Some u → slice_get all k ≡ Some v → v.declared ≡ u.declared
+  same_declared : (j : ℕ) (u v : RelationState) → slice_get c.relations j ≡ Some u → slice_get all j ≡ Some v → v.declared ≡ u.declared
   same_declared = each_set (λ (u v : RelationState). v.declared ≡ u.declared) (λ u. refl) c.relations n s t there refl
 
-  pub database_dropped : database_of d ≡ database_of c
+  pub database_aside : database_of d ≡ database_of c
   unfolding database_of table_of
-  database_dropped =
+  database_aside =
       map-zip-all (λ (x : List ℕ × RelationState). table_of c.relations x.0 x.1) (λ (x : List ℕ × RelationState). table_of all x.0 x.1) c.names c.relations all alike.count
-      (λ k name u v named was now. table_alike c ok all alike k name u v was now ∙ ap (λ declared. record (table_of c.relations name u) { indexes = map plain_index declared }) (same_declared k u v was now))
+      (λ j name u v named was now. table_alike c ok all alike j name u v was now ∙ ap (λ declared. record (table_of c.relations name u) { indexes = map plain_index declared }) (same_declared j u v was now))
 
-  pub consistent_dropped : IsConsistent d
-  consistent_dropped =
+  pub consistent_aside : IsConsistent d
+  consistent_aside =
       consistent_alike c ok all alike
-      (λ k v at.
-      let u = slice_get-inside c.relations k (omega (arith, alike.count, slice_get_within all k v at)) in
-      let among = among_at c ok k u.0 u.1 in
+      (λ j v at.
+      let u = slice_get-inside c.relations j (omega (arith, alike.count, slice_get_within all j v at)) in
+      let among = among_at c ok j u.0 u.1 in
       each_set (λ (u v : RelationState). IsKept u × IsCurrent (linked_keys u.targets c.relations) u → IsKept v × IsCurrent (linked_keys v.targets c.relations) v) (λ u h. h) c.relations n s t there
-      (λ h. (kept_aside s t.hidden t.owed h.0, current_aside (linked_keys s.targets c.relations) s t.hidden t.owed h.1)) k u.0 v u.1 at (among.kept, among.current))
-      (subst (IsSound c.limits) (sym database_dropped) ok.sound)
+      (λ h. (kept_aside s hidden k h.0, current_aside (linked_keys s.targets c.relations) s hidden k h.1)) j u.0 v u.1 at (among.kept, among.current))
+      (subst (IsSound c.limits) (sym database_aside) ok.sound)
 
-  pub outline_dropped : outline_of d ≡ with_dropped n refs (outline_of c)
-  outline_dropped =
-      let relations : map relation_outline all ≡ changed_at (dropped refs) n (map relation_outline c.relations) =
-      map-set relation_outline c.relations n t ∙ sym (changed_here (dropped refs) n (map relation_outline c.relations) (relation_outline s) (slice_get-map relation_outline c.relations n ∙ ap (option_map relation_outline) there)) in
+  pub outline_aside : (change : RelationOutline → RelationOutline) → relation_outline t ≡ change (relation_outline s) → outline_of d ≡ record (outline_of c) { relations = changed_at change n (map relation_outline c.relations) }
+  outline_aside change is =
+      let relations : map relation_outline all ≡ changed_at change n (map relation_outline c.relations) =
+      map-set relation_outline c.relations n t ∙ ap (set (map relation_outline c.relations) n) is
+      ∙ sym (changed_here change n (map relation_outline c.relations) (relation_outline s) (slice_get-map relation_outline c.relations n ∙ ap (option_map relation_outline) there)) in
       λ i. record { limits = c.limits; names = c.names; relations = relations i }
+
+-- ---- hidden rows that are dropped
+
+module _ (c : CatalogState) (ok : IsConsistent c) (n : ℕ) (refs : List TupleRef) (s : RelationState) (there : slice_get c.relations n ≡ Some s) where
+  pub dropped_relations : set c.relations n (without_hidden refs s) ≡ changed_at (without_hidden refs) n c.relations
+  dropped_relations = sym (changed_here (without_hidden refs) n c.relations s there)
+
+  pub database_dropped : database_of (record c { relations = set c.relations n (without_hidden refs s) }) ≡ database_of c
+  database_dropped = database_aside c ok n (without refs s.hidden) (s.owed - length refs) s there
+
+  pub consistent_dropped : IsConsistent (record c { relations = set c.relations n (without_hidden refs s) })
+  consistent_dropped = consistent_aside c ok n (without refs s.hidden) (s.owed - length refs) s there
+
+  pub outline_dropped : outline_of (record c { relations = set c.relations n (without_hidden refs s) }) ≡ with_dropped n refs (outline_of c)
+  outline_dropped = outline_aside c ok n (without refs s.hidden) (s.owed - length refs) s there (dropped refs) refl

@@ -52,13 +52,13 @@ use Rattle.mm_catalog.proofs.CellRows.{read_value}
 
 -- ---- lists
 
-get-mapped : {A B : Type 0} (f : A → B) (xs : List A) (k : ℕ) (d : B) → k < length (map f xs) → (x : A) × (slice_get xs k ≡ Some x) × (get_or (map f xs) k d ≡ f x)
+pub get-mapped : {A B : Type 0} (f : A → B) (xs : List A) (k : ℕ) (d : B) → k < length (map f xs) → (x : A) × (slice_get xs k ≡ Some x) × (get_or (map f xs) k d ≡ f x)
 get-mapped f [] k d l = absurd (omega (arith, l))
 get-mapped f (x ∷ xs) zero d l = (x, refl, refl)
 get-mapped f (x ∷ xs) (suc k) d l = get-mapped f xs k d (omega arith)
 
 -- different numbers below a bound are no more than it
-few_below : (xs : List ℕ) (n : ℕ) → AllPairs (λ a b. a ≢ b) xs → All (λ x. x < n) xs → length xs ≤ n
+pub few_below : (xs : List ℕ) (n : ℕ) → AllPairs (λ a b. a ≢ b) xs → All (λ x. x < n) xs → length xs ≤ n
 few_below xs n apart below =
     let few = length-le_from_is_member nat_eq_equiv xs (range_with_len 0 n) (IsDistinct-from_AllPairs decides xs apart)
     (λ q e. (is_member-Decides decides (range_with_len 0 n) q).1 (within q (All-contains (λ x. x < n) xs q below ((is_member-Decides decides xs q).0 e)))) in

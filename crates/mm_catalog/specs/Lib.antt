@@ -10,6 +10,7 @@ pub mod Inserted
 pub mod Hidden
 pub mod Linked
 pub mod Loaded
+pub mod Noted
 pub mod Outline
 pub mod Picked
 pub mod Recounted

@@ -34,8 +34,8 @@ pub struct Catalog {
     // Where the cells of a row are packed on their way into a table. It keeps its memory from row to row.
     cells: Vec<StoredCell>,
     // Where an update lists the cells that it sets and the links that go. They keep their memory too.
-    sets: Vec<(ColumnNumber, StoredCell)>,
-    lost: Vec<Link>,
+    pub(crate) sets: Vec<(ColumnNumber, StoredCell)>,
+    pub(crate) lost: Vec<Link>,
 }
 
 impl Model for Catalog {

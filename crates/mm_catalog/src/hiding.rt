@@ -26,8 +26,8 @@ const MOST_OWED: u64 = 16_777_216;
 
 // ---- rows that are hidden
 
-// Owes so many rows of a relation more. It finds no memory where too many are owed then.
-fn owe_rows(relation: &mut Relation, count: usize) -> Result<(), Refusal>
+/// Owes so many rows of a relation more. It finds no memory where too many are owed then.
+pub fn owe_rows(relation: &mut Relation, count: usize) -> Result<(), Refusal>
     ensures owed { OnOk result (relation.new ≡ record relation.old { owed = relation.old.owed + count }) }
     ensures refused { IfErr result (λ refusal. refusal ≡ Refusal.NoMemory) }
     ensures unchanged { OnErr result (relation.new ≡ relation.old) }

@@ -29,6 +29,7 @@ mod indexes;
 mod insert;
 pub mod laws;
 mod load;
+mod noting;
 mod references;
 mod removal;
 mod row_values;

@@ -47,8 +47,8 @@ fn pack_sets(
     Ok(())
 }
 
-// Puts a cell behind the others.
-fn push_set(
+/// Puts a cell behind the others.
+pub fn push_set(
     sets: &mut Vec<(ColumnNumber, StoredCell)>,
     set: (ColumnNumber, StoredCell),
 ) -> Result<(), NoMemory>
