@@ -91,6 +91,19 @@ changed_back refs width cells s = record s { rows = with_row_cells refs width ce
 abbrev pub with_changed_back : ℕ → List TupleRef → ℕ → List CellSet → Outline → Outline
 with_changed_back n refs width cells o = record o { relations = changed_at (changed_back refs width cells) n o.relations }
 
+-- so many rows are owed no longer
+abbrev pub forgiven : ℕ → RelationOutline → RelationOutline
+forgiven count s = record s { owed = s.owed - count }
+
+abbrev pub with_forgiven : ℕ → ℕ → Outline → Outline
+with_forgiven n count o = record o { relations = changed_at (forgiven count) n o.relations }
+
+-- the table of a number owes so many rows beside its hidden rows
+pub record OwesRows (o : Outline) (n count : ℕ) : Type 0 where
+  pub relation : RelationOutline
+  pub there : slice_get o.relations n ≡ Some relation
+  pub owed : count + finite.len relation.hidden ≤ relation.owed
+
 -- the table of a number has a row under each of these references, each given once
 pub record HoldsOnce (o : Outline) (n : ℕ) (refs : List TupleRef) : Type 0 where
   pub relation : RelationOutline

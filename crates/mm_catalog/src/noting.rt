@@ -7,7 +7,7 @@ ghost use Rattle.std.specs.FinMap as finite;
 ghost use Rattle.mm_relation.specs.Rows.{Row};
 ghost use Rattle.mm_relation.specs.State.{RelationState};
 ghost use Rattle.mm_catalog.specs.Assigned.{AreConsistent, AreToColumns, IsNotUpdated};
-ghost use Rattle.mm_catalog.specs.Noted.{IsNoted, cells_at, cells_to};
+ghost use Rattle.mm_catalog.specs.Noted.{IsNoted, cells_at, cells_to, forgiving};
 
 use crate::catalog::Catalog;
 use crate::hiding::owe_rows;
@@ -93,8 +93,8 @@ impl Catalog {
     ghost use Rattle.plain_tables.specs.Effects.{Refused};
     ghost use Rattle.plain_tables.specs.ResolvedLaws.{AreAssignable, OfTable};
     ghost use Rattle.plain_tables.specs.Tables.{Row as PlainRow};
-    ghost use Rattle.mm_catalog.specs.Changes.{HasEffect};
-    ghost use Rattle.mm_catalog.specs.Outline.{HasCellsChanged, outline_of};
+    ghost use Rattle.mm_catalog.specs.Changes.{HasEffect, KeepsDatabase};
+    ghost use Rattle.mm_catalog.specs.Outline.{HasCellsChanged, OwesRows, changed_at, outline_of, with_forgiven};
     ghost use Rattle.mm_catalog.specs.Picked.{ArePicked, HoldsRows};
     ghost use Rattle.mm_catalog.specs.Seen.{database_of};
 
@@ -127,5 +127,15 @@ impl Catalog {
         );
         shed_links(alloc, &mut self.lost, rows.len());
         answer
+    }
+
+    /// So many rows of a table are owed no longer, and none of them is hidden. It takes no memory, and never fails.
+    pub fn forgive(&mut self, table: TableNumber, count: usize)
+        requires owes { OwesRows (outline_of self.old) table.0 count }
+        ensures relations { self.new ≡ record self.old { relations = changed_at (forgiving count) table.0 self.old.relations } }
+        ensures outline { outline_of self.new ≡ with_forgiven table.0 count (outline_of self.old) }
+        ensures database { KeepsDatabase self.old self.new }
+    {
+        self.relations[table.0].forgive(count as u64)
     }
 }
