@@ -242,14 +242,17 @@ static long refusals_of_sharing(mmdb *db, mmdb *reader)
 
 static void memory_is_refused(void)
 {
-    mmdb db = opened(), reader = MMDB_CLOSED;
+    mmdb db = opened(), alone = opened(), reader = MMDB_CLOSED;
     CHECK(refusals_of_sharing(&db, &reader) > 0);
     /* A handle that shares tables needs none to leave them. */
     CHECK(refusals_of_leaving(&reader) == 0);
     CHECK(refusals_of_sharing(&db, &reader) > 0);
     mmdb_close(&reader);
-    CHECK(refusals_of_leaving(&db) > 0);
+    CHECK(refusals_of_leaving(&db) == 0);
     mmdb_close(&db);
+    /* One that never shared any needs some. */
+    CHECK(refusals_of_leaving(&alone) > 0);
+    mmdb_close(&alone);
 }
 
 int main(void)
