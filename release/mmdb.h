@@ -122,12 +122,12 @@ typedef enum mmdb_status {
                                     mmdb_refusal tell why, as `error 41 key exists` and a line feed; nothing changed */
     MMDB_TOO_LARGE = 13,         /* mmdb_execute, mmdb_query: the texts of the rows are more than 4 GiB together;
                                     mmdb_prepare: the database has 4294967296 statements. Nothing changed */
-    MMDB_SHARED = 14,            /* mmdb_execute and mmdb_query of a change; mmdb_command, mmdb_load, mmdb_feed, mmdb_begin,
-                                    mmdb_commit, mmdb_rollback: another handle shares the tables. Nothing changed */
+    MMDB_SHARED = 14,            /* mmdb_execute and mmdb_query of a change; mmdb_command, mmdb_load, mmdb_feed, mmdb_begin:
+                                    another handle shares the tables. Nothing changed */
     MMDB_NO_TRANSACTION = 15,    /* mmdb_commit, mmdb_rollback: no transaction is open */
-    MMDB_IN_TRANSACTION = 16     /* what isn't done in a transaction yet: mmdb_execute and mmdb_query of an update or a
-                                    delete; mmdb_command and mmdb_load of another line than insert, load, select, dump
-                                    and tables; mmdb_feed, mmdb_share, mmdb_leave. Nothing changed */
+    MMDB_IN_TRANSACTION = 16     /* what isn't done in a transaction yet: mmdb_execute and mmdb_query of an update;
+                                    mmdb_command and mmdb_load of a line that begins with table (and not tables), index,
+                                    drop or update; mmdb_feed, mmdb_share, mmdb_leave. Nothing changed */
 } mmdb_status;
 
 /* How plans are chosen. No policy changes an answer, only what it costs. MMDB_AUTO is the one to take. */
@@ -154,8 +154,8 @@ uint32_t mmdb_open(mmdb *db, uint32_t policy, uint32_t rows, uint32_t block);
    before a line feed in any file. A line that asks for a block, as `load T 20` does, goes to mmdb_load.
    Gives MMDB_DONE and the answer, which is good until the next call on this handle: the bytes that the program mmdb
    writes for the line, none for blanks and comments. Or gives MMDB_NOT_OPEN or MMDB_NO_LINE; or MMDB_IN_TRANSACTION
-   where the line begins with none of insert, load, select, dump and tables; or MMDB_SHARED, whatever line it is; or
-   MMDB_NOT_ONE_REQUEST. */
+   where a transaction is open and the line begins with table (and not tables), index, drop or update; or MMDB_SHARED,
+   whatever line it is; or MMDB_NOT_ONE_REQUEST. */
 uint32_t mmdb_command(mmdb *db, const void *line, size_t length, mmdb_bytes *answer);
 
 /* Answers one line with the block that it asks for: `load T 20` with 20 bytes. Answer and statuses are as those of
@@ -188,7 +188,7 @@ uint32_t mmdb_bind_null(mmdb *db, uint32_t statement, uint32_t place);
    handle is closed; of the others `changed`, and no rows. Or gives MMDB_REFUSED as the line with these values would be,
    in the same order, and by 90 when out of memory; MMDB_TOO_LARGE where the texts of its rows are more than 4 GiB
    together; MMDB_SHARED where it is no select, its names and values are right, and another handle shares the tables;
-   MMDB_IN_TRANSACTION where it is an update or a delete whose names and values are right, and a transaction is open; or
+   MMDB_IN_TRANSACTION where it is an update whose names and values are right, and a transaction is open; or
    MMDB_NOT_OPEN or MMDB_NO_SUCH_STATEMENT. */
 uint32_t mmdb_execute(mmdb *db, uint32_t statement, mmdb_rows *rows);
 
@@ -276,7 +276,7 @@ uint32_t mmdb_begin(mmdb *db);
 
 /* Ends the innermost transaction. After mmdb_commit the tables stay as they are; after mmdb_rollback they are those that it
    began with, whatever was done since. A rollback needs no memory.
-   Gives MMDB_DONE; or MMDB_NOT_OPEN, MMDB_NO_TRANSACTION or MMDB_SHARED, and then all is as it was. */
+   Gives MMDB_DONE; or MMDB_NOT_OPEN or MMDB_NO_TRANSACTION, and then all is as it was. */
 uint32_t mmdb_commit(mmdb *db);
 uint32_t mmdb_rollback(mmdb *db);
 
@@ -294,7 +294,8 @@ uint32_t mmdb_share(mmdb *db, mmdb *reader);
 /* Has a handle leave its tables, which are freed where no other handle shares them. It has none then, and a new stream.
    Its statements with their values, its rows and its answers stay: a statement is refused by 30 until the handle shares
    or declares its tables again.
-   Gives MMDB_DONE; or MMDB_NOT_OPEN, MMDB_IN_TRANSACTION or MMDB_NO_MEMORY, and then it is as it was. */
+   Gives MMDB_DONE; or MMDB_NOT_OPEN, MMDB_IN_TRANSACTION, or MMDB_NO_MEMORY where it has shared its tables with none, and
+   then it is as it was. */
 uint32_t mmdb_leave(mmdb *reader);
 
 /* Closes a handle and frees all that it holds; its answers are no longer valid. Tables that another handle shares stay.
