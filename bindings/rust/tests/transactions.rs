@@ -177,7 +177,10 @@ fn tables_are_not_shared_in_one() {
     std::mem::forget(db.readers().reader().unwrap());
     assert_eq!(db.begin(), Err(Error::Shared));
     assert_eq!(db.transaction().unwrap_err(), Error::Shared);
-    assert_eq!((db.commit(), db.rollback()), (Err(Error::Shared), Err(Error::Shared)));
+    assert_eq!(
+        (db.commit(), db.rollback()),
+        (Err(Error::NoTransaction), Err(Error::NoTransaction))
+    );
 }
 
 #[test]
