@@ -8,7 +8,7 @@ use Rattle.mm_catalog.specs.State.{CatalogState}
 use Rattle.mm_transactions.specs.declared.log.Kind.{Kind}
 use Rattle.mm_transactions.specs.declared.log.Kind.TheVariants as kind
 use Rattle.mm_transactions.specs.declared.log.Step.{Step}
-use Rattle.mm_transactions.specs.Undoing.{Change, Came, Went, IsReady, before, settled}
+use Rattle.mm_transactions.specs.Undoing.{Change, Came, Went, Were, IsReady, before, settled}
 
 -- the changes of the open transactions, the newest first, and how many there were when each began, the innermost first
 pub record LogState : Type 0 where
@@ -19,6 +19,7 @@ pub record LogState : Type 0 where
 abbrev pub change_of : Kind → ℕ → List TupleRef → Change
 change_of kind.Came n refs = Came n refs
 change_of kind.Went n refs = Went n refs
+change_of (kind.Were width cells) n refs = Were n refs width cells.items
 
 -- the changes of steps, the newest first, whose references are these, the oldest first
 abbrev pub changes_of : List Step → List TupleRef → List Change

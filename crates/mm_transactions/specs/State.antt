@@ -1,15 +1,18 @@
 -- What a catalog with transactions is seen as.
-use Rattle.std.specs.Prelude.{Bool, true, false, ◌≡◌, ℕ, List, map, length, refl}
-use Rattle.std.specs.Coded.{Coded, code_by, coded×, coded_bool, coded_list, coded_ℕ}
+use Rattle.std.specs.Prelude.{Bool, true, false, ◌≡◌, ℕ, List, Option, Some, None, map, length, refl}
+use Rattle.std.specs.Coded.{Coded, code_by, coded×, coded_bool, coded_list, coded_option, coded_ℕ}
 use Rattle.part_raw.specs.TupleRefs.{ref_code}
 use Rattle.part_raw.specs.declared.tuple_ref.TupleRef.{TupleRef}
 use Rattle.plain_tables.specs.Databases.{Database}
 use Rattle.plain_tables.specs.Transactions.{Transactional}
+use Rattle.plain_tables.specs.declared.numbers.ColumnNumber.{ColumnNumber}
+use Rattle.mm_relation.specs.declared.row.Cell.{Cell}
+use Rattle.mm_catalog.specs.Assigned.{CellSet}
 use Rattle.mm_catalog.specs.Outline.{outline_of}
 use Rattle.mm_catalog.specs.Seen.{database_of}
 use Rattle.mm_catalog.specs.State.{CatalogState}
 use Rattle.mm_transactions.specs.Tables.{tables_in}
-use Rattle.mm_transactions.specs.Undoing.{Change, Came, Went, CanUndo, AreMarks, undone}
+use Rattle.mm_transactions.specs.Undoing.{Change, Came, Went, Were, CanUndo, AreMarks, undone}
 
 -- the tables; the changes of the open transactions, the newest first; how many there were when each began, the innermost first
 pub record TransactionalState : Type 0 where
@@ -17,24 +20,33 @@ pub record TransactionalState : Type 0 where
   pub changes : List Change
   pub marks : List ℕ
 
-abbrev pub as_parts : Change → Bool × (ℕ × List TupleRef)
-as_parts (Came n refs) = (true, (n, refs))
-as_parts (Went n refs) = (false, (n, refs))
+-- the parts of a change: whether rows came, the table, the references, and the cells that were where values were assigned
+abbrev pub Parts : Type 0
+Parts = Bool × (ℕ × (List TupleRef × Option (ℕ × List CellSet)))
 
-abbrev pub as_change : Bool × (ℕ × List TupleRef) → Change
-as_change (true, (n, refs)) = Came n refs
-as_change (false, (n, refs)) = Went n refs
+abbrev pub as_parts : Change → Parts
+as_parts (Came n refs) = (true, (n, (refs, None)))
+as_parts (Went n refs) = (false, (n, (refs, None)))
+as_parts (Were n refs width cells) = (false, (n, (refs, Some (width, cells))))
+
+abbrev pub as_change : Parts → Change
+as_change (true, (n, (refs, None))) = Came n refs
+as_change (false, (n, (refs, None))) = Went n refs
+as_change (came, (n, (refs, Some (width, cells)))) = Were n refs width cells
 
 pub same_change : (c : Change) → as_change (as_parts c) ≡ c
 same_change (Came n refs) = refl
 same_change (Went n refs) = refl
+same_change (Were n refs width cells) = refl
 
-abbrev pub change_code : Coded Change
-change_code = code_by (Bool × (ℕ × List TupleRef)) (coded× coded_bool (coded× coded_ℕ (coded_list ref_code))) as_parts as_change same_change
+abbrev pub change_code : Coded ColumnNumber → Coded Cell → Coded Change
+change_code column cell =
+    code_by Parts (coded× coded_bool (coded× coded_ℕ (coded× (coded_list ref_code) (coded_option (coded× coded_ℕ (coded_list (coded× column cell)))))))
+    as_parts as_change same_change
 
-abbrev pub state_code : Coded CatalogState → Coded TransactionalState
-state_code catalog =
-    code_by (CatalogState × (List Change × List ℕ)) (coded× catalog (coded× (coded_list change_code) (coded_list coded_ℕ)))
+abbrev pub state_code : Coded CatalogState → Coded ColumnNumber → Coded Cell → Coded TransactionalState
+state_code catalog column cell =
+    code_by (CatalogState × (List Change × List ℕ)) (coded× catalog (coded× (coded_list (change_code column cell)) (coded_list coded_ℕ)))
     (λ t. (t.catalog, (t.changes, t.marks))) (λ p. record { catalog = p.0; changes = p.1.0; marks = p.1.1 }) (λ _. refl)
 
 -- the database when so many changes had been noted

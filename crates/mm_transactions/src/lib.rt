@@ -9,12 +9,13 @@
 //!
 //! A rollback takes the steps back to the innermost mark, the newest first. Nothing is copied when a transaction begins. It knows
 //! no names and makes no checks: the catalog does the changes, and says of each which rows came. Rows that went are hidden
-//! there, and keep their references, until the outermost transaction ends.
+//! there, and keep their references, until the outermost transaction ends. Where values were assigned, a step keeps the cells
+//! that the rows had.
 //!
 //! - Each open transaction can be rolled back to just the database that it began with, without memory.
 //! - Outside a transaction nothing is noted.
-//! - In a transaction rows are inserted, loaded and deleted. All other changes are made outside.
-//! - A commit of the outermost transaction drops what is hidden.
+//! - In a transaction rows are inserted, loaded, updated and deleted. All other changes are made outside.
+//! - A commit of the outermost transaction drops what is hidden, and the cells that rows had.
 #![tactic(auto)]
 
 mod log;

@@ -7,23 +7,29 @@ ghost use Rattle.mm_transactions.specs.Undoing.{IsOwed, IsReady, before, settled
 
 use mm_catalog::Catalog;
 use mm_catalog::laws::a_catalog_is_consistent;
+use mm_relation::StoredCell;
 use no_memory::NoMemory;
 use part_raw::TupleRef;
-use plain_tables::{Refusal, Sequence, TableNumber, Value};
+use plain_tables::{Assignment, ColumnNumber, Refusal, Sequence, TableNumber, Value};
 use std::alloc::Global;
 use std::marker::Model;
 
 /// What a command did with rows of a table.
-#[derive(Clone, Copy)]
+#[derive(Drop)]
 pub enum Kind {
     /// They came in.
     Came,
     /// They went out, and are hidden.
     Went,
+    /// Values were assigned to them. What stood in their cells: so many of each row, one row's behind the other's.
+    Were {
+        width: usize,
+        cells: Vec<(ColumnNumber, StoredCell)>,
+    },
 }
 
 /// A command that was done. The references of its rows stand in the log's list from `start` to the next step's.
-#[derive(Clone, Copy)]
+#[derive(Drop)]
 pub struct Step {
     kind: Kind,
     table: TableNumber,
@@ -56,7 +62,7 @@ impl Model for UndoLog {
 
 impl UndoLog {
     ghost use Rattle.plain_tables.specs.Doing.{done};
-    ghost use Rattle.plain_tables.specs.ResolvedLaws.{IsMeant};
+    ghost use Rattle.plain_tables.specs.ResolvedLaws.{AreAssignable, IsMeant, OfTable};
     ghost use Rattle.plain_tables.specs.declared.resolved.Resolved.TheVariants as resolved;
     ghost use Rattle.mm_catalog.specs.Changes.{HasEffect, IsRefusedFor, IsDeclinedFor};
     ghost use Rattle.mm_catalog.specs.Picked.{ArePicked, HoldsRows};
@@ -201,7 +207,39 @@ impl UndoLog {
         Ok(())
     }
 
-    // Settles the newest step: what it hides is dropped, and it is noted no longer. It takes no memory.
+    /// Assigns values to rows of a table of a catalog, and notes what stood in their cells.
+    pub fn update(
+        &mut self,
+        catalog: &mut Catalog,
+        table: TableNumber,
+        rows: &[TupleRef],
+        assignments: &[Assignment],
+    ) -> Result<(), Refusal>
+        requires meant { OfTable table (database_of catalog.old) (AreAssignable (database_of catalog.old) assignments.now) }
+        requires held { HoldsRows catalog.old table.0 rows.now }
+        requires once { AllPairs (λ q r. q ≢ r) rows.now }
+        ensures updated { OnOk result ((picks : Row → Bool) → ArePicked catalog.old table.0 rows.now picks → HasEffect catalog.old catalog.new (doing.update (database_of catalog.old) table assignments.now picks) (length rows.now)) }
+        ensures noted { OnOk result (IsNoted (outline_of catalog.old) (outline_of catalog.new) self.old self.new) }
+        ensures refused { IfErr result (λ refusal. (refusal ≡ Refusal.NoMemory) ⊎ ((picks : Row → Bool) → (doing.update (database_of catalog.old) table assignments.now picks).outcome ≡ Refused refusal)) }
+        ensures kept { OnErr result (catalog.new ≡ catalog.old) }
+        ensures unchanged { OnErr result (self.new ≡ self.old) }
+    {
+        make_room(&mut self.steps, &mut self.refs, rows.len())?;
+        let cells = catalog.update_noted(table, rows, assignments)?;
+        let start = self.refs.len();
+        note_rows(&mut self.refs, rows);
+        self.steps.push_reserved(Step {
+            kind: Kind::Were {
+                width: assignments.len(),
+                cells,
+            },
+            table,
+            start,
+        });
+        Ok(())
+    }
+
+    // Settles the newest step: what it sets aside is let go, and it is noted no longer. It takes no memory.
     fn settle_newest(&mut self, catalog: &mut Catalog)
         requires some { 0 < length self.old.changes }
         requires ready { CanSettle self.old.changes (outline_of catalog.old) }
@@ -214,7 +252,7 @@ impl UndoLog {
         self.refs.truncate(step.start);
     }
 
-    /// If no transaction is open, settles all steps: what they hide is dropped, and they are noted no longer. It takes no
+    /// If no transaction is open, settles all steps: what they set aside is let go, and they are noted no longer. It takes no
     /// memory, and never fails.
     pub fn settle_all(&mut self, catalog: &mut Catalog)
         requires ready { CanSettle self.old.changes (outline_of catalog.old) }
@@ -270,6 +308,7 @@ fn undo_step(catalog: &mut Catalog, kind: Kind, table: TableNumber, rows: &[Tupl
     match kind {
         Kind::Came => catalog.take_back(table, rows),
         Kind::Went => catalog.show(table, rows),
+        Kind::Were { width, mut cells } => catalog.change_back(table, rows, width, &mut cells),
     }
 }
 
@@ -282,6 +321,7 @@ fn settle_step(catalog: &mut Catalog, kind: Kind, table: TableNumber, rows: &[Tu
     match kind {
         Kind::Came => {}
         Kind::Went => catalog.drop_hidden(table, rows),
+        Kind::Were { .. } => catalog.forgive(table, rows.len()),
     }
 }
 

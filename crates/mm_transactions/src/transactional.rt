@@ -9,7 +9,7 @@ use mm_catalog::Catalog;
 use mm_catalog::laws::a_catalog_is_consistent;
 use no_memory::NoMemory;
 use part_raw::TupleRef;
-use plain_tables::{Limits, Refusal, Sequence, TableNumber, Value};
+use plain_tables::{Assignment, Limits, Refusal, Sequence, TableNumber, Value};
 use std::alloc::Global;
 use std::marker::Model;
 
@@ -21,12 +21,14 @@ pub struct TransactionalCatalog {
 }
 
 impl Model for TransactionalCatalog {
+    ghost use Rattle.plain_tables.specs.contracts.numbers.ColumnNumber.{the_row as column_row};
+    ghost use Rattle.mm_relation.specs.contracts.row.Cell.{the_row as cell_row};
     ghost use Rattle.mm_catalog.specs.contracts.catalog.Catalog.{the_row as catalog_row};
     ghost use Rattle.mm_transactions.specs.State.{TransactionalState, IsUndoable, state_code};
 
     ghost Value = { TransactionalState };
 
-    ghost coded = { state_code catalog_row.coded };
+    ghost coded = { state_code catalog_row.coded column_row.coded cell_row.coded };
 
     ghost view = { λ t. record { catalog = t.catalog; changes = t.log.changes; marks = t.log.marks } };
 
@@ -35,7 +37,7 @@ impl Model for TransactionalCatalog {
 
 impl TransactionalCatalog {
     ghost use Rattle.plain_tables.specs.Doing.{done};
-    ghost use Rattle.plain_tables.specs.ResolvedLaws.{IsMeant};
+    ghost use Rattle.plain_tables.specs.ResolvedLaws.{AreAssignable, IsMeant, OfTable};
     ghost use Rattle.plain_tables.specs.Transactions.{begun, committed, rolled_back};
     ghost use Rattle.plain_tables.specs.declared.resolved.Resolved.TheVariants as resolved;
     ghost use Rattle.mm_catalog.specs.Changes.{HasEffect, IsRefusedFor, IsDeclinedFor};
@@ -184,6 +186,29 @@ impl TransactionalCatalog {
         }
         a_catalog_is_consistent(&self.catalog);
         self.log.delete(&mut self.catalog, table, rows)
+    }
+
+    /// Assigns values to rows of a table, or to none of them. In a transaction the answer is 90, too, where more than 16,777,216
+    /// rows of the table would be owed then.
+    pub fn update(
+        &mut self,
+        table: TableNumber,
+        rows: &[TupleRef],
+        assignments: &[Assignment],
+    ) -> Result<(), Refusal>
+        requires meant { OfTable table (database_of self.old.catalog) (AreAssignable (database_of self.old.catalog) assignments.now) }
+        requires held { HoldsRows self.old.catalog table.0 rows.now }
+        requires once { AllPairs (λ q r. q ≢ r) rows.now }
+        ensures updated { OnOk result ((picks : Row → Bool) → ArePicked self.old.catalog table.0 rows.now picks → HasEffect self.old.catalog self.new.catalog (doing.update (database_of self.old.catalog) table assignments.now picks) (length rows.now)) }
+        ensures refused { IfErr result (λ refusal. (refusal ≡ Refusal.NoMemory) ⊎ ((picks : Row → Bool) → (doing.update (database_of self.old.catalog) table assignments.now picks).outcome ≡ Refused refusal)) }
+        ensures unchanged { OnErr result (self.new ≡ self.old) }
+        ensures saved { saved_of self.new ≡ saved_of self.old }
+    {
+        if self.log.depth() == 0 {
+            return self.catalog.update(table, rows, assignments);
+        }
+        a_catalog_is_consistent(&self.catalog);
+        self.log.update(&mut self.catalog, table, rows, assignments)
     }
 
     /// The tables, to be changed in any way where no transaction is open.
