@@ -83,7 +83,7 @@ impl Executor {
         u64::from(self.tables.catalog().limits().block)
     }
 
-    // Refuses a declaration and an update while a transaction is open.
+    // Refuses a declaration while a transaction is open.
     fn check_outside(&self, command: &Resolved) -> Result<(), Refusal>
         ensures ok { OnOk result (CanBeDone (saved_of self.now.tables) command.now) }
         ensures refused { IfErr result (λ e. e ≡ refusal.NoMemory) }
@@ -94,7 +94,6 @@ impl Executor {
             | Resolved::DropTable { .. }
             | Resolved::Index { .. }
             | Resolved::DropIndex { .. }
-            | Resolved::Update { .. }
                 if self.tables.transactions() > 0 => { Err(Refusal::NoMemory) }
             _ => Ok(()),
         }

@@ -200,7 +200,7 @@ impl Session {
     }
 
     /// Does an insert, an update or a delete beside the stream, and tells how many rows it was about. The stream goes on as before. A
-    /// delete by the key needs no memory where no transaction is open. In one an update is refused, as out of memory.
+    /// delete by the key needs no memory where no transaction is open.
     pub fn change(&mut self, command: &Resolved) -> Result<usize, Refusal>
         requires meant { IsMeant self.old.limits self.old.database command.now }
         requires change { IsChange command.now }

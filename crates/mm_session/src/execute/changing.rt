@@ -13,27 +13,27 @@ ghost use Rattle.mm_session.specs.Changing.{IsChange, IsDeleteByKey};
 
 use super::Executor;
 use super::search::rows_passing;
-use mm_catalog::Catalog;
 use mm_transactions::TransactionalCatalog;
 use plain_tables::{Assignment, Refusal, Resolved, TableNumber, Test, Value};
 use plan_chooser::Policy;
 use std::alloc::Global;
 
-// Sets values in the rows of a table that pass the tests, and tells how many these are.
+// Sets values in the rows of a table that pass the tests, and tells how many these are. After a refusal the tables are as before.
 fn update_rows(
     alloc: Global,
     policy: Policy,
-    catalog: &mut Catalog,
+    tables: &mut TransactionalCatalog,
     table: TableNumber,
     assignments: &[Assignment],
     tests: &[Test],
 ) -> Result<usize, Refusal>
-    requires { IsMeant catalog.old.limits (database_of catalog.old) (resolved.Update table assignments.now tests.now) }
-    ensures done { IfOk result (HasEffect catalog.old catalog.new (done catalog.old.limits (database_of catalog.old) (resolved.Update table assignments.now tests.now))) }
-    ensures refused { IfErr result (IsRefusedFor catalog.old catalog.new (done catalog.old.limits (database_of catalog.old) (resolved.Update table assignments.now tests.now))) }
+    requires { IsMeant tables.old.catalog.limits (database_of tables.old.catalog) (resolved.Update table assignments.now tests.now) }
+    ensures done { IfOk result (HasEffect tables.old.catalog tables.new.catalog (done tables.old.catalog.limits (database_of tables.old.catalog) (resolved.Update table assignments.now tests.now))) }
+    ensures refused { IfErr result (IsRefusedFor tables.old.catalog tables.new.catalog (done tables.old.catalog.limits (database_of tables.old.catalog) (resolved.Update table assignments.now tests.now))) }
+    ensures saved { saved_of tables.new ≡ saved_of tables.old }
 {
-    let rows = rows_passing(alloc, policy, catalog, table, tests)?;
-    catalog.update(table, &rows, assignments)?;
+    let rows = rows_passing(alloc, policy, tables.catalog(), table, tests)?;
+    tables.update(table, &rows, assignments)?;
     Ok(rows.len())
 }
 
@@ -69,8 +69,7 @@ impl Executor {
         self.tables.insert(table, values)
     }
 
-    /// Does an insert, an update or a delete, and tells how many rows it is about. After a refusal the tables are as before. In a
-    /// transaction an update is refused.
+    /// Does an insert, an update or a delete, and tells how many rows it is about. After a refusal the tables are as before.
     pub fn change(&mut self, command: &Resolved) -> Result<usize, Refusal>
         requires meant { IsMeant self.old.tables.catalog.limits (database_of self.old.tables.catalog) command.now }
         requires change { IsChange command.now }
@@ -80,7 +79,6 @@ impl Executor {
         ensures by_key { saved_of self.old.tables ≡ [] → IsDeleteByKey command.now → result ≢ Err refusal.NoMemory }
         ensures saved { saved_of self.new.tables ≡ saved_of self.old.tables }
     {
-        self.check_outside(command)?;
         match command {
             Resolved::Insert { table, values } => {
                 self.insert(*table, values.as_slice())?;
@@ -93,7 +91,7 @@ impl Executor {
             } => update_rows(
                 self.alloc,
                 self.policy,
-                self.tables.outside(),
+                &mut self.tables,
                 *table,
                 assignments.as_slice(),
                 tests.as_slice(),
