@@ -11,7 +11,7 @@ use Rattle.plain_tables.specs.declared.command.Command.{Command}
 use Rattle.plain_tables.specs.declared.command.Command.TheVariants as command
 use Rattle.plain_tables.proofs.FirstWords.{behind_word, first_word, split-word}
 use Rattle.plain_streams.specs.Requests.{without_return}
-use Rattle.mm_prepared.specs.Declaring.{IsDeclaration, IsOfTables, begins_declaration, begins_waiting, behind_blanks, declares, is_declaration}
+use Rattle.mm_prepared.specs.Declaring.{IsDeclaration, IsOfTables, begins_waiting, behind_blanks, declares}
 
 -- whether a text begins with a word
 abbrev pub begins : List ℕ → List ℕ → Bool
@@ -72,7 +72,7 @@ some-name [] (c ∷ characters) rest name named none = cc
 some-name (b ∷ blanks) characters rest name named none = cc
 
 -- what is no letter is not the last letter of the word of the list of tables
-no-letter : (c : ℕ) (more : List ℕ) → IsFalse (is_word_character c) → begins_declaration (codes "table" ++ (c ∷ more)) ≡ true
+no-letter : (c : ℕ) (more : List ℕ) → IsFalse (is_word_character c) → begins_waiting (codes "table" ++ (c ∷ more)) ≡ true
 no-letter c more ends = elim (cases_eq c 115) [
   | inl is ↦ absurd (true≢false (subst (λ (n : ℕ). is_word_character n ≡ false) is ends))
   | inr other ↦ grind arith
@@ -80,7 +80,7 @@ no-letter c more ends = elim (cases_eq c 115) [
 
 -- the word of a declared table does not go on as that of the list of tables does
 table-begins : (line name : List ℕ) (symbols : List Symbol) → IsMadeOf (without_return line) (Keyword (codes "table") ∷ Name name ∷ symbols)
-    → begins_declaration (behind_blanks line) ≡ true
+    → begins_waiting (behind_blanks line) ≡ true
 table-begins line name symbols (blanks, characters, [], are, is, ends, (spaces, letters, more, _, named, _, _, none), whole) =
     absurd (some-name spaces letters more name named (sym none))
 table-begins line name symbols (blanks, characters, (c ∷ rest), are, is, ends, others, whole) =
@@ -90,29 +90,23 @@ table-begins line name symbols (blanks, characters, (c ∷ rest), are, is, ends,
     let all : line ≡ blanks ++ (word ++ (c ∷ (rest ++ tail))) =
     front ∙ (ap (λ l. l ++ tail) text ∙ append_assoc blanks (word ++ (c ∷ rest)) tail) in
     let same : behind_blanks line ≡ word ++ (c ∷ (rest ++ tail)) = ap behind_blanks all ∙ behind-blanks blanks (word ++ (c ∷ (rest ++ tail))) are in
-    ap begins_declaration same ∙ no-letter c (rest ++ tail) ends
+    ap begins_waiting same ∙ no-letter c (rest ++ tail) ends
 
 -- the other declarations begin with words of their own
 other-begins : (line word : List ℕ) (symbols : List Symbol) → ((more : List ℕ) → behind_blanks (word ++ more) ≡ word ++ more)
-    → ((more : List ℕ) → begins_declaration (word ++ more) ≡ true) → IsMadeOf (without_return line) (Keyword word ∷ symbols)
-    → begins_declaration (behind_blanks line) ≡ true
+    → ((more : List ℕ) → begins_waiting (word ++ more) ≡ true) → IsMadeOf (without_return line) (Keyword word ∷ symbols)
+    → begins_waiting (behind_blanks line) ≡ true
 other-begins line word symbols plain begins made =
     let (more, is) = word-behind line word symbols plain made in
-    ap begins_declaration is ∙ begins more
-
-declaration-begins : (line : List ℕ) → IsDeclaration (without_return line) → begins_declaration (behind_blanks line) ≡ true
-declaration-begins line (command.Table name schema, spells, of) =
-    table-begins line name (Sign Open ∷ (separated (map column_symbols schema.columns) ++ (Sign Close ∷ []))) spells.2
-declaration-begins line (command.DropTable name, spells, of) =
-    other-begins line (codes "drop") (behind_word (command.DropTable name)) (λ more. refl) (λ more. refl) spells.2
-declaration-begins line (command.Index table column kind, spells, of) =
-    other-begins line (codes "index") (behind_word (command.Index table column kind)) (λ more. refl) (λ more. refl) spells.2
-declaration-begins line (command.DropIndex table column kind, spells, of) =
-    other-begins line (codes "drop") (behind_word (command.DropIndex table column kind)) (λ more. refl) (λ more. refl) spells.2
-declaration-begins line (c, spells, of) = absurd (false≢true of)
-
-begins-waits : (text : List ℕ) → begins_declaration text ≡ true → begins_waiting text ≡ true
-begins-waits text is = rw is refl
+    ap begins_waiting is ∙ begins more
 
 pub declaration-waits : (line : List ℕ) → IsDeclaration (without_return line) → begins_waiting (behind_blanks line) ≡ true
-declaration-waits line of = begins-waits (behind_blanks line) (declaration-begins line of)
+declaration-waits line (command.Table name schema, spells, of) =
+    table-begins line name (Sign Open ∷ (separated (map column_symbols schema.columns) ++ (Sign Close ∷ []))) spells.2
+declaration-waits line (command.DropTable name, spells, of) =
+    other-begins line (codes "drop") (behind_word (command.DropTable name)) (λ more. refl) (λ more. refl) spells.2
+declaration-waits line (command.Index table column kind, spells, of) =
+    other-begins line (codes "index") (behind_word (command.Index table column kind)) (λ more. refl) (λ more. refl) spells.2
+declaration-waits line (command.DropIndex table column kind, spells, of) =
+    other-begins line (codes "drop") (behind_word (command.DropIndex table column kind)) (λ more. refl) (λ more. refl) spells.2
+declaration-waits line (c, spells, of) = absurd (false≢true of)

@@ -32,11 +32,7 @@ abbrev pub IsDeclaration : List ℕ → Type 0
 IsDeclaration line = (c : Command) × Spells line c × IsTrue (is_declaration c)
 
 -- whether a text begins with the first word of a declaration, which is not that of the list of tables
-abbrev pub begins_declaration : List ℕ → Bool
-begins_declaration text =
+abbrev pub begins_waiting : List ℕ → Bool
+begins_waiting text =
     (starts_with nat_eq text (codes "table") && not (starts_with nat_eq text (codes "tables")))
     || (starts_with nat_eq text (codes "index") || starts_with nat_eq text (codes "drop"))
-
--- whether a text begins with the first word of a declaration or of an update
-abbrev pub begins_waiting : List ℕ → Bool
-begins_waiting text = begins_declaration text || starts_with nat_eq text (codes "update")

@@ -23,19 +23,16 @@ pub fn may_declare(line: &[u8]) -> bool
     text.starts_with(b"table") || text.starts_with(b"drop")
 }
 
-// Whether a text begins with the first word of a declaration or of an update.
+// Whether a text begins with the first word of a declaration, which is not that of the list of tables.
 fn is_waiting(text: &[u8]) -> bool
     ensures { result ≡ begins_waiting text.now }
 {
     let is_table = text.starts_with(b"table") && !text.starts_with(b"tables");
-    is_table
-        || text.starts_with(b"index")
-        || text.starts_with(b"drop")
-        || text.starts_with(b"update")
+    is_table || text.starts_with(b"index") || text.starts_with(b"drop")
 }
 
-/// Whether a line waits until no transaction is open: it begins as those do that declare or drop a table or an index, or as an
-/// update. So every declaration waits.
+/// Whether a line waits until no transaction is open: it begins as those do that declare or drop a table or an index. So every
+/// declaration waits.
 pub fn waits_in_transaction(line: &[u8]) -> bool
     ensures value { result ≡ begins_waiting (behind_blanks line.now) }
     ensures declarations { IsDeclaration (without_return line.now) → IsTrue result }
