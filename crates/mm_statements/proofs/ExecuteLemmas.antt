@@ -84,7 +84,6 @@ pub unresolved-unfinished : (tables : Database) (statements : Statements) (numbe
 unresolved-unfinished tables statements number fault.NoSuchStatement none = none
 unresolved-unfinished tables statements number fault.TooLong never = never
 unresolved-unfinished tables statements number fault.Shared never = never
-unresolved-unfinished tables statements number fault.InTransaction never = never
 unresolved-unfinished tables statements number (fault.Refused why) says = λ other.
     let r = says other in
     record { prepared = r.prepared; there = r.there; statement = r.statement; spelled = r.spelled; means = r.refuses r.prepared.bound }
@@ -142,7 +141,6 @@ pub unfinished-declined : (held : Held) (statements : Statements) (number : ℕ)
     → IsUnfinished held.session.database statements number e → IsDeclined (state_of held statements) number e
 unfinished-declined held statements number fault.TooLong never = tt
 unfinished-declined held statements number fault.Shared never = absurd never
-unfinished-declined held statements number fault.InTransaction never = absurd never
 unfinished-declined held statements number fault.NoSuchStatement none = statement-seen held statements number ∙ ap (option_map seen) none
 unfinished-declined held statements number (fault.Refused why) says = λ other. effect-of held statements number (Err why) (says other)
 
@@ -173,7 +171,6 @@ pub change-undone : (old : Held) (new : State) (statements : Statements) (number
     → IsDeclined (state_of old statements) number (execute_fault_of_change f)
 change-undone old new statements number c (changing.Refused why) finished change undone = change-declined old new statements number c why finished undone
 change-undone old new statements number c changing.Shared finished change undone = change-of old statements number c finished change
-change-undone old new statements number c changing.InTransaction finished change undone = (undone, change-of old statements number c finished change)
 
 -- ---- what stays
 
@@ -224,4 +221,3 @@ unresolved-apart tables statements number fault.NoSuchStatement none is = cc
 unresolved-apart tables statements number (fault.Refused why) says is = cc
 unresolved-apart tables statements number fault.TooLong never is = never
 unresolved-apart tables statements number fault.Shared never is = never
-unresolved-apart tables statements number fault.InTransaction never is = never

@@ -108,7 +108,6 @@ pub change-unanswered : (old new : State) (line : List ℕ) (r : Resolved) (f : 
     → IsUndone old new (done old.limits old.database r) f → IsUnanswered old line (query_fault_of_change f)
 change-unanswered old new line r (changing.Refused why) means change undone = change-unqueried old new line r why means undone
 change-unanswered old new line r changing.Shared means change undone = (r, means, change)
-change-unanswered old new line r changing.InTransaction means change undone = (undone, (r, means, change))
 
 -- ---- what the cells of a select don't take
 

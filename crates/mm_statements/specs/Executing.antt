@@ -48,14 +48,13 @@ pub record IsChangeOf (database : DatabaseState) (number : ℕ) : Type 0 where
   pub change : IsChange command
 
 -- The number names no statement; or the refusal is the effect, unless there was no memory. What it shows may be too long for cells. A
--- change is declined while another database shares the tables, and may be in a transaction.
+-- change is declined while another database shares the tables.
 abbrev pub IsDeclined : DatabaseState → ℕ → ExecuteFault → Type 0
 IsDeclined database number fault.NoSuchStatement = statement_at database number ≡ None
 IsDeclined database number (fault.Refused why) =
     why ≢ NoMemory → IsEffectOf database number (refused database.session.database why)
 IsDeclined database number fault.TooLong = Unit {0}
 IsDeclined database number fault.Shared = IsChangeOf database number
-IsDeclined database number fault.InTransaction = (database.session.saved ≢ []) × IsChangeOf database number
 
 -- the columns of what a resolved command shows of these tables
 abbrev pub columns_of : Database → Resolved → List Value
@@ -86,4 +85,3 @@ IsUntold database number fault.NoSuchStatement = statement_at database number �
 IsUntold database number (fault.Refused why) = why ≢ NoMemory → IsRefusedEver database number why
 IsUntold database number fault.TooLong = ⊥
 IsUntold database number fault.Shared = ⊥
-IsUntold database number fault.InTransaction = ⊥

@@ -1,11 +1,8 @@
 -- Faults: what a refusal is among the faults of preparing, a fault of cells among those of executing and of querying, and a fault of a
 -- session among those of a stream.
-use Rattle.std.specs.Prelude.{◌≢◌, []}
 use Rattle.plain_tables.specs.Effects.{Effect}
 use Rattle.plain_tables.specs.declared.refusal.Refusal.{Refusal}
 use Rattle.plain_tables.specs.declared.refusal.Refusal.TheVariants as refusal
-use Rattle.plain_tables.specs.declared.resolved.Resolved.{Resolved}
-use Rattle.plain_tables.specs.declared.resolved.Resolved.TheVariants as resolved
 use Rattle.mm_cells.specs.declared.fault.CellFault.{CellFault}
 use Rattle.mm_cells.specs.declared.fault.CellFault.TheVariants as cells
 use Rattle.mm_session.specs.Changing.{HasDeclined}
@@ -46,20 +43,12 @@ stream_fault_of session.Ended = streaming.Ended
 abbrev pub execute_fault_of_change : ChangeFault → ExecuteFault
 execute_fault_of_change (changing.Refused why) = executing.Refused why
 execute_fault_of_change changing.Shared = executing.Shared
-execute_fault_of_change changing.InTransaction = executing.InTransaction
 
 abbrev pub query_fault_of_change : ChangeFault → QueryFault
 query_fault_of_change (changing.Refused why) = querying.Refused why
 query_fault_of_change changing.Shared = querying.Shared
-query_fault_of_change changing.InTransaction = querying.InTransaction
 
--- the session declined the change, unless another database shares it, or a transaction is open
+-- the session declined the change, unless another database shares it
 abbrev pub IsUndone : State → State → Effect → ChangeFault → Type 0
 IsUndone old new effect (changing.Refused why) = HasDeclined old new effect why
 IsUndone old new effect changing.Shared = Unit {0}
-IsUndone old new effect changing.InTransaction = old.saved ≢ []
-
--- an update
-abbrev pub IsRewriting : Resolved → Type 0
-IsRewriting (resolved.Update n assignments tests) = Unit {0}
-IsRewriting r = ⊥

@@ -1,5 +1,5 @@
 -- Querying: what comes of a line of which no statement is kept.
-use Rattle.std.specs.Prelude.{◌≡◌, ◌≢◌, ℕ, ◌<◌, ◌≤◌, List, [], Bool, true, false, length, IsTrue, Result, Ok}
+use Rattle.std.specs.Prelude.{◌≡◌, ℕ, ◌<◌, ◌≤◌, List, [], Bool, true, false, length, IsTrue, Result, Ok}
 use Rattle.std.specs.Str.{IsUtf8}
 use Rattle.plain_tables.specs.Commands.{effect_of}
 use Rattle.plain_tables.specs.Databases.{Database}
@@ -63,9 +63,8 @@ abbrev pub IsChangeOfLine : Database → List ℕ → Type 0
 IsChangeOfLine tables line = (command : Resolved) × IsMeaningOfLine tables line (Ok command) × IsChange command
 
 -- The refusal is why nothing comes of a line; or the line can be read, and what it shows is too long for cells. A change is declined
--- while another database shares the tables, and may be in a transaction.
+-- while another database shares the tables.
 abbrev pub IsUnanswered : State → List ℕ → QueryFault → Type 0
 IsUnanswered session line (fault.Refused why) = IsUnqueried session line why
 IsUnanswered session line fault.TooLong = IsReadable line
 IsUnanswered session line fault.Shared = IsChangeOfLine session.database line
-IsUnanswered session line fault.InTransaction = (session.saved ≢ []) × IsChangeOfLine session.database line

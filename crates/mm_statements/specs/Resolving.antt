@@ -50,7 +50,6 @@ IsUnresolved tables statements number fault.NoSuchStatement = named statements n
 IsUnresolved tables statements number (fault.Refused why) = why ≢ NoMemory → IsRefusing tables statements number why
 IsUnresolved tables statements number fault.TooLong = ⊥
 IsUnresolved tables statements number fault.Shared = ⊥
-IsUnresolved tables statements number fault.InTransaction = ⊥
 
 -- an insert, an update, a delete or a select
 abbrev pub IsOfRows : Resolved → Type 0
@@ -63,4 +62,3 @@ IsUnfinished tables statements number fault.NoSuchStatement = named statements n
 IsUnfinished tables statements number (fault.Refused why) = why ≢ NoMemory → IsFinished tables statements number (Err why)
 IsUnfinished tables statements number fault.TooLong = ⊥
 IsUnfinished tables statements number fault.Shared = ⊥
-IsUnfinished tables statements number fault.InTransaction = ⊥

@@ -46,7 +46,8 @@ pub struct PreparedLine<'a> {
 /// the values that are bound then.
 ///
 /// Several databases may share a session. Each has statements of its own, and reads the tables. Only the last that is left changes
-/// them; the others are refused by `Shared`. In a transaction rows are inserted, loaded, deleted and read; all else is refused by `InTransaction`.
+/// them; the others are refused by `Shared`. In a transaction declarations, drops, pieces of the stream, sharing and leaving are refused by
+/// `InTransaction`. All other changes are done there, and a rollback undoes them.
 #[derive(Drop)]
 pub struct Database {
     held: SharedSession,
@@ -256,7 +257,7 @@ impl Database {
         ensures stream { StaysInStream self.old.session self.new.session }
         ensures run { OnOk result (GoesBetween self.old.session self.new.session (record { line = line.now; block = block.now }) answer.new) }
 
-        // In a transaction a request is declined whose line begins as a declaration or an update.
+        // In a transaction a request is declined whose line begins as a declaration.
         ensures open { IsErrOf result request_fault.InTransaction → (self.old.session.saved ≢ []) × (begins_waiting (behind_blanks line.now) ≡ true) }
         ensures waits { self.old.session.saved ≢ [] → begins_waiting (behind_blanks line.now) ≡ true → result ≡ Err request_fault.InTransaction }
 

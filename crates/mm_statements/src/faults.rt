@@ -52,8 +52,6 @@ pub enum ExecuteFault {
     TooLong,
     /// It is an insert, an update or a delete, and another database shares the tables.
     Shared,
-    /// It is an update, and a transaction is open.
-    InTransaction,
 }
 
 impl From<Refusal> for ExecuteFault {
@@ -102,8 +100,6 @@ pub enum QueryFault {
     TooLong,
     /// It is an insert, an update or a delete, and another database shares the tables.
     Shared,
-    /// It is an update, and a transaction is open.
-    InTransaction,
 }
 
 impl From<Refusal> for QueryFault {
@@ -138,7 +134,7 @@ pub enum RequestFault {
     NotOneRequest,
     /// Another database shares the tables.
     Shared,
-    /// A transaction is open, and the line begins as a declaration or an update.
+    /// A transaction is open, and the line begins as a declaration.
     InTransaction,
 }
 
@@ -187,8 +183,6 @@ pub enum ChangeFault {
     Refused(Refusal),
     /// Another database shares the tables.
     Shared,
-    /// It is an update, and a transaction is open.
-    InTransaction,
 }
 
 impl From<Refusal> for ChangeFault {
@@ -212,7 +206,6 @@ impl From<ChangeFault> for ExecuteFault {
         match why {
             ChangeFault::Refused(why) => ExecuteFault::Refused(why),
             ChangeFault::Shared => ExecuteFault::Shared,
-            ChangeFault::InTransaction => ExecuteFault::InTransaction,
         }
     }
 }
@@ -227,7 +220,6 @@ impl From<ChangeFault> for QueryFault {
         match why {
             ChangeFault::Refused(why) => QueryFault::Refused(why),
             ChangeFault::Shared => QueryFault::Shared,
-            ChangeFault::InTransaction => QueryFault::InTransaction,
         }
     }
 }

@@ -15,7 +15,7 @@ ghost use Rattle.mm_prepared.specs.Declaring.{begins_waiting, behind_blanks};
 ghost use Rattle.mm_session.specs.OneRequest.{AnswersOne, GoesBetween, IsAtSamePlace, StaysInStream};
 ghost use Rattle.mm_transactions.specs.Log.{AreSettled};
 ghost use Rattle.mm_session.specs.Sessions.{BreaksOff, Feeds, Finishes, Gains, new_session, tables_of};
-ghost use Rattle.mm_statements.specs.Faults.{IsRewriting, IsUndone};
+ghost use Rattle.mm_statements.specs.Faults.{IsUndone};
 ghost use Rattle.mm_statements.specs.declared.faults.BeginFault.TheVariants as begin_fault;
 ghost use Rattle.mm_statements.specs.declared.faults.ChangeFault.TheVariants as change_fault;
 ghost use Rattle.mm_statements.specs.declared.faults.RequestFault.TheVariants as request_fault;
@@ -231,21 +231,17 @@ impl SharedSession {
         self.session().select(query, cells)
     }
 
-    /// Does an insert, an update or a delete, as the session does, where nobody else holds it. In a transaction an update is declined.
+    /// Does an insert, an update or a delete, as the session does, where nobody else holds it.
     pub fn change(&mut self, command: &Resolved) -> Result<usize, ChangeFault>
         requires meant { IsMeant self.old.session.limits self.old.session.database command.now }
         requires change { IsChange command.now }
         ensures done { IfOk result (HasChanged self.new.session (done self.old.session.limits self.old.session.database command.now)) }
         ensures refused { IfErr result (IsUndone self.old.session self.new.session (done self.old.session.limits self.old.session.database command.now)) }
         ensures unchanged { OnErr result (self.new ≡ self.old) }
-        ensures waits { self.old.session.saved ≢ [] → IsRewriting command.now → result ≡ Err change_fault.InTransaction }
         ensures shared { IsErrOf result change_fault.Shared → IsTrue self.old.shared }
         ensures keeps { self.new.shared ≡ self.old.shared }
         ensures stream { StaysInStream self.old.session self.new.session }
     {
-        if matches!(command, Resolved::Update { .. }) && self.is_in_transaction() {
-            return Err(ChangeFault::InTransaction);
-        }
         let Some(shared) = &mut self.shared else {
             return Ok(self.own.change(command)?);
         };
@@ -275,7 +271,7 @@ impl SharedSession {
     }
 
     /// Answers one request by itself, as the session does, where nobody else holds it. In a transaction one is declined whose line begins as
-    /// a declaration or an update.
+    /// a declaration.
     pub fn answer_request(
         &mut self,
         line: &[u8],
