@@ -125,9 +125,9 @@ typedef enum mmdb_status {
     MMDB_SHARED = 14,            /* mmdb_execute and mmdb_query of a change; mmdb_command, mmdb_load, mmdb_feed, mmdb_begin:
                                     another handle shares the tables. Nothing changed */
     MMDB_NO_TRANSACTION = 15,    /* mmdb_commit, mmdb_rollback: no transaction is open */
-    MMDB_IN_TRANSACTION = 16     /* what isn't done in a transaction yet: mmdb_execute and mmdb_query of an update;
-                                    mmdb_command and mmdb_load of a line that begins with table (and not tables), index,
-                                    drop or update; mmdb_feed, mmdb_share, mmdb_leave. Nothing changed */
+    MMDB_IN_TRANSACTION = 16     /* what isn't done in a transaction: mmdb_command and mmdb_load of a line that begins
+                                    with table (and not tables), index or drop; mmdb_feed, mmdb_share, mmdb_leave. Nothing
+                                    changed */
 } mmdb_status;
 
 /* How plans are chosen. No policy changes an answer, only what it costs. MMDB_AUTO is the one to take. */
@@ -154,8 +154,8 @@ uint32_t mmdb_open(mmdb *db, uint32_t policy, uint32_t rows, uint32_t block);
    before a line feed in any file. A line that asks for a block, as `load T 20` does, goes to mmdb_load.
    Gives MMDB_DONE and the answer, which is good until the next call on this handle: the bytes that the program mmdb
    writes for the line, none for blanks and comments. Or gives MMDB_NOT_OPEN or MMDB_NO_LINE; or MMDB_IN_TRANSACTION
-   where a transaction is open and the line begins with table (and not tables), index, drop or update; or MMDB_SHARED,
-   whatever line it is; or MMDB_NOT_ONE_REQUEST. */
+   where a transaction is open and the line begins with table (and not tables), index or drop; or MMDB_SHARED, whatever
+   line it is; or MMDB_NOT_ONE_REQUEST. */
 uint32_t mmdb_command(mmdb *db, const void *line, size_t length, mmdb_bytes *answer);
 
 /* Answers one line with the block that it asks for: `load T 20` with 20 bytes. Answer and statuses are as those of
@@ -187,8 +187,7 @@ uint32_t mmdb_bind_null(mmdb *db, uint32_t statement, uint32_t place);
    Gives MMDB_DONE: and of a select its rows, which are good until this statement is executed again or finalised, or the
    handle is closed; of the others `changed`, and no rows. Or gives MMDB_REFUSED as the line with these values would be,
    in the same order, and by 90 when out of memory; MMDB_TOO_LARGE where the texts of its rows are more than 4 GiB
-   together; MMDB_SHARED where it is no select, its names and values are right, and another handle shares the tables;
-   MMDB_IN_TRANSACTION where it is an update whose names and values are right, and a transaction is open; or
+   together; MMDB_SHARED where it is no select, its names and values are right, and another handle shares the tables; or
    MMDB_NOT_OPEN or MMDB_NO_SUCH_STATEMENT. */
 uint32_t mmdb_execute(mmdb *db, uint32_t statement, mmdb_rows *rows);
 
@@ -211,8 +210,8 @@ uint32_t mmdb_finalize(mmdb *db, uint32_t statement);
    whatever other calls there are; of the others `changed`, and no rows. Or gives MMDB_NOT_OPEN or MMDB_NO_LINE; or
    MMDB_REFUSED as mmdb_command would be answered, in the same order, and by 90 when out of memory. A line feed, a ? in
    no text, blanks, comments and all other commands are 20, once the line is neither too long (10) nor other than UTF-8
-   (11). Or gives MMDB_TOO_LARGE where the texts of the rows are more than 4 GiB together; or MMDB_SHARED or
-   MMDB_IN_TRANSACTION as mmdb_execute does. */
+   (11). Or gives MMDB_TOO_LARGE where the texts of the rows are more than 4 GiB together; or MMDB_SHARED as mmdb_execute
+   does. */
 uint32_t mmdb_query(mmdb *db, const void *line, size_t length, mmdb_rows *rows);
 
 /* Takes the next bytes of a stream of lines and blocks, cut wherever it may be, and answers each request that ends in

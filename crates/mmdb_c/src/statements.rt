@@ -42,8 +42,6 @@ pub enum Unexecuted {
     TooLong,
     /// It changes the tables, which another handle shares.
     Shared,
-    /// It is an update, and a transaction is open.
-    InTransaction,
 }
 
 // Makes sure of cells for the values that the statement of a number shows.
@@ -64,7 +62,6 @@ impl Database {
     ghost use Rattle.mm_cells.specs.Values.{values_of};
     ghost use Rattle.mm_statements.specs.Executing.{IsDeclined};
     ghost use Rattle.mmdb_c.specs.Sharing.{IsKeptOff, IsLineKeptOff, IsShared};
-    ghost use Rattle.mmdb_c.specs.Transacting.{IsLinePutOff, IsPutOff};
 
     /// Keeps the statement that a line spells; the answer is empty then. Where it is refused, that is the answer, and at another fault
     /// the answer stays.
@@ -147,7 +144,6 @@ impl Database {
         ensures refused { IsErrOf result unexecuted.Refused → IsUnexecuted number self.old self.new }
         ensures too_long { result ≡ Err unexecuted.TooLong → AreFull (shown_by self.new number) }
         ensures shared { IsErrOf result unexecuted.Shared → IsKeptOff number self.old self.new }
-        ensures put_off { IsErrOf result unexecuted.InTransaction → IsPutOff number self.old self.new }
         ensures unchanged { OnErr result (KeepsAll self.old self.new) }
         ensures others { KeepsOthers number self.old self.new }
         ensures untold { OnErr result (rows.new ≡ rows.old) }
@@ -170,7 +166,6 @@ impl Database {
             }
             Err(ExecuteFault::TooLong) => Err(Unexecuted::TooLong),
             Err(ExecuteFault::Shared) => Err(Unexecuted::Shared),
-            Err(ExecuteFault::InTransaction) => Err(Unexecuted::InTransaction),
         }
     }
 
@@ -185,7 +180,6 @@ impl Database {
         ensures unchanged { KeepsAll self.old self.new }
         ensures shown { KeepsShown self.old self.new }
         ensures reads { ¬ (IsErrOf result unexecuted.Shared) }
-        ensures at_once { ¬ (IsErrOf result unexecuted.InTransaction) }
     {
         let number = number as usize;
         if !self.inner.has(number) {
@@ -201,7 +195,7 @@ impl Database {
             }
             Err(ExecuteFault::TooLong) => Err(Unexecuted::TooLong),
             // It changes no tables.
-            Err(ExecuteFault::Shared | ExecuteFault::InTransaction) => unreachable!(),
+            Err(ExecuteFault::Shared) => unreachable!(),
         }
     }
 
@@ -209,10 +203,9 @@ impl Database {
     /// kept; where it is refused, that is the answer, and else the answer is empty.
     pub fn query(&mut self, alloc: Global, line: &[u8], rows: &mut Rows) -> Result<(), QueryFault>
         ensures done { OnOk result (Queries line.now self.old self.new rows.new) }
-        ensures refused { IfErr result (λ e. e ≢ querying.TooLong → e ≢ querying.Shared → e ≢ querying.InTransaction → IsUnqueried line.now self.old self.new) }
+        ensures refused { IfErr result (λ e. e ≢ querying.TooLong → e ≢ querying.Shared → IsUnqueried line.now self.old self.new) }
         ensures too_long { result ≡ Err querying.TooLong → AreFull (values_of self.new.queried) }
         ensures shared { IsErrOf result querying.Shared → IsLineKeptOff line.now self.old self.new }
-        ensures put_off { IsErrOf result querying.InTransaction → IsLinePutOff line.now self.old self.new }
         ensures unchanged { OnErr result (KeepsAll self.old self.new) }
         ensures statements { KeepsStatements self.old self.new }
         ensures untold { OnErr result (rows.new ≡ rows.old) }
@@ -229,7 +222,6 @@ impl Database {
             }
             Err(QueryFault::TooLong) => Err(QueryFault::TooLong),
             Err(QueryFault::Shared) => Err(QueryFault::Shared),
-            Err(QueryFault::InTransaction) => Err(QueryFault::InTransaction),
         }
     }
 }
