@@ -28,9 +28,9 @@ use crate::library::Handle;
 /// # Ok::<(), mmdb::Error>(())
 /// ```
 ///
-/// Rows are inserted, loaded, deleted and read in one. Updates and declarations aren't done in one yet
-/// ([`Error::InTransaction`]). A refused line changes nothing, and leaves the transaction open. Transactions that were begun in this one, and are open
-/// still, end as it does.
+/// Rows are inserted, loaded, updated, deleted and read in one. Declarations and drops aren't done in one yet
+/// ([`Error::InTransaction`]). A refused line changes nothing, and leaves the transaction open. Transactions that were begun in
+/// this one, and are open still, end as it does.
 ///
 /// The database is lent to the transaction, so there is one at a time, and another only in it, as a
 /// [`savepoint`](Transaction::savepoint):
