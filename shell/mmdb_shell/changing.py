@@ -13,7 +13,7 @@ if TYPE_CHECKING:
 @dotted(
     ".begin",
     "begins a transaction, or a savepoint in one",
-    "Inserts, loads and deletes are done in it, selects see them, and .rollback takes them back.\n"
+    "Inserts, loads, updates and deletes are done in it, selects see them, and .rollback takes them back.\n"
     "In a transaction it sets a savepoint: .commit and .rollback end the innermost.",
 )
 def _begin(shell: Shell) -> None:
@@ -33,8 +33,8 @@ def _rollback(shell: Shell) -> None:
 @dotted(
     ".undo",
     "takes the last change back",
-    "A change is a command that is done: an insert, a delete, a load, a .load, an .import, or a table or an index that is\n"
-    "declared. Updates and drops can't be undone. After .undo nothing more can be.",
+    "A change is a command that is done: an insert, an update, a delete, a load, a .load, an .import, or a table or an index\n"
+    "that is declared. Drops can't be undone. After .undo nothing more can be.",
 )
 def _undo(shell: Shell) -> None:
     shell.note(f"undone: {shell.transactions.undo()}")

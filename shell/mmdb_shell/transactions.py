@@ -24,8 +24,8 @@ Result = TypeVar("Result")
 _NO_COMMAND, _NO_MEMORY = (b"error 10 ", b"error 11 ", b"error 20 "), 90
 # The lines that change nothing, beside selects.
 _READING = (b"dump", b"tables")
-# How many changes are kept at most, and with how many rows before the last. (The library holds four bytes for each row, and each
-# row that is deleted.)
+# How many changes are kept at most, and with how many rows before the last. (The library holds four bytes for each row, each row
+# that is deleted, and each value that an update replaces.)
 _MOST_CHANGES, _MOST_ROWS = 64, 1_000_000
 #: Of a file or a pipe so many lines are kept, so that a long one takes no more time for it.
 MOST_LINES = 10_000
