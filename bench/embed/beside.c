@@ -1,7 +1,6 @@
 /* Times mmdb beside SQLite over `:memory:`, both in this process, on the same statements over a table of so many rows. By
-   the word `inserts` it times inserts into an empty one, and by `transactions` inserts that are rolled back. Each figure is
-   a line: what was done, the way of both, the microseconds of mmdb and those of SQLite. A statement's text is made within
-   its time, and the rows of a select are read. */
+   the word `inserts` it times inserts into an empty one. Each figure is a line: what was done, the way of both, the
+   microseconds of mmdb and those of SQLite. A statement's text is made within its time, and the rows of a select are read. */
 #define _POSIX_C_SOURCE 200809L
 #include "mmdb.h"
 
@@ -14,7 +13,6 @@
 
 enum { ROUNDS = 7, STATEMENTS = 10000, SELECTS = 100, MOST_NEW = 2000, LINE = 200 };
 enum { ROWS_OF_A_SELECT = 1000, ROWS_OF_A_BLOCK = 100000, INSERTS = 100000, LONGEST_ROW = 64 };
-enum { FIXTURES = 1000, INSERTS_OF_A_FIXTURE = 20 };
 
 typedef enum kind { SELECT, INSERT, UPDATE, DELETE, RANGE, KINDS } kind;
 
@@ -297,84 +295,6 @@ static void compare_inserts(void)
     tell("100,000 inserts", "statement", best[OUR_STATEMENT], best[THEIR_STATEMENT]);
 }
 
-/* How a transaction begins and ends, which is a savepoint in SQLite. */
-typedef enum step { BEGIN, COMMIT, ROLL_BACK, RELEASE, STEPS } step;
-
-static const char *const STEP_NAMES[STEPS] = { "savepoint s", "release s", "rollback to s", "release s" };
-static sqlite3_stmt *their_steps[STEPS];
-
-static void prepare_steps(void)
-{
-    for (int i = 0; i < STEPS; i++)
-        insist(sqlite3_prepare_v2(theirs, STEP_NAMES[i], -1, &their_steps[i], NULL) == SQLITE_OK, STEP_NAMES[i]);
-}
-
-static void finalize_steps(void)
-{
-    for (int i = 0; i < STEPS; i++)
-        sqlite3_finalize(their_steps[i]);
-}
-
-static void takes_step(way by, step of)
-{
-    static mmdb_status (*const OURS[RELEASE])(mmdb *) = { mmdb_begin, mmdb_commit, mmdb_rollback };
-    if (by == OUR_STATEMENT) {
-        insist(OURS[of](&ours) == MMDB_DONE, STEP_NAMES[of]);
-        return;
-    }
-    insist(sqlite3_step(their_steps[of]) == SQLITE_DONE, STEP_NAMES[of]);
-    sqlite3_reset(their_steps[of]);
-    if (of == ROLL_BACK)
-        takes_step(by, RELEASE);
-}
-
-/* The seconds of an insert in a transaction, of as many as the table has rows, and those that their rollback takes for each. */
-static void undone_inserts(way by, const int64_t *keys, double took[2])
-{
-    double before;
-    takes_step(by, BEGIN);
-    took[0] = batch(by, INSERT, keys, INSERTS) / INSERTS;
-    before = seconds();
-    takes_step(by, ROLL_BACK);
-    took[1] = (seconds() - before) / INSERTS;
-}
-
-/* The seconds of a fixture: a transaction with some inserts into a table of many rows, which is rolled back. */
-static double fixture(way by, const int64_t *keys)
-{
-    double before = seconds();
-    for (int i = 0; i < FIXTURES; i++) {
-        takes_step(by, BEGIN);
-        batch(by, INSERT, keys + i * INSERTS_OF_A_FIXTURE, INSERTS_OF_A_FIXTURE);
-        takes_step(by, ROLL_BACK);
-    }
-    return (seconds() - before) / FIXTURES;
-}
-
-static void compare_transactions(void)
-{
-    static const char *const what[] = { "insert to be undone", "its rollback", "20 inserts, undone" };
-    static int64_t keys[INSERTS], others[INSERTS];
-    double best[WAYS][3] = { { 1e9, 1e9, 1e9 }, { 1e9, 1e9, 1e9 }, { 1e9, 1e9, 1e9 }, { 1e9, 1e9, 1e9 } }, took[3];
-    prepare_steps();
-    shuffle(keys, INSERTS, 2, 0);
-    shuffle(others, INSERTS, 2, 1);
-    for (int turn = 0; turn < ROUNDS; turn++) {
-        for (way by = OUR_STATEMENT; by <= THEIR_STATEMENT; by++) {
-            batch(by, INSERT, keys, INSERTS);
-            undone_inserts(by, others, took);
-            took[2] = fixture(by, others);
-            for (int i = 0; i < 3; i++)
-                best[by][i] = took[i] < best[by][i] ? took[i] : best[by][i];
-        }
-        sqlite3_exec(theirs, "delete from t", NULL, NULL, NULL);
-        insist(mmdb_command(&ours, "delete t", 8, NULL) == MMDB_DONE, "delete t");
-    }
-    for (int i = 0; i < 3; i++)
-        tell(what[i], "statement", best[OUR_STATEMENT][i], best[THEIR_STATEMENT][i]);
-    finalize_steps();
-}
-
 static void load_block(const char *block, size_t length)
 {
     char line[LINE];
@@ -438,15 +358,12 @@ int main(int count, char **words)
 {
     int64_t rows = count == 2 ? strtoll(words[1], NULL, 10) : 0;
     int only_inserts = count == 2 && strcmp(words[1], "inserts") == 0;
-    int only_transactions = count == 2 && strcmp(words[1], "transactions") == 0;
     if (count == 2 && strcmp(words[1], "--version") == 0)
         return puts(sqlite3_libversion()) < 0;
-    insist(rows > 0 || only_inserts || only_transactions, "beside ROWS, beside inserts, and beside transactions,");
+    insist(rows > 0 || only_inserts, "beside ROWS and beside inserts");
     open_both();
     if (only_inserts)
         compare_inserts();
-    else if (only_transactions)
-        compare_transactions();
     else
         compare_all(rows);
     for (int i = 0; i < KINDS; i++)
