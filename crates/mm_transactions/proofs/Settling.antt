@@ -1,4 +1,4 @@
--- Changes that are settled: what they hide is dropped.
+-- Changes that are settled: what they set aside is let go.
 use Rattle.std.proofs.Common.{◌≡◌, ℕ, ◌+◌, ◌-◌, ◌≤◌, List, [], ◌∷◌, Some, None, IsSome, refl, sym, ap, ◌∙◌, subst, arith, length, map, set}
 use Rattle.std.specs.List.{All, slice_get}
 use Rattle.std.specs.Option.{option_map, option_map_or}
@@ -11,10 +11,11 @@ use Rattle.part_raw.specs.Store.{Tuples}
 use Rattle.part_raw.specs.declared.tuple_ref.TupleRef.{TupleRef}
 use Rattle.mm_relation.specs.Rows.{Row}
 use Rattle.mm_relation.specs.State.{RelationState}
-use Rattle.mm_catalog.specs.Outline.{HidesOnce, Outline, RelationOutline, changed_at, dropped, outline_of, shown, with_dropped, with_shown, without, without_rows}
+use Rattle.mm_catalog.specs.Assigned.{CellSet}
+use Rattle.mm_catalog.specs.Outline.{HidesOnce, Outline, OwesCells, OwesRows, RelationOutline, changed_at, changed_back, dropped, forgiven, outline_of, shown, with_changed_back, with_dropped, with_forgiven, with_shown, without, without_rows}
 use Rattle.mm_catalog.specs.State.{CatalogState}
 use Rattle.mm_transactions.specs.Log.{AreSettled, IsSettledOnce, LogState}
-use Rattle.mm_transactions.specs.Undoing.{Came, CanSettle, CanUndo, Change, Went, all_settled, set_aside}
+use Rattle.mm_transactions.specs.Undoing.{Came, CanSettle, CanUndo, Change, Went, Were, all_settled, set_aside}
 
 abbrev Aside : Type 0
 Aside = Tuples Row × ℕ
@@ -39,37 +40,53 @@ changed_not n xs =
       | Some x ↦ λ e. set_itself xs n x e
     ] refl
 
-abbrev let_go : List TupleRef → Aside → Aside
-let_go refs a = (without refs a.0, a.1 - length refs)
-
 aside_without : (n : ℕ) (refs : List TupleRef) (o : Outline) → set_aside (without_rows n refs o) ≡ set_aside o
 aside_without n refs o = aside_changed (λ s. record s { rows = without refs s.rows }) (λ x. x) (λ s. refl) n o.relations ∙ changed_not n (set_aside o)
 
--- what is set aside is let go, whether the rows are shown or dropped
-aside_gone : (n : ℕ) (refs : List TupleRef) (o p : Outline) → set_aside p ≡ set_aside o → set_aside (with_dropped n refs p) ≡ set_aside (with_shown n refs o)
-aside_gone n refs o p same =
-    aside_changed (dropped refs) (let_go refs) (λ s. refl) n p.relations ∙ ap (changed_at (let_go refs) n) same
-    ∙ sym (aside_changed (shown refs) (let_go refs) (λ s. refl) n o.relations)
+-- what is set aside is let go: hidden rows, and as many that are owed, or only these
+abbrev let_go : List TupleRef → Aside → Aside
+let_go refs a = (without refs a.0, a.1 - length refs)
 
-hides_same : (n : ℕ) (refs : List TupleRef) (o p : Outline) → set_aside p ≡ set_aside o → HidesOnce o n refs → HidesOnce p n refs
-hides_same n refs o p same hides =
-    let at : slice_get (map aside_in p.relations) n ≡ Some (aside_in hides.relation) =
-    ap (λ xs. slice_get xs n) same ∙ slice_get-map aside_in o.relations n ∙ ap (option_map aside_in) hides.there in
-    let t = option_map_some aside_in (slice_get p.relations n) (aside_in hides.relation) (sym (slice_get-map aside_in p.relations n) ∙ at) in
-    record {
-      relation = t.0;
-      there = t.1;
-      hidden = subst (λ (a : Aside). All (λ r. IsSome (get a.0 r)) refs) (sym t.2) hides.hidden;
-      once = hides.once;
-      owed = subst (λ (a : Aside). length refs + len (without refs a.0) ≤ a.1) (sym t.2) hides.owed;
-    }
+abbrev let_off : ℕ → Aside → Aside
+let_off count a = (a.0, a.1 - count)
+
+-- where the same is set aside, and two changes let the same go, what is left is the same
+module _ (n : ℕ) (o p : Outline) (same : set_aside p ≡ set_aside o) where
+  aside_alike : (f h : RelationOutline → RelationOutline) (g : Aside → Aside) → ((s : RelationOutline) → aside_in (f s) ≡ g (aside_in s)) → ((s : RelationOutline) → aside_in (h s) ≡ g (aside_in s))
+      → set_aside (record p { relations = changed_at f n p.relations }) ≡ set_aside (record o { relations = changed_at h n o.relations })
+  aside_alike f h g first second = aside_changed f g first n p.relations ∙ ap (changed_at g n) same ∙ sym (aside_changed h g second n o.relations)
+
+  there_too : (s : RelationOutline) → slice_get o.relations n ≡ Some s → (t : RelationOutline) × (slice_get p.relations n ≡ Some t) × (aside_in t ≡ aside_in s)
+  there_too s there =
+      let at : slice_get (map aside_in p.relations) n ≡ Some (aside_in s) = ap (λ xs. slice_get xs n) same ∙ slice_get-map aside_in o.relations n ∙ ap (option_map aside_in) there in
+      option_map_some aside_in (slice_get p.relations n) (aside_in s) (sym (slice_get-map aside_in p.relations n) ∙ at)
+
+  hides_same : (refs : List TupleRef) → HidesOnce o n refs → HidesOnce p n refs
+  hides_same refs hides =
+      let t = there_too hides.relation hides.there in
+      record {
+        relation = t.0;
+        there = t.1;
+        hidden = subst (λ (a : Aside). All (λ r. IsSome (get a.0 r)) refs) (sym t.2) hides.hidden;
+        once = hides.once;
+        owed = subst (λ (a : Aside). length refs + len (without refs a.0) ≤ a.1) (sym t.2) hides.owed;
+      }
+
+  owes_same : (refs : List TupleRef) (width : ℕ) (cells : List CellSet) → OwesCells o n refs width cells → OwesRows p n (length refs)
+  owes_same refs width cells owes =
+      let t = there_too owes.relation owes.there in
+      record { relation = t.0; there = t.1; owed = subst (λ (a : Aside). length refs + len a.0 ≤ a.1) (sym t.2) owes.owed }
 
 -- where changes can be undone they can be settled
 pub can_settle : (changes : List Change) (o p : Outline) → set_aside p ≡ set_aside o → CanUndo changes o → CanSettle changes p
 can_settle [] o p same can = tt
 can_settle (Came n refs ∷ changes) o p same can = (tt, can_settle changes (without_rows n refs o) p (same ∙ sym (aside_without n refs o)) can.2)
 can_settle (Went n refs ∷ changes) o p same can =
-    (hides_same n refs o p same can.0, can_settle changes (with_shown n refs o) (with_dropped n refs p) (aside_gone n refs o p same) can.2)
+    let left = aside_alike n o p same (dropped refs) (shown refs) (let_go refs) (λ s. refl) (λ s. refl) in
+    (hides_same n o p same refs can.0, can_settle changes (with_shown n refs o) (with_dropped n refs p) left can.2)
+can_settle (Were n refs width cells ∷ changes) o p same can =
+    let left = aside_alike n o p same (forgiven (length refs)) (changed_back refs width cells) (let_off (length refs)) (λ s. refl) (λ s. refl) in
+    (owes_same n o p same refs width cells can.0, can_settle changes (with_changed_back n refs width cells o) (with_forgiven n (length refs) p) left can.2)
 
 -- ---- what else stays
 

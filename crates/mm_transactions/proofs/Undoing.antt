@@ -15,7 +15,7 @@ use Rattle.mm_catalog.specs.State.{CatalogState}
 use Rattle.mm_transactions.specs.Log.{IsNoted, IsUndone, LogState}
 use Rattle.mm_transactions.specs.State.{IsUndoable, TransactionalState, database_at, saved_of, transactional_of}
 use Rattle.mm_transactions.specs.Tables.{tables_in}
-use Rattle.mm_transactions.specs.Undoing.{AreMarks, CanUndo, Came, Change, Went, before, undone}
+use Rattle.mm_transactions.specs.Undoing.{AreMarks, CanUndo, Came, Change, Went, Were, before, undone}
 use Rattle.mm_transactions.proofs.Tables.{tables_outlined}
 
 -- where no more changes had been noted since, it is what there is
@@ -30,6 +30,7 @@ undone_newest mark c changes o more = cond-false (nat_lt (length changes) mark) 
 before_limits : (c : Change) (o : Outline) → (before c o).limits ≡ o.limits
 before_limits (Came n refs) o = refl
 before_limits (Went n refs) o = refl
+before_limits (Were n refs width cells) o = refl
 
 undone_limits : (mark : ℕ) (changes : List Change) (o : Outline) → (undone mark changes o).limits ≡ o.limits
 undone_limits mark [] o = refl

@@ -13,6 +13,7 @@ use part_raw::TupleRef;
 use plain_tables::{Assignment, ColumnNumber, Refusal, Sequence, TableNumber, Value};
 use std::alloc::Global;
 use std::marker::Model;
+use std::mem::size_of;
 
 /// What a command did with rows of a table.
 #[derive(Drop)]
@@ -35,6 +36,8 @@ pub struct Step {
     table: TableNumber,
     start: usize,
 }
+
+const _: () = prove!(size_of::<Step>() == 56);
 
 // The most steps, and the most references, that a log keeps memory for when no transaction is open.
 const KEPT: usize = 256;

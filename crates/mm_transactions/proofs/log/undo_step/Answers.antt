@@ -1,5 +1,6 @@
-use Rattle.std.proofs.Common.{subst}
-use Rattle.mm_catalog.specs.Outline.{HoldsOnce, IsOutline, outline_of, without_rows}
+use Rattle.std.proofs.Common.{List, subst, sym}
+use Rattle.mm_catalog.specs.Assigned.{CellSet}
+use Rattle.mm_catalog.specs.Outline.{HoldsOnce, IsOutline, OwesCells, outline_of, with_changed_back, without_rows}
 use Rattle.mm_transactions.specs.Log.{change_of}
 use Rattle.mm_transactions.specs.Undoing.{IsReady, before}
 use Rattle.mm_transactions.proofs.Steps.{rows_free, rows_there, table_there}
@@ -26,3 +27,17 @@ pub take_back-requires-clause-free : goal.take_back-requires-clause-free
 take_back-requires-clause-free c =
     let at = (goal.at.take_back-requires-clause-free c).In-Came in
     rows_free c.args.catalog.now c.a_catalog_is_consistent.ensures c.args.table.0 c.args.rows.now (ready at) (stands at)
+
+pub change_back-requires-clause-owes : goal.change_back-requires-clause-owes
+change_back-requires-clause-owes c =
+    let n = c.args.table.0 in
+    let owes : OwesCells (outline_of c.args.catalog.now) n c.args.rows.now c.in-Were.width c.in-Were.cells.items =
+    subst (λ k. IsReady (change_of k n c.args.rows.now) (outline_of c.args.catalog.now)) c.in-Were.is c.requires.ready in
+    subst (λ (cells : List CellSet). OwesCells (outline_of c.args.catalog.now) n c.args.rows.now c.in-Were.width cells) (sym c.deref_mut.ensures.value) owes
+
+pub change_back-requires-clause-stands : goal.change_back-requires-clause-stands
+change_back-requires-clause-stands c =
+    let n = c.args.table.0 in
+    let stands : IsOutline (with_changed_back n c.args.rows.now c.in-Were.width c.in-Were.cells.items (outline_of c.args.catalog.now)) =
+    subst (λ k. IsOutline (before (change_of k n c.args.rows.now) (outline_of c.args.catalog.now))) c.in-Were.is c.requires.stands in
+    subst (λ (cells : List CellSet). IsOutline (with_changed_back n c.args.rows.now c.in-Were.width cells (outline_of c.args.catalog.now))) (sym c.deref_mut.ensures.value) stands
