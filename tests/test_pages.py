@@ -1,10 +1,12 @@
-"""The pages, the manual pages and the heads of files: no sentence is too long, no link is dead, and the pages stay within their lines.
+"""The pages, the manual pages and the heads of files: no sentence is too long, no link is dead, the pages stay within their lines, and
+each list of policies has all of them.
 
 What must hold: PAGES are the pages whose lines are counted. There are no exemptions.
 """
 
 import os
 import pathlib
+import re
 import subprocess
 import tempfile
 import unittest
@@ -20,6 +22,8 @@ MANUALS = sorted((ROOT / "docs" / "man").iterdir())
 OTHERS = [ROOT / name / "README.md" for name in ("docs/papers", "bench", "release", "bindings/python", "bindings/rust")]
 FOLDERS = ("bench", "bindings", "crates", "docs", "examples", "include", "release", "scripts", "shell", "tests", ".ci")
 ENDINGS = (".rt", ".antt", ".py", ".c", ".h", ".rs", ".in", "")
+# How many lists of policies there are in a page.
+POLICY_LISTS = {"plans.md": 3, "running.md": 1, "shell.md": 1, "man/mmdb.1": 1, "man/mmdb.3": 1, "man/mmdb-shell.1": 1}
 # What the toolchain, cargo, pip and Python leave, and the streams of tests/rows.
 BUILT = {"out", "target", "build", "__pycache__", "rows", ".rt"}
 
@@ -70,6 +74,13 @@ class Pages(unittest.TestCase):
     def test_the_pages_stay_within_their_lines(self):
         self.check_none([*pages.too_many_lines((path.read_text() for path in PAGES), MOST_LINES)])
 
+    def test_each_list_of_policies_has_all(self):
+        told = re.search(r"--policy .*possible values: (.*)\]", harness.run_whole(b"", ["--help"]).out.decode())[1]
+        self.assertEqual(tuple(told.split(", ")), harness.POLICIES)
+        for name, count in POLICY_LISTS.items():
+            with self.subTest(name):
+                self.assertEqual([*pages.policy_lists((ROOT / "docs" / name).read_text())], [set(harness.POLICIES)] * count)
+
     def test_no_link_is_dead(self):
         self.check_none([f"{path.relative_to(ROOT)}, {fault}" for path in [*PAGES, *OTHERS] for fault in pages.dead_links(path)])
 
@@ -119,6 +130,13 @@ LONG_HEADS = {
     "a.c": f"/* Short. {FULL}\n   word. */\n",
     "a.h": f"/* {LONG} */\n",
 }
+# Lists of the policies `auto`, `hash` and `tree`.
+POLICIES_LISTED = {
+    "a table": "| Policy | Plan |\n|---|---|\n| auto, hash | Scan; else Tree |\n| tree | as auto |\n",
+    "a row": "| `--other NAME` | `scan` |\n| `--policy NAME` | `auto`, `hash` or `tree`; by default `auto` |\n",
+    "an option": '.TP\n.BI \\-\\-policy " POLICY"\nOne of\n.BR auto ,\n.B hash\nor\n.BR tree .\n.TP\n.B other\n',
+    "an argument": ".I policy\nis\n.BR MMDB_AUTO ,\n.B MMDB_HASH\nor\n.BR MMDB_TREE .\n.I rows\nis\n.B MMDB_MOST\n",
+}
 MANUALS_IN_TROFF = {
     "a paragraph": f".SH NAME\n{FULL}\n.B word\n.PP\nshort\n",
     "a cell": f".TS\nl l.\nshort\t{LONG}\n.TE\n",
@@ -149,6 +167,12 @@ class WrongPages(unittest.TestCase):
         for what, page in MANUALS_IN_TROFF.items():
             with self.subTest(what):
                 self.assertEqual(len([*pages.long_sentences(pages.manual_pieces(page), MOST_WORDS)]), 1)
+
+    def test_a_policy_that_is_forgotten_is_seen(self):
+        for what, page in POLICIES_LISTED.items():
+            with self.subTest(what):
+                self.assertEqual([*pages.policy_lists(page)], [{"auto", "hash", "tree"}])
+                self.assertEqual([*pages.policy_lists(re.sub("(?i)hash", "tree", page))], [{"auto", "tree"}])
 
     def test_too_many_lines_are_seen(self):
         for most, faults in ((3, 0), (2, 1)):

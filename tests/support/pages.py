@@ -1,4 +1,4 @@
-"""Reads pages, manual pages and the comments at the heads of files: their sentences, links and anchors.
+"""Reads pages, manual pages and the comments at the heads of files: their sentences, links and anchors, and their lists of policies.
 
 What must hold: a sentence ends with its paragraph, its list item or its cell of a table. Code is no sentence, and a piece of code
 within one is one word.
@@ -169,3 +169,15 @@ def dead_links(path):
             yield f"line {line}: there is no {target}"
         elif anchor and anchor not in set(anchors(leads_to.read_text())):
             yield f"line {line}: there is no heading {target}"
+
+
+def policy_lists(text):
+    """The lists of policies in a page or a manual page, each as the set of its names."""
+    for rows in re.findall(r"^\| Policy \|.*\n\|-.*\n((?:\|.*\n)+)", text, re.MULTILINE):
+        yield {name for row in rows.splitlines() for name in row.split("|")[1].strip().split(", ")}
+    for row in re.findall(r"^\| `--policy NAME` \|(.*)", text, re.MULTILINE):
+        yield set(re.findall(r"`(\w+)`", row))
+    for words in re.findall(r"^\.BI \\-\\-policy .*\n((?:(?!\.TP).*\n)+)", text, re.MULTILINE):
+        yield set(re.findall(r"^\.BR? (\w+)", words, re.MULTILINE))
+    for words in re.findall(r"^\.I policy\n((?:(?!\.I ).*\n)+)", text, re.MULTILINE):
+        yield {name.lower() for name in re.findall(r"MMDB_(\w+)", words)}
