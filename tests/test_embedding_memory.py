@@ -54,7 +54,8 @@ class Statements(unittest.TestCase):
         self.check(sys.executable, compiling.PROGRAMS / "statements_refused.py")
 
     def check_in_rust(self, name):
-        crate = embedding.crate(ROOM.path, name, (compiling.PROGRAMS / f"{name}.rs").read_text())
+        program = (compiling.PROGRAMS / f"{name}.rs").read_text()
+        crate = embedding.crate(ROOM.path, name, program, [compiling.PROGRAMS / "refusing.rs"])
         self.check(built(crate, name))
 
     def test_in_rust(self):

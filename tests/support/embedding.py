@@ -39,10 +39,12 @@ def first_program(page, language):
     return programs(page, language)[0]
 
 
-def crate(folder, name, program):
-    """Puts a crate with this program into a folder, and gives its own."""
+def crate(folder, name, program, modules=()):
+    """Puts a crate with this program and these modules into a folder, and gives its own."""
     made = folder / name
     (made / "src").mkdir(parents=True)
     (made / "Cargo.toml").write_text(MANIFEST.format(name=name))
     (made / "src" / "main.rs").write_text(program)
+    for module in modules:
+        (made / "src" / module.name).write_text(module.read_text())
     return made

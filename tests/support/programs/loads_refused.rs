@@ -1,15 +1,10 @@
 //! Refuses each of the library's calls for memory in turn that a transaction makes, a load of many blocks, or a reader of shared
-//! tables, and tells of each of these how many they are. It then gives 90, and everything is as it was; or it is done as ever.
-//! What was refused is done when it is called again. A second database, which is never refused anything, tells what is as ever.
+//! tables, and tells of each of these how many they are.
 
-use std::ffi::c_long;
+mod refusing;
 
-use mmdb::{Database, Error, Limits, Policy, Result, Shared, SharedReader, Value};
-
-extern "C" {
-    fn allocations_refuse(met: c_long, refused: c_long);
-    fn allocations_refused() -> c_long;
-}
+use mmdb::{Database, Limits, Policy, Result, Shared, SharedReader, Value};
+use refusing::{is_refused, refused_calls, Step};
 
 const LONG: &str = "a text that is longer than a slot of few bytes";
 
@@ -35,7 +30,7 @@ impl Both {
     }
 
     /// The rows, and how many transactions are open.
-    fn state(&self) -> Result<(Vec<Vec<Value>>, usize)> {
+    fn state(&mut self) -> Result<(Vec<Vec<Value>>, usize)> {
         let tables = self.shared.write()?;
         Ok((tables.query("select * from t", [])?.to_vec(), tables.transactions()))
     }
@@ -89,7 +84,7 @@ impl Both {
     }
 }
 
-const STEPS: [fn(&mut Both) -> Result<usize>; 7] = [
+const STEPS: [Step<Both, usize>; 7] = [
     Both::commit,
     Both::roll_back,
     Both::load,
@@ -99,39 +94,10 @@ const STEPS: [fn(&mut Both) -> Result<usize>; 7] = [
     Both::another_reader,
 ];
 
-/// Does a step with one call for memory refused behind so many that are met. Tells whether there was such a call.
-fn done_without(step: fn(&mut Both) -> Result<usize>, of: &mut Both, met: c_long) -> (Result<usize>, bool) {
-    // SAFETY: they set and read numbers of their own, and there is one thread.
-    unsafe {
-        allocations_refuse(met, 1);
-        let given = step(of);
-        let refused = allocations_refused() > 0;
-        allocations_refuse(0, 0);
-        (given, refused)
-    }
-}
-
-/// Whether a step calls for memory so often that one call is refused.
-fn is_refused(step: fn(&mut Both) -> Result<usize>, met: c_long) -> Result<bool> {
-    let (mut one, mut twin) = (Both::of()?, Both::of()?);
-    let (mut given, refused) = done_without(step, &mut one, met);
-    if let Err(why) = given {
-        assert_eq!((why.number(), why.text(), refused), (Some(90), Some("no memory"), true));
-        assert_eq!(one.state()?, twin.state()?);
-        given = step(&mut one);
-    }
-    assert_eq!(given?, step(&mut twin)?);
-    assert_eq!(one.state()?, twin.state()?);
-    Ok(refused)
-}
-
-fn main() -> Result<(), Error> {
+fn main() -> Result<()> {
     for step in STEPS {
-        let mut met = 0;
-        while is_refused(step, met)? {
-            met += 1;
-        }
-        println!("{met}");
+        let calls = refused_calls(|met| is_refused(step, Both::state, (&mut Both::of()?, &mut Both::of()?), met))?;
+        println!("{calls}");
     }
     Ok(())
 }

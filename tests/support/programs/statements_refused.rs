@@ -1,22 +1,16 @@
-//! Refuses each of the library's calls for memory that a call on a statement makes in turn, and tells of each call how many they are.
-//! It then gives 90, and everything is as it was; or it is done as ever. What was refused is done when it is called again. A
-//! second database, which is never refused anything, tells what is as ever.
+//! Refuses each of the library's calls for memory in turn that a call on a statement makes, and tells of each call how many they are.
 
-use std::ffi::c_long;
+mod refusing;
 
-use mmdb::{Database, Error, RowsRef, Statement, Value};
-
-extern "C" {
-    fn allocations_refuse(met: c_long, refused: c_long);
-    fn allocations_refused() -> c_long;
-}
+use mmdb::{Database, Result, RowsRef, Statement, Value};
+use refusing::{is_refused, refused_calls};
 
 const LONG: &str = "a text that is longer than a slot of few bytes, and than some more of them";
 const KEY: &str = "a key of some length";
 const MANY: usize = 20;
 
 /// The rows that a step gives, and how many it changed.
-type Given = Result<(Vec<Vec<Value>>, usize), Error>;
+type Given = Result<(Vec<Vec<Value>>, usize)>;
 
 /// The statements of a database.
 struct Kept<'db> {
@@ -29,7 +23,7 @@ struct Kept<'db> {
     more: Vec<Statement<'db>>,
 }
 
-fn filled() -> Result<Database, Error> {
+fn filled() -> Result<Database> {
     let db = Database::open_in_memory()?;
     db.execute("table u (k text)", [])?;
     db.execute("table t (id int, s text, c ref u null)", [])?;
@@ -50,7 +44,7 @@ fn count(count: usize) -> Given {
 }
 
 impl<'db> Kept<'db> {
-    fn of(db: &'db Database) -> Result<Kept<'db>, Error> {
+    fn of(db: &'db Database) -> Result<Kept<'db>> {
         Ok(Kept {
             db,
             insert: db.prepare("insert t (?, ?, null)")?,
@@ -85,40 +79,14 @@ const STEPS: [fn(&mut Kept<'_>) -> Given; 7] = [
     |of| count(of.select.column_names()?.len()),
 ];
 
-/// Does a step with one call for memory refused behind so many that are met. Tells whether there was such a call.
-fn done_without(step: fn(&mut Kept<'_>) -> Given, of: &mut Kept<'_>, met: c_long) -> (Given, bool) {
-    // SAFETY: they set and read numbers of their own, and there is one thread.
-    unsafe {
-        allocations_refuse(met, 1);
-        let given = step(of);
-        let refused = allocations_refused() > 0;
-        allocations_refuse(0, 0);
-        (given, refused)
-    }
-}
-
-/// Whether a step calls for memory so often that one call is refused.
-fn is_refused(step: fn(&mut Kept<'_>) -> Given, met: c_long) -> Result<bool, Error> {
-    let (db, other) = (filled()?, filled()?);
-    let (mut one, mut twin) = (Kept::of(&db)?, Kept::of(&other)?);
-    let (mut given, refused) = done_without(step, &mut one, met);
-    if let Err(why) = given {
-        assert_eq!((why.number(), why.text(), refused), (Some(90), Some("no memory"), true));
-        assert_eq!(one.state()?, twin.state()?);
-        given = step(&mut one);
-    }
-    assert_eq!(given?, step(&mut twin)?);
-    assert_eq!(one.state()?, twin.state()?);
-    Ok(refused)
-}
-
-fn main() -> Result<(), Error> {
+fn main() -> Result<()> {
     for step in STEPS {
-        let mut met = 0;
-        while is_refused(step, met)? {
-            met += 1;
-        }
-        println!("{met}");
+        let calls = refused_calls(|met| {
+            let (db, other) = (filled()?, filled()?);
+            let (mut one, mut twin) = (Kept::of(&db)?, Kept::of(&other)?);
+            is_refused(step, Kept::state, (&mut one, &mut twin), met)
+        })?;
+        println!("{calls}");
     }
     Ok(())
 }
