@@ -1,7 +1,7 @@
 """Calls of the library by a hostile caller, drawn by a seed, under sanitizers. In large sizes (`tests/fire hostile_calls`) they also run
 under valgrind's memcheck, which sees every read and write of the library. MMDB_SEED and MMDB_CALLS select them.
 
-What must hold: programs/fuzz.c makes every call of the header but those that share tables.
+What must hold: programs/fuzz.c makes every call of the header.
 """
 
 import re
@@ -14,8 +14,8 @@ SEED = sizes.said("MMDB_SEED", 20261128)
 CALLS = sizes.said("MMDB_CALLS", sizes.size(60_000, 5_000_000))
 # Under memcheck all is slower by far.
 WATCHED = CALLS // 50
-# How no call ends, as no memory is refused here, no select has so many texts, and no tables are shared.
-NEVER = {"more than 4 GiB of texts, or 4294967296 statements", "no memory", "the stream is over", "another handle shares the tables"}
+# How no call ends, as no memory is refused here, and no select has so many texts.
+NEVER = {"more than 4 GiB of texts, or 4294967296 statements", "no memory", "the stream is over"}
 COUNTED = re.compile(rb"(.*): (\d+)\n")
 ROOM = compiling.Room()
 

@@ -3,7 +3,7 @@
    closed, null or open. The words are the SEED and the number of CALLS.
 
    Each status must be one that the header names, and NOT_OPEN, NO_LINE, NO_SUCH_STATEMENT and NO_SUCH_PLACE come exactly where they
-   must. Answers are read to their end. The rows of each statement stay until it is executed again, and those of a line until the next
+   must. So does SHARED, but for statements. Answers are read to their end. The rows of each statement stay until it is executed again, and those of a line until the next
    query. */
 #include "checking.h"
 
@@ -20,9 +20,11 @@ typedef struct statement {
     uint64_t sum;
 } statement;
 
+/* Handles whose tables have the same number share them. */
 typedef struct handle {
     mmdb db;
     int is_open;
+    uint64_t tables;
     size_t transactions;
     statement kept[MOST_STATEMENTS];
     size_t count;
@@ -37,6 +39,7 @@ typedef struct bytes {
 
 static handle handles[HANDLES];
 static uint64_t state;
+static uint64_t tables_made;
 static uint64_t statuses[MMDB_IN_TRANSACTION + 1];
 
 static uint64_t drawn(uint64_t below)
@@ -211,6 +214,27 @@ static uint32_t put_off(const handle *of)
     return of->transactions > 0 ? only(MMDB_IN_TRANSACTION) : 0;
 }
 
+/* Whether another handle shares the tables of this one. */
+static int is_shared(const handle *of)
+{
+    int others = 0;
+    for (size_t i = 0; i < HANDLES; i++)
+        others += &handles[i] != of && handles[i].is_open && handles[i].tables == of->tables;
+    return of->is_open && others > 0;
+}
+
+/* What a call may give of a line or a piece that is none: whatever it says, it is declined where tables are shared. */
+static uint32_t unless_shared(const handle *of, uint32_t allowed)
+{
+    return is_shared(of) ? only(MMDB_SHARED) : allowed | put_off(of);
+}
+
+/* What a statement or a query may give. */
+static uint32_t of_statement(const handle *of)
+{
+    return only(MMDB_DONE) | only(MMDB_REFUSED) | put_off(of) | (is_shared(of) ? only(MMDB_SHARED) : 0);
+}
+
 static int is_null(bytes of)
 {
     return of.at == NULL && of.length > 0;
@@ -271,6 +295,8 @@ static void opens(handle *of)
         allowed = (policy > MMDB_MERGE ? only(MMDB_NO_SUCH_POLICY) : 0) | (is_out ? only(MMDB_LIMIT_OUT_OF_RANGE) : 0);
     is_within(status, allowed, "open");
     of->is_open |= status == MMDB_DONE;
+    if (status == MMDB_DONE)
+        of->tables = ++tables_made;
 }
 
 static void closes(handle *of)
@@ -289,7 +315,7 @@ static void commands(handle *of)
     mmdb_bytes answer;
     const mmdb_status status = mmdb_command(&of->db, line.at, line.length, is_drawn(95) ? &answer : NULL);
     const int is_none = line.at == NULL || line.length == 0;
-    const uint32_t allowed = is_none ? only(MMDB_NO_LINE) : only(MMDB_DONE) | only(MMDB_NOT_ONE_REQUEST) | put_off(of);
+    const uint32_t allowed = is_none ? only(MMDB_NO_LINE) : unless_shared(of, only(MMDB_DONE) | only(MMDB_NOT_ONE_REQUEST));
     if (is_within(status, of->is_open ? allowed : only(MMDB_NOT_OPEN), "command") && status == MMDB_DONE &&
         mmdb_answer(&of->db, &answer) == MMDB_DONE)
         reads_answer(of, answer);
@@ -302,7 +328,7 @@ static void loads(handle *of)
     char line[64];
     mmdb_bytes answer;
     mmdb_status status;
-    uint32_t allowed = only(MMDB_DONE) | only(MMDB_NOT_ONE_REQUEST) | put_off(of);
+    uint32_t allowed = unless_shared(of, only(MMDB_DONE) | only(MMDB_NOT_ONE_REQUEST));
     sprintf(line, "load %s %zu", is_drawn(50) ? "t" : "u", is_drawn(90) ? with.length : (size_t)drawn(40));
     status = mmdb_load(&of->db, line, strlen(line), with.at, with.length, &answer);
     if (is_null(with))
@@ -316,7 +342,7 @@ static void feeds(handle *of)
 {
     const bytes piece = given_bytes_to(is_drawn(80) ? "\n" : "");
     const mmdb_status status = mmdb_feed(&of->db, piece.at, piece.length);
-    const uint32_t done = of->transactions > 0 ? only(MMDB_IN_TRANSACTION) : only(MMDB_DONE);
+    const uint32_t done = of->transactions > 0 ? put_off(of) : unless_shared(of, only(MMDB_DONE));
     const uint32_t allowed = is_null(piece) ? only(MMDB_NO_LINE) | put_off(of) : done;
     mmdb_bytes answer;
     if (is_within(status, of->is_open ? allowed : only(MMDB_NOT_OPEN), "feed") && status == MMDB_DONE) {
@@ -401,7 +427,7 @@ static void executes(handle *of)
     const uint32_t number = to ? to->of.number : no_statement(of);
     mmdb_rows rows;
     const mmdb_status status = mmdb_execute(&of->db, number, &rows);
-    const uint32_t allowed = to ? only(MMDB_DONE) | only(MMDB_REFUSED) | put_off(of) : only(MMDB_NO_SUCH_STATEMENT);
+    const uint32_t allowed = to ? of_statement(of) : only(MMDB_NO_SUCH_STATEMENT);
     is_within(status, of->is_open ? allowed : only(MMDB_NOT_OPEN), "execute");
     if (!to)
         return;
@@ -415,7 +441,7 @@ static void queries(handle *of)
     const bytes line = given_bytes();
     const mmdb_status status = mmdb_query(&of->db, line.at, line.length, &of->queried.rows);
     const int is_none = line.at == NULL || line.length == 0;
-    const uint32_t allowed = is_none ? only(MMDB_NO_LINE) : only(MMDB_DONE) | only(MMDB_REFUSED) | put_off(of);
+    const uint32_t allowed = is_none ? only(MMDB_NO_LINE) : of_statement(of);
     is_within(status, of->is_open ? allowed : only(MMDB_NOT_OPEN), "query");
     of->queried.has_rows = 1;
     of->queried.sum = sum_of(&of->queried.rows);
@@ -462,10 +488,11 @@ static void finalizes(handle *of)
 
 static void begins(handle *of)
 {
+    const mmdb_status begun = is_shared(of) ? MMDB_SHARED : MMDB_DONE;
     if (of->transactions == MOST_TRANSACTIONS)
         return;
-    is_within(mmdb_begin(&of->db), only(of->is_open ? MMDB_DONE : MMDB_NOT_OPEN), "begin");
-    of->transactions += (size_t)of->is_open;
+    is_within(mmdb_begin(&of->db), only(of->is_open ? begun : MMDB_NOT_OPEN), "begin");
+    of->transactions += of->is_open && begun == MMDB_DONE;
     CHECK(mmdb_transactions(&of->db) == of->transactions);
 }
 
@@ -477,6 +504,32 @@ static void commits_or_rolls_back(handle *of)
     is_within(status, only(of->is_open ? ended : MMDB_NOT_OPEN), is_commit ? "commit" : "rollback");
     of->transactions -= of->transactions > 0;
     CHECK(mmdb_transactions(&of->db) == of->transactions);
+}
+
+/* Has any handle, or null, share the tables of another, or of none. One that was closed is open then. */
+static void shares(handle *of)
+{
+    handle *with = is_drawn(95) ? &handles[drawn(HANDLES)] : NULL;
+    const int is_of_null = is_drawn(5);
+    const mmdb_status status = mmdb_share(is_of_null ? NULL : &of->db, with ? &with->db : NULL);
+    mmdb_status expected = MMDB_NOT_OPEN;
+    if (of->is_open && !is_of_null && with)
+        expected = of->transactions > 0 || with->transactions > 0 ? MMDB_IN_TRANSACTION : MMDB_DONE;
+    if (is_within(status, only(expected), "share") && status == MMDB_DONE) {
+        with->is_open = 1;
+        with->tables = of->tables;
+    }
+}
+
+/* Seldom a handle leaves tables that no other shares, as they are gone then. */
+static void leaves(handle *of)
+{
+    const mmdb_status left = of->transactions > 0 ? MMDB_IN_TRANSACTION : MMDB_DONE;
+    if (of->is_open && !is_shared(of) && is_drawn(95))
+        return;
+    is_within(mmdb_leave(&of->db), only(of->is_open ? left : MMDB_NOT_OPEN), "leave");
+    if (left == MMDB_DONE)
+        of->tables = ++tables_made;
 }
 
 /* The rows of each statement are as they were when it was executed. */
@@ -505,6 +558,7 @@ static void calls_on_null(void)
     CHECK(mmdb_answer(NULL, &answer) == MMDB_NOT_OPEN && mmdb_refusal(NULL) == 0);
     CHECK(mmdb_begin(NULL) == MMDB_NOT_OPEN && mmdb_transactions(NULL) == 0);
     CHECK(mmdb_commit(NULL) == MMDB_NOT_OPEN && mmdb_rollback(NULL) == MMDB_NOT_OPEN);
+    CHECK(mmdb_share(NULL, NULL) == MMDB_NOT_OPEN && mmdb_leave(NULL) == MMDB_NOT_OPEN);
     mmdb_close(NULL);
 }
 
@@ -513,10 +567,10 @@ typedef void (*maker)(handle *of);
 static const maker MAKERS[] = {
     commands, commands, commands, commands, loads,    loads,     feeds,    feeds,        prepares,     prepares,      prepares,
     binds,    binds,    binds,    binds,    executes, executes,  executes, asks_columns, asks_columns, looks_at_rows, tells,
-    queries,  queries,  asks_why, begins,   commits_or_rolls_back,
+    queries,  queries,  asks_why, begins,   leaves,   commits_or_rolls_back, commits_or_rolls_back,
 };
 
-/* One call. Handles are seldom opened and closed, so that much becomes of what they have. */
+/* One call. Handles are seldom opened, closed and shared, so that much becomes of what they have. */
 static void call(void)
 {
     handle *of = &handles[drawn(HANDLES)];
@@ -529,7 +583,9 @@ static void call(void)
         finalizes(of);
     else if (luck < 32)
         calls_on_null();
-    if (luck >= 32 || is_drawn(10))
+    else if (luck < 44)
+        shares(of);
+    if (luck >= 44 || is_drawn(10))
         MAKERS[drawn(sizeof MAKERS / sizeof MAKERS[0])](of);
 }
 
