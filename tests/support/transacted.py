@@ -13,15 +13,15 @@ MOST_OPEN = 3
 # The chances that a transaction begins, is committed and is rolled back before a unit.
 BEGUN, COMMITTED, ROLLED_BACK = 0.15, 0.07, 0.1
 FED = 0.1
-# The chance that rows are deleted which are there, as a stream's own deletes mostly find none.
-TAKEN = 0.08
+# The chances that rows are deleted and updated which are there, as a stream's own deletes and updates mostly find none.
+TAKEN, SET = 0.08, 0.08
 # The chance that a unit which was put off is done behind the transactions.
 DONE_BEHIND = 0.8
 # The commands that are done in each transaction.
-NEVER_PUT_OFF = ("insert", "load", "delete", "select", "dump", "tables")
+NEVER_PUT_OFF = ("insert", "load", "update", "delete", "select", "dump", "tables")
 # What has to come in a run of many streams.
 COVERED = [f"{what}, {number} open" for what in ("begun", "committed", "rolled back") for number in range(1, MOST_OPEN + 1)]
-COVERED += ["fed around", "put off", "of insert undone", "of load undone", "of delete undone"]
+COVERED += ["fed around", "put off", *(f"of {word} undone" for word in ("insert", "load", "update", "delete"))]
 
 
 def copy_of(table):
@@ -117,19 +117,29 @@ class Run:
                 self.begin()
         elif luck < BEGUN + COMMITTED + ROLLED_BACK and self.open:
             self.end(luck < BEGUN + COMMITTED)
-        elif luck > 1 - TAKEN and self.open:
-            self.take_some()
+        elif luck > 1 - TAKEN - SET and self.open:
+            tables = [table for table in self.judge.tables.by_name.values() if table.rows]
+            if tables:
+                (self.take_some if luck > 1 - TAKEN else self.set_some)(self.draw.choice(tables))
 
-    def take_some(self):
+    def take_some(self, table):
         """Deletes rows that are there, and inserts one of them again."""
-        tables = [table for table in self.judge.tables.by_name.values() if table.rows]
-        if tables:
-            table = self.draw.choice(tables)
-            values = [written(value) for value in self.draw.choice(table.rows)]
-            if None not in values:
-                sign = self.draw.choice(["=", "=", "<=", ">="])
-                self.do(f"delete {table.name} where {table.columns[0].name} {sign} {values[0]}".encode(), b"", iter(()))
-                self.do(f"insert {table.name} ({', '.join(values)})".encode(), b"", iter(()))
+        values = [written(value) for value in self.draw.choice(table.rows)]
+        if None not in values:
+            sign = self.draw.choice(["=", "=", "<=", ">="])
+            self.do(f"delete {table.name} where {table.columns[0].name} {sign} {values[0]}".encode(), b"", iter(()))
+            self.do(f"insert {table.name} ({', '.join(values)})".encode(), b"", iter(()))
+
+    def set_some(self, table):
+        """Sets rows that are there to values of another one, and may delete one of them."""
+        key, other = (written(self.draw.choice(table.rows)[0]) for _ in range(2))
+        settings = zip(table.columns[1:], map(written, self.draw.choice(table.rows)[1:]))
+        puts = [f"{column.name} = {value}" for column, value in settings if value is not None and self.draw.random() < 0.7]
+        if puts and None not in (key, other):
+            name, sign = table.columns[0].name, self.draw.choice(["=", "=", "<=", ">="])
+            self.do(f"update {table.name} set {', '.join(puts)} where {name} {sign} {key}".encode(), b"", iter(()))
+            if self.draw.random() < 0.3:
+                self.do(f"delete {table.name} where {name} = {other}".encode(), b"", iter(()))
 
     def begin(self):
         self.handle.begin()
