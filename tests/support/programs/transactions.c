@@ -1,26 +1,29 @@
-/* Transactions: each status of their calls, what every other call gives meanwhile, and begin, insert, delete, commit and rollback in
-   every order of six, nested to three, beside plain lists that are copied at each begin. A rollback calls for no memory. */
+/* Transactions: each status of their calls, what every other call gives meanwhile, and begin, insert, update, delete, commit and rollback
+   in every order of six, nested to three, beside plain lists that are copied at each begin. A rollback calls for no memory. */
 #include "allocations.h"
 #include "checking.h"
 
 #define DEPTH 3
 #define STEPS 6
-#define WAYS 5
+#define WAYS 6
 #define LOADED 2
 #define KEYS (STEPS + LOADED)
 #define NUMBERS 3
 #define ANY (-1)
 
-enum text { NO_ROW, BY_STATEMENT, BY_LINE, BY_LOAD, TEXTS };
+#define LONG "by an update that no cell can hold"
 
-static const char *const TEXT[TEXTS] = { "none", "by statement", "by line", "by load" };
+enum text { NO_ROW, BY_STATEMENT, BY_LINE, BY_LOAD, BY_UPDATE, TEXTS };
 
-/* The text that each key has in a table, or NO_ROW. */
+static const char *const TEXT[TEXTS] = { "none", "by statement", "by line", "by load", LONG };
+
+/* The text and the number that each key has in a table, or NO_ROW. */
 typedef struct list {
     unsigned char text[KEYS];
+    unsigned char number[KEYS];
 } list;
 
-/* Which rows of it are meant: those with this key, this text and this number, each where it isn't ANY. */
+/* Which rows of it are meant: those with this key, this text and this number, each where it isn't ANY. Or what they are set to. */
 typedef struct asked {
     int key, text, number;
 } asked;
@@ -30,7 +33,7 @@ static const asked ALL = { ANY, ANY, ANY };
 /* A database beside the lists that it has and had. */
 typedef struct pair {
     mmdb db;
-    mmdb_statement insert, gone;
+    mmdb_statement insert, set, gone;
     list now;
     list saved[DEPTH];
     size_t open;
@@ -50,15 +53,16 @@ static mmdb_statement prepared(mmdb *db, const char *line)
 
 /* ---- plain lists */
 
-static int number_of(int key)
+static void put(list *of, int key, enum text text)
 {
-    return key % NUMBERS;
+    of->text[key] = (unsigned char)text;
+    of->number[key] = (unsigned char)(key % NUMBERS);
 }
 
 static int is_asked(const list *of, int key, asked which)
 {
     return of->text[key] != NO_ROW && (which.key == ANY || which.key == key) && (which.text == ANY || which.text == of->text[key]) &&
-           (which.number == ANY || which.number == number_of(key));
+           (which.number == ANY || which.number == of->number[key]);
 }
 
 static size_t rows_of(const list *of, asked which)
@@ -79,6 +83,18 @@ static size_t taken_out(list *of, asked which)
     return count;
 }
 
+/* Sets the rows to a text and a number, and gives how many they are. */
+static size_t set_to(list *of, asked which, asked to)
+{
+    const list before = *of;
+    for (int key = 0; key < KEYS; key++)
+        if (is_asked(&before, key, which)) {
+            of->text[key] = (unsigned char)(to.text == ANY ? of->text[key] : to.text);
+            of->number[key] = (unsigned char)(to.number == ANY ? of->number[key] : to.number);
+        }
+    return rows_of(&before, which);
+}
+
 /* The first key that has a row, or that has none. */
 static int first_key(const list *of, int has_row)
 {
@@ -88,35 +104,35 @@ static int first_key(const list *of, int has_row)
     return key;
 }
 
-/* ---- inserts and deletes */
+/* ---- inserts, updates and deletes */
 
 static void insert_by_statement(pair *both, int key)
 {
     mmdb_rows rows;
     GIVES(mmdb_bind_integer(&both->db, both->insert.number, 0, key), MMDB_DONE);
-    GIVES(mmdb_bind_integer(&both->db, both->insert.number, 1, number_of(key)), MMDB_DONE);
+    GIVES(mmdb_bind_integer(&both->db, both->insert.number, 1, key % NUMBERS), MMDB_DONE);
     GIVES(mmdb_execute(&both->db, both->insert.number, &rows), MMDB_DONE);
     CHECK(rows.changed == 1);
-    both->now.text[key] = BY_STATEMENT;
+    put(&both->now, key, BY_STATEMENT);
 }
 
 static void insert_by_line(pair *both, int key)
 {
     char line[64];
-    snprintf(line, sizeof line, "insert t (%d, 'by line', %d)", key, number_of(key));
+    snprintf(line, sizeof line, "insert t (%d, 'by line', %d)", key, key % NUMBERS);
     GIVES(query(&both->db, line, NULL), MMDB_DONE);
-    both->now.text[key] = BY_LINE;
+    put(&both->now, key, BY_LINE);
 }
 
 static void insert_by_load(pair *both, int key)
 {
     mmdb_bytes answer;
     char line[64], block[64];
-    snprintf(block, sizeof block, "id,s,n\n%d,by load,%d\n", key, number_of(key));
+    snprintf(block, sizeof block, "id,s,n\n%d,by load,%d\n", key, key % NUMBERS);
     snprintf(line, sizeof line, "load t %zu", strlen(block));
     GIVES(load(&both->db, line, block, &answer), MMDB_DONE);
     CHECK(reads(answer, "ok 1\n"));
-    both->now.text[key] = BY_LOAD;
+    put(&both->now, key, BY_LOAD);
 }
 
 /* Inserts the first key without a row by the statement, by a line or by a load, as the step is. */
@@ -124,6 +140,44 @@ static void insert(pair *both, int step)
 {
     static void (*const INSERTS[])(pair *, int) = { insert_by_statement, insert_by_line, insert_by_load };
     INSERTS[step % 3](both, first_key(&both->now, 0));
+}
+
+/* Sets the first row, by its key, to a long text and another number. */
+static void update_by_statement(pair *both)
+{
+    const int key = first_key(&both->now, 1), number = (both->now.number[key] + 1) % NUMBERS;
+    const asked which = { key, ANY, ANY }, to = { ANY, BY_UPDATE, number };
+    mmdb_rows rows;
+    GIVES(mmdb_bind_integer(&both->db, both->set.number, 0, number), MMDB_DONE);
+    GIVES(mmdb_bind_integer(&both->db, both->set.number, 1, key), MMDB_DONE);
+    GIVES(mmdb_execute(&both->db, both->set.number, &rows), MMDB_DONE);
+    CHECK(rows.changed == set_to(&both->now, which, to));
+}
+
+/* Sets those of a text, by the hash. */
+static void update_by_line(pair *both)
+{
+    const asked which = { ANY, BY_LOAD, ANY }, to = { ANY, ANY, 0 };
+    mmdb_bytes answer;
+    char expected[16];
+    GIVES(command(&both->db, "update t set n = 0 where s = 'by load'", &answer), MMDB_DONE);
+    snprintf(expected, sizeof expected, "ok %zu\n", set_to(&both->now, which, to));
+    CHECK(reads(answer, expected));
+}
+
+/* Sets those of a number, by the tree. */
+static void update_by_query(pair *both)
+{
+    const asked which = { ANY, ANY, 1 }, to = { ANY, BY_LINE, 2 };
+    mmdb_rows rows;
+    GIVES(query(&both->db, "update t set s = 'by line', n = 2 where n = 1", &rows), MMDB_DONE);
+    CHECK(rows.changed == set_to(&both->now, which, to));
+}
+
+static void update(pair *both, int step)
+{
+    static void (*const UPDATES[])(pair *) = { update_by_statement, update_by_line, update_by_query };
+    UPDATES[step % 3](both);
 }
 
 /* Deletes the first row, by its key. */
@@ -173,6 +227,7 @@ static pair opened(void)
     GIVES(command(&both.db, "index t s hash", NULL), MMDB_DONE);
     GIVES(command(&both.db, "index t n tree", NULL), MMDB_DONE);
     both.insert = prepared(&both.db, "insert t (?, 'by statement', ?)");
+    both.set = prepared(&both.db, "update t set s = '" LONG "', n = ? where id = ?");
     both.gone = prepared(&both.db, "delete t where id = ?");
     for (int key = 0; key < LOADED; key++)
         insert_by_load(&both, key);
@@ -187,19 +242,17 @@ static void begin(pair *both)
 
 static void commit(pair *both)
 {
-    GIVES(mmdb_commit(&both->db), both->open ? MMDB_DONE : MMDB_NO_TRANSACTION);
-    if (both->open)
-        both->open--;
+    GIVES(mmdb_commit(&both->db), MMDB_DONE);
+    both->open--;
 }
 
 static void roll_back(pair *both)
 {
     allocations_refuse(0, 1);
-    GIVES(mmdb_rollback(&both->db), both->open ? MMDB_DONE : MMDB_NO_TRANSACTION);
+    GIVES(mmdb_rollback(&both->db), MMDB_DONE);
     CHECK(allocations_refused() == 0);
     allocations_refuse(0, 0);
-    if (both->open)
-        both->now = both->saved[--both->open];
+    both->now = both->saved[--both->open];
 }
 
 /* ---- what is found */
@@ -241,12 +294,12 @@ static void finds_each_text_and_number(pair *both)
 
 static void dumps_the_list(pair *both)
 {
-    char rows[KEYS * 32] = "", expected[sizeof rows + 32];
+    char rows[KEYS * 48] = "", expected[sizeof rows + 32];
     mmdb_bytes answer;
     size_t length = 0;
     for (int key = 0; key < KEYS; key++)
         if (both->now.text[key] != NO_ROW)
-            length += (size_t)snprintf(rows + length, sizeof rows - length, "%d,%s,%d\n", key, TEXT[both->now.text[key]], number_of(key));
+            length += (size_t)snprintf(rows + length, sizeof rows - length, "%d,%s,%d\n", key, TEXT[both->now.text[key]], both->now.number[key]);
     snprintf(expected, sizeof expected, "load t %zu\nid,s,n\n%s", strlen("id,s,n\n") + length, rows);
     GIVES(command(&both->db, "dump t", &answer), MMDB_DONE);
     CHECK(reads(answer, expected));
@@ -262,14 +315,15 @@ static void are_alike(pair *both)
     CHECK(mmdb_transactions(&both->db) == both->open);
 }
 
-/* Does the steps that a number spells, one digit each, and gives whether it nests no deeper than three. */
+/* Does the steps that a number spells, one digit each. Gives whether it nests no deeper than three, and ends only what is open. */
 static int is_done(pair *both, unsigned spelled)
 {
     for (int step = 0; step < STEPS; step++, spelled /= WAYS) {
-        switch (spelled % WAYS) {
+        const unsigned way = spelled % WAYS;
+        if ((way == 0 && both->open == DEPTH) || ((way == 1 || way == 2) && both->open == 0))
+            return 0;
+        switch (way) {
         case 0:
-            if (both->open == DEPTH)
-                return 0;
             begin(both);
             break;
         case 1:
@@ -280,6 +334,9 @@ static int is_done(pair *both, unsigned spelled)
             break;
         case 3:
             delete(both, step);
+            break;
+        case 4:
+            update(both, step);
             break;
         default:
             insert(both, step);
@@ -301,7 +358,7 @@ static void each_order_is_as_of_plain_lists(void)
         mmdb_close(&both.db);
         CHECK(allocations_held() == held);
     }
-    CHECK(done > orders / 2);
+    CHECK(done > orders / 5);
 }
 
 static void closed_handles_and_null_are_told(void)
@@ -315,6 +372,23 @@ static void closed_handles_and_null_are_told(void)
     GIVES(mmdb_rollback(&closed), MMDB_NOT_OPEN);
     CHECK(mmdb_transactions(NULL) == 0);
     CHECK(mmdb_transactions(&closed) == 0);
+}
+
+static void none_is_open(void)
+{
+    pair both = opened();
+    for (int times = 0; times < 3; times++) {
+        GIVES(mmdb_commit(&both.db), MMDB_NO_TRANSACTION);
+        GIVES(mmdb_rollback(&both.db), MMDB_NO_TRANSACTION);
+        are_alike(&both);
+        begin(&both);
+        update(&both, times);
+        if (times == 1)
+            commit(&both);
+        else
+            roll_back(&both);
+    }
+    mmdb_close(&both.db);
 }
 
 static void none_begins_where_tables_are_shared(void)
@@ -331,14 +405,14 @@ static void none_begins_where_tables_are_shared(void)
     mmdb_close(&both.db);
 }
 
-static void lines_are_put_off(mmdb *db)
+static void declarations_are_put_off(mmdb *db)
 {
-    static const char *const OTHERS[] = { "update t set s = 'x'", "update nothing", "table u (id int)", "table", "drop table t",
-                                          "drop table u", "index t n hash", "drop index t s hash", " \tindex nothing" };
+    static const char *const OTHERS[] = { "table u (id int)", "table",          "drop table t",        "drop table u",
+                                          "drop",             "index t n hash", "drop index t s hash", " \tindex nothing" };
     mmdb_bytes answer;
     for (size_t i = 0; i < sizeof OTHERS / sizeof *OTHERS; i++)
         GIVES(command(db, OTHERS[i], NULL), MMDB_IN_TRANSACTION);
-    GIVES(load(db, "update t 5", "id,s\n", NULL), MMDB_IN_TRANSACTION);
+    GIVES(load(db, "index t 5", "id,s\n", NULL), MMDB_IN_TRANSACTION);
     GIVES(feed(db, "tables\n"), MMDB_IN_TRANSACTION);
     GIVES(mmdb_answer(db, &answer), MMDB_DONE);
     CHECK(reads(answer, ""));
@@ -354,6 +428,13 @@ static void other_lines_are_answered(mmdb *db)
         { "select id from t where n > 1", "rows 1\nt.id\n2\n" },
         { "insert t (0, 'x', 1)", "error 41 key exists\n" },
         { "insert t ('x', 'x', 1)", "error 35 wrong type\n" },
+        { "update t set s = 'x' where id = 9", "ok 0\n" },
+        { "update t set n = 3 where n = 3", "ok 0\n" },
+        { "update t set n = 'x'", "error 35 wrong type\n" },
+        { "update t set id = 3", "error 36 key cannot be set\n" },
+        { "update t set m = 0", "error 32 no such column\n" },
+        { "update u set s = 'x'", "error 30 no such table\n" },
+        { "update nothing", "error 20 not a command\n" },
         { "delete t where id = 9", "ok 0\n" },
         { "delete t where m = 0", "error 32 no such column\n" },
         { "delete u", "error 30 no such table\n" },
@@ -371,14 +452,16 @@ static void other_lines_are_answered(mmdb *db)
     }
 }
 
-static void updates_are_put_off(pair *both)
+static void statements_are_refused_as_ever(pair *both)
 {
-    mmdb_statement set = prepared(&both->db, "update t set s = ? where id = 0");
+    mmdb_statement set = prepared(&both->db, "update t set s = ? where id = 9");
+    mmdb_rows rows;
     GIVES(mmdb_bind_integer(&both->db, set.number, 0, 1), MMDB_DONE);
     GIVES(mmdb_execute(&both->db, set.number, NULL), MMDB_REFUSED);
+    CHECK(mmdb_refusal(&both->db) == 35);
     GIVES(mmdb_bind_text(&both->db, set.number, 0, "x", 1), MMDB_DONE);
-    GIVES(mmdb_execute(&both->db, set.number, NULL), MMDB_IN_TRANSACTION);
-    GIVES(query(&both->db, "update t set s = 'x'", NULL), MMDB_IN_TRANSACTION);
+    GIVES(mmdb_execute(&both->db, set.number, &rows), MMDB_DONE);
+    CHECK(rows.changed == 0);
     GIVES(query(&both->db, "update u set s = 'x'", NULL), MMDB_REFUSED);
     CHECK(mmdb_refusal(&both->db) == 30);
 }
@@ -396,14 +479,14 @@ static void tables_are_neither_shared_nor_left(mmdb *db)
     mmdb_close(&other.db);
 }
 
-static void all_else_is_put_off(void)
+static void what_is_done_in_one(void)
 {
     pair both = opened();
     begin(&both);
     insert(&both, 0);
-    lines_are_put_off(&both.db);
+    declarations_are_put_off(&both.db);
     other_lines_are_answered(&both.db);
-    updates_are_put_off(&both);
+    statements_are_refused_as_ever(&both);
     tables_are_neither_shared_nor_left(&both.db);
     are_alike(&both);
     roll_back(&both);
@@ -448,8 +531,9 @@ static void rows_answers_and_the_stream_stay(void)
 int main(void)
 {
     closed_handles_and_null_are_told();
+    none_is_open();
     none_begins_where_tables_are_shared();
-    all_else_is_put_off();
+    what_is_done_in_one();
     rows_answers_and_the_stream_stay();
     each_order_is_as_of_plain_lists();
     CHECK(allocations_held() == 0);
