@@ -1,5 +1,5 @@
-"""Transactions from C: each status, every order of begin, insert, delete, commit and rollback beside plain lists, and memory: each call
-for it refused, and the bytes that are held behind rounds of rollbacks and behind a commit.
+"""Transactions from C: each status, every order of begin, insert, update, delete, commit and rollback beside plain lists, and memory: each
+call for it refused, and the bytes that are held behind rounds of rollbacks and behind a commit.
 """
 
 import os
@@ -8,7 +8,7 @@ import unittest
 
 from support import compiling, preloading
 
-TRANSACTIONS, DELETES = compiling.PROGRAMS / "transactions.c", compiling.PROGRAMS / "undone_deletes.c"
+TRANSACTIONS, DELETES, UPDATES = (compiling.PROGRAMS / name for name in ("transactions.c", "undone_deletes.c", "undone_updates.c"))
 ROOM = compiling.Room()
 ROUNDS = 100
 HELD = re.compile(rb"\n\[held (\d+), most \d+\]\n([a-z ]+)\n")
@@ -42,6 +42,12 @@ class Deletes(Transactions):
     """Rows that are deleted and restored, with those that refer to them."""
 
     source = DELETES
+
+
+class Updates(Transactions):
+    """Values that are replaced and restored, references among them."""
+
+    source = UPDATES
 
 
 class Memory(compiling.Programs):
