@@ -35,6 +35,8 @@ static const step STEPS[] = {
     { "delete emp where id > 5", "" },
     { "insert emp (6, '" LONG "', 1, 9)", NULL },
     { "update emp set n = 7, name = 'short'", "" },
+    { "update emp set dept = 3 where id = 1", NULL },
+    { "update emp set dept = null, n = 8 where dept = 3", "" },
     { "delete dept where id = 3", NULL },
     { "delete emp", NULL },
     { "load emp 31", "id,name,dept,n\n1,It,,1\n2,Jo,,2\n" },
@@ -43,13 +45,13 @@ static const step STEPS[] = {
 enum { MOST_STEPS = sizeof STEPS / sizeof STEPS[0], MOST_DECLARED = sizeof DECLARED / sizeof DECLARED[0] };
 
 /* How a step ended. */
-typedef enum outcome { DONE, REFUSED_BY_90, PUT_OFF } outcome;
+typedef enum outcome { DONE, REFUSED_BY_90 } outcome;
 
 static outcome outcome_of(mmdb *db, mmdb_status status)
 {
     const int is_refused = status == MMDB_NO_MEMORY || mmdb_refusal(db) == 90;
-    CHECK(status == MMDB_DONE || status == MMDB_IN_TRANSACTION || status == MMDB_REFUSED || status == MMDB_NO_MEMORY);
-    return status == MMDB_IN_TRANSACTION ? PUT_OFF : is_refused ? REFUSED_BY_90 : DONE;
+    CHECK(is_refused || (status == MMDB_DONE && mmdb_refusal(db) == 0));
+    return is_refused ? REFUSED_BY_90 : DONE;
 }
 
 static outcome do_step(mmdb *db, step of)
