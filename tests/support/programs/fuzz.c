@@ -232,7 +232,7 @@ static uint32_t unless_shared(const handle *of, uint32_t allowed)
 /* What a statement or a query may give. */
 static uint32_t of_statement(const handle *of)
 {
-    return only(MMDB_DONE) | only(MMDB_REFUSED) | put_off(of) | (is_shared(of) ? only(MMDB_SHARED) : 0);
+    return only(MMDB_DONE) | only(MMDB_REFUSED) | (is_shared(of) ? only(MMDB_SHARED) : 0);
 }
 
 static int is_null(bytes of)
