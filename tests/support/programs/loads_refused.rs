@@ -41,7 +41,9 @@ impl Both {
         tx.execute("insert t (?, ?)", (3, LONG))?;
         let savepoint = tx.savepoint()?;
         savepoint.execute("insert t (?, ?)", (4, LONG))?;
+        savepoint.execute("update t set s = ? where id > ?", (LONG, 1))?;
         savepoint.commit()?;
+        tx.execute("update t set s = ? where s = ?", ("short", LONG))?;
         tx.execute("delete t where id < ?", [3])?;
         tx.commit()?;
         Ok(2)
@@ -53,6 +55,7 @@ impl Both {
         tx.execute("insert t (?, ?)", (3, LONG))?;
         let savepoint = tx.savepoint()?;
         savepoint.load("t", (10..20).map(|id| (id, LONG)))?;
+        savepoint.execute("update t set s = ? where id < ?", (LONG, 12))?;
         savepoint.execute("delete t where s = ?", [LONG])?;
         savepoint.rollback()?;
         Ok(1)

@@ -40,6 +40,11 @@ class Kept:
             self.delete.execute("a")
             self.insert.execute(2, LONG)
 
+    def update_in_transaction(self):
+        with self.db.transaction():
+            self.update.execute(LONG, 1)
+            self.db.change("update t set c = ?", KEY)
+
     def prepare(self):
         self.more.append(self.db.prepare("select s, c from t where s = ? and id < ? and c <> 'a text that is given'"))
 
@@ -59,6 +64,7 @@ STEPS = (
     lambda of: of.db.select("select s from t where s <> ? and id < ?", LONG, 3),
     lambda of: of.db.begin(),
     lambda of: of.insert_in_transaction(),
+    lambda of: of.update_in_transaction(),
     lambda of: of.delete_in_transaction(),
     lambda of: of.db.change("update t set c = ? where id = ?", KEY, 1),
 )
