@@ -1,4 +1,4 @@
-//! Deletes in a transaction: each is undone by a rollback, and none by a commit. Updates are refused in one.
+//! Deletes and updates in a transaction: each is undone by a rollback, and none by a commit.
 
 mod common;
 
@@ -7,16 +7,23 @@ use common::{number, open, row, selected, with_rows};
 use mmdb::{Database, Error, Outcome, Value};
 
 const ALL: &str = "select * from t";
+const LONG: &str = "a text that no cell holds";
 
 #[test]
-fn each_way_to_delete_is_undone() {
-    let ways: [fn(&mut Database); 6] = [
+fn each_way_to_change_rows_is_undone() {
+    let ways: [fn(&mut Database); 12] = [
         |db| assert_eq!(db.execute("delete t", []), Ok(2)),
         |db| assert_eq!(db.execute("delete t where id = ?", [2]), Ok(1)),
         |db| assert_eq!(db.execute("delete t where s = ?", ["b"]), Ok(1)),
         |db| assert_eq!(db.prepare("delete t where id < ?").unwrap().execute([3]), Ok(2)),
         |db| assert_eq!(db.command("delete t where s = 'a'", []), Ok(Outcome::Count(1))),
         |db| assert_eq!(db.answer(b"delete t"), Ok(&b"ok 2\n"[..])),
+        |db| assert_eq!(db.execute("update t set s = ''", []), Ok(2)),
+        |db| assert_eq!(db.execute("update t set s = ? where id = ?", (LONG, 1)), Ok(1)),
+        |db| assert_eq!(db.execute("update t set s = ? where s = ?", ("two\nlines", "b")), Ok(1)),
+        |db| assert_eq!(db.prepare("update t set s = ?").unwrap().execute([LONG]), Ok(2)),
+        |db| assert_eq!(db.command("update t set s = 'c'", []), Ok(Outcome::Count(2))),
+        |db| assert_eq!(db.answer(b"update t set s = 'c'"), Ok(&b"ok 2\n"[..])),
     ];
     let before = [row(1, "a"), row(2, "b")];
     for way in ways {
@@ -35,22 +42,17 @@ fn each_way_to_delete_is_undone() {
 }
 
 #[test]
-fn no_way_to_update_is_done() {
+fn what_is_refused_changes_nothing() {
     let mut db = with_rows();
     let mut tx = db.transaction().unwrap();
-    tx.execute("delete t where id = 2", []).unwrap();
-    let line = "update t set s = 'c'";
-    assert_eq!(tx.execute(line, []), Err(Error::InTransaction));
-    let with_values = tx.execute("update t set s = ? where id = ?", ("c", 1));
-    assert_eq!(with_values, Err(Error::InTransaction));
-    let prepared = tx.prepare("update t set s = ?").unwrap().execute(["c"]);
-    assert_eq!(prepared, Err(Error::InTransaction));
-    assert_eq!(tx.command(line, []), Err(Error::InTransaction));
-    assert_eq!(tx.answer(line.as_bytes()), Err(Error::InTransaction));
-    assert_eq!(number(tx.execute("update t set nothing = ?", ["c"])), Some(32));
-    assert_eq!(selected(&tx, ALL, []), [row(1, "a")]);
+    tx.execute("update t set s = 'c' where id = 2", []).unwrap();
+    assert_eq!(number(tx.execute("update t set nothing = ?", ["d"])), Some(32));
+    assert_eq!(number(tx.execute("update t set s = ?", [1])), Some(35));
+    assert_eq!(number(tx.execute("update t set id = ?", [1])), Some(36));
+    assert_eq!(tx.answer(b"update t st s = 'd'"), Ok(&b"error 20 not a command\n"[..]));
+    assert_eq!(selected(&tx, ALL, []), [row(1, "a"), row(2, "c")]);
     tx.commit().unwrap();
-    assert_eq!(db.execute(line, []), Ok(1));
+    assert_eq!(selected(&db, ALL, []), [row(1, "a"), row(2, "c")]);
 }
 
 #[test]
@@ -58,15 +60,18 @@ fn a_savepoint_leaves_what_was_changed_before_it() {
     let mut db = with_rows();
     let mut tx = db.transaction().unwrap();
     tx.execute("delete t where id = 1", []).unwrap();
+    tx.execute("update t set s = ?", [LONG]).unwrap();
     let savepoint = tx.savepoint().unwrap();
     savepoint.execute("insert t (1, 'd')", []).unwrap();
-    savepoint.execute("delete t where s = 'b'", []).unwrap();
+    savepoint.execute("update t set s = 'e'", []).unwrap();
+    savepoint.execute("update t set s = 'f' where id = 2", []).unwrap();
+    savepoint.execute("delete t where s = 'f'", []).unwrap();
     savepoint.execute("delete t", []).unwrap();
     savepoint.rollback().unwrap();
-    assert_eq!(selected(&tx, ALL, []), [row(2, "b")]);
+    assert_eq!(selected(&tx, ALL, []), [row(2, LONG)]);
     tx.execute("insert t (1, 'c')", []).unwrap();
     tx.commit().unwrap();
-    assert_eq!(selected(&db, ALL, []), [row(1, "c"), row(2, "b")]);
+    assert_eq!(selected(&db, ALL, []), [row(1, "c"), row(2, LONG)]);
 }
 
 #[test]
@@ -81,6 +86,13 @@ fn references_hold_in_one() {
     assert_eq!(tx.execute("delete t where id = 1", []), Ok(1));
     assert_eq!(tx.execute("delete u where k = 1", []), Ok(1));
     assert_eq!(number(tx.execute("insert t (3, 1)", [])), Some(42));
+    assert_eq!(number(tx.execute("update t set u = ?", [1])), Some(42));
+    assert_eq!(tx.execute("update t set u = ?", [2]), Ok(1));
+    assert_eq!(number(tx.execute("delete u where k = 2", [])), Some(44));
+    drop(tx);
+    let tx = db.transaction().unwrap();
+    assert_eq!(tx.execute("update t set u = null", []), Ok(2));
+    assert_eq!(tx.execute("delete u where k = 1", []), Ok(1));
     drop(tx);
     assert_eq!(number(db.execute("delete u where k = 1", [])), Some(44));
     assert_eq!(db.execute("delete u where k = 2", []), Ok(1));
@@ -93,12 +105,15 @@ fn key(draw: &mut Draw) -> i64 {
 
 /// Does something, which may be refused.
 fn change(db: &Database, draw: &mut Draw) {
-    let (id, text) = (key(draw), draw.of(&["a", "b", "a text that no cell holds"]));
-    let changed = match draw.of(&[0, 0, 0, 1, 2, 3, 4]) {
+    let (id, text) = (key(draw), draw.of(&["a", "b", LONG]));
+    let changed = match draw.of(&[0, 0, 0, 1, 2, 3, 4, 5, 6, 7]) {
         0 => db.execute("insert t (?, ?, ?)", (id, text, id % 3)),
         1 => db.execute("delete t where id = ?", [id]),
         2 => db.execute("delete t where s = ? and id > ?", (text, id)),
         3 => db.execute("delete t where n = ?", [id % 3]),
+        4 => db.execute("update t set s = ?, n = ? where id >= ?", (text, id, id)),
+        5 => db.execute("update t set n = ? where s = ?", (id, text)),
+        6 => db.execute("update t set s = ? where n = ?", (text, id % 3)),
         _ => db.load("t", (0..3).map(|more| (20 + id + more, text, id))),
     };
     assert_ne!(changed, Err(Error::InTransaction));
@@ -107,7 +122,7 @@ fn change(db: &Database, draw: &mut Draw) {
 /// What is found by each index, and by none.
 fn found(db: &Database) -> Vec<Vec<Vec<Value>>> {
     let mut found = vec![selected(db, ALL, [])];
-    for text in ["a", "b", "a text that no cell holds"] {
+    for text in ["a", "b", LONG] {
         found.push(selected(db, "select * from t where s = ?", [text]));
     }
     for n in 0..12 {
@@ -116,7 +131,7 @@ fn found(db: &Database) -> Vec<Vec<Vec<Value>>> {
     found
 }
 
-/// Inserts and deletes in transactions, one in the other. Each rollback puts back what there was at its begin, under each index.
+/// Inserts, updates and deletes in transactions, one in the other. Each rollback puts back what there was at its begin, under each index.
 #[test]
 fn changes_at_random() {
     let db = open();
