@@ -163,11 +163,7 @@ class Transactions(binding.WithDatabase):
                 lambda: self.db.execute("table u (id int)"),
                 lambda: self.db.execute("drop table ?", None),
                 lambda: self.db.answer("index t s hash"),
-                lambda: self.db.execute("update t set s = 'b'"),
-                lambda: self.db.change("update t set s = ? where id = ?", "b", 1),
-                lambda: self.db.prepare("update t set s = ?").execute("b"),
-                lambda: self.db.executemany("update t set s = ?", [("b",), ("c",)]),
-                lambda: self.db.answer("update t set s = 'b'"),
+                lambda: self.db.reader(),
             ):
                 with self.assertRaisesRegex(mmdb.InTransaction, "^mmdb: this isn't done in a transaction") as raised:
                     call()
@@ -215,8 +211,8 @@ class Transactions(binding.WithDatabase):
         self.assertEqual((self.ids(), self.db.in_transaction), ([1], False))
 
 
-class Deletes(binding.WithDatabase):
-    """Deletes in a transaction."""
+class Changes(binding.WithDatabase):
+    """Deletes and updates in a transaction."""
 
     def setUp(self):
         super().setUp()
@@ -248,7 +244,38 @@ class Deletes(binding.WithDatabase):
             self.assertEqual([index.rows for index in self.db.indexes("emp")], [3, 3, 3])
             self.refused(44, self.db.change, "delete dept where id = 20")
 
-    def test_a_commit_keeps_it(self):
+    def test_a_rollback_restores_what_was_updated(self):
+        update = self.db.prepare("update emp set dept = :dept, name = :name where id >= :id")
+        for _ in range(3):
+            with self.assertRaises(Stop), self.db.transaction():
+                self.assertEqual(update.execute(dept=10, name="a text that no cell of a row can hold", id=2), 2)
+                with self.assertRaises(Stop), self.db.transaction():
+                    self.assertEqual(self.db.change("update emp set name = '', dept = null"), 3)
+                    self.assertEqual(self.db.execute("delete emp where name = ?", ""), 3)
+                    raise Stop
+                self.assertEqual(self.db.executemany("update emp set name = ? where id = ?", [("two\nlines", 2), ("Di", 7)]), 1)
+                self.assertEqual(self.db.answer("update emp set dept = 10 where id = 1"), b"ok 1\n")
+                self.refused(42, self.db.execute, "update emp set dept = 30")
+                self.refused(36, self.db.execute, "update emp set id = 1")
+                self.assertEqual(self.db.execute("delete dept where id = 20"), 1)
+                self.refused(44, self.db.change, "delete dept where id = 10")
+                self.check_rows([(10, "toys")], [(1, "Ann", 10), (2, "two\nlines", 10), (3, "a text that no cell of a row can hold", 10)])
+                raise Stop
+            self.check_rows(self.depts, self.emps)
+            self.assertEqual(self.db.select("select id from emp where name = 'Bob'"), [(2,)])
+            self.assertEqual(self.db.select("select id from emp where dept = 20"), [(1,), (3,)])
+            self.assertEqual([index.rows for index in self.db.indexes("emp")], [3, 3, 3])
+            self.refused(44, self.db.change, "delete dept where id = 20")
+
+    def test_a_commit_keeps_what_was_updated(self):
+        with self.db.transaction():
+            self.assertEqual(self.db.executemany("update emp set dept = ? where id = ?", [(10, 1), (None, 3)]), 2)
+            with self.db.transaction():
+                self.assertEqual(self.db.change("update emp set name = 'Eve' where dept = 10"), 1)
+        self.check_rows(self.depts, [(1, "Eve", 10), (2, "Bob", None), (3, "Cy?", None)])
+        self.assertEqual(self.db.change("delete dept where id = 20"), 1)
+
+    def test_a_commit_keeps_what_was_deleted(self):
         with self.db.transaction():
             self.assertEqual(self.db.executemany("delete emp where id = :id", [{"id": 1}, {"id": 3}]), 2)
             self.assertEqual(self.db.executemany("delete dept where id = ?", [(20,), (30,)]), 1)
@@ -271,9 +298,11 @@ class Deletes(binding.WithDatabase):
 
     def check_order(self, db, draw):
         above, delete = db.prepare("delete t where id >= ?"), db.prepare("delete t where s = ?")
+        set_above, set_one = db.prepare("update t set s = ? where id >= ?"), db.prepare("update t set s = ? where id = ?")
+        steps = "insert, insert, load, load, set above, set one, above, delete, by key, begin, begin, commit, rollback".split(", ")
         rows, saved = {}, []
         for number in range(STEPS):
-            step = draw.choice(("insert", "insert", "load", "load", "above", "delete", "by key", "begin", "begin", "commit", "rollback"))
+            step = draw.choice(steps)
             text, key = str(draw.randrange(5)), draw.randrange(number + 1)
             if step == "insert" and key not in rows:
                 db.execute("insert t (?, ?)", key, text)
@@ -281,6 +310,12 @@ class Deletes(binding.WithDatabase):
             elif step == "load":
                 self.assertEqual(db.load("t", ((-number * 3 - at, text) for at in range(1, 4))), 3)
                 rows.update((-number * 3 - at, text) for at in range(1, 4))
+            elif step == "set above":
+                self.assertEqual(set_above.execute(text, key), sum(id >= key for id in rows))
+                rows = {id: text if id >= key else s for id, s in rows.items()}
+            elif step == "set one":
+                self.assertEqual(set_one.execute(text, key), key in rows)
+                rows.update({key: text} if key in rows else {})
             elif step == "above":
                 self.assertEqual(above.execute(key), sum(id >= key for id in rows))
                 rows = {id: s for id, s in rows.items() if id < key}
