@@ -61,29 +61,58 @@ class ThroughAPipe(shells.Piped):
             *COMPANY,
             ".begin",
             "insert emp (3, 'Cy', 10)",
-            "update emp set name = 'Bo'",
             "table more (id int)",
             "index emp name hash",
             "drop index emp dept tree",
             "drop table emp",
-            "update emp set name = 'a\nb'",
+            "table more (id int, s\ntext)",
             ".parameter set 1 7",
-            "update emp set name = 'Bo' where id = ?",
             "delete emp where id > ?",
             "# a comment",
             "\t",
-            "updat emp",
-            "update emp set nam = 'Bo', 7",
+            "tabel emp",
+            "drop table",
             ".rollback",
-            "update emp set name = 'Bo' where id < ?",
+            "drop index emp dept tree",
             "select id, name from emp",
         ]
-        words = ["update", "table", "index", "drop", "drop", "update"]
-        refused = [f"line {at}: {word} {NOT_IN_ONE}" for at, word in enumerate(words, 9)]
-        refused.append(f"line 17: update {NOT_IN_ONE}")
-        refused.append("line 21: error 20 not a command: column 1: updat is no command: is update meant?")
-        refused.append("line 22: error 20 not a command: column 28: wanted a column's name, found 7")
-        self.check(lines, ["emp.id,emp.name", "1,Bo", "2,Bo"], refused)
+        refused = [f"line {at}: {word} {NOT_IN_ONE}" for at, word in enumerate(["table", "index", "drop", "drop", "table"], 9)]
+        refused.append("line 19: error 20 not a command: column 1: tabel is no command: is table meant?")
+        refused.append("line 20: error 20 not a command: column 11: wanted a table's name, found the end of the line")
+        self.check(lines, ["emp.id,emp.name", "1,Ann", '2,""'], refused)
+
+    def test_updates(self):
+        lines = [
+            *COMPANY,
+            ".begin",
+            "update emp set name = 'Bo', dept = null",
+            "delete dept where id = 10",
+            "update emp set dept = 10 where id = 1",
+            ".begin",
+            "update emp set name = 'a text that no cell of a row can hold' where id = 2",
+            ".parameter set 1 'Cy'",
+            "update emp set name = ? where id < 2",
+            ".parameter clear",
+            "update emp set nam = 'Di'",
+            "update emp set name = 'Di', 7",
+            "select name, dept from emp",
+            ".rollback",
+            "select name, dept from emp",
+            ".rollback",
+            "select name, dept from emp",
+            ".begin",
+            "update emp set name = 'Di' where name = 'Ann'",
+            ".commit",
+            "select name from emp",
+        ]
+        names = "emp.name,emp.dept"
+        out = [names, "Cy,", "a text that no cell of a row can hold,", names, "Bo,", "Bo,", names, "Ann,10", '"",', "emp.name", "Di", '""']
+        refused = [
+            "line 10: error 42 no referenced row: dept has no row with the key 10, which column dept names",
+            "line 16: error 32 no such column: nam is no column of emp: is name meant?",
+            "line 17: error 20 not a command: column 29: wanted a column's name, found 7",
+        ]
+        self.check(lines, out, refused)
 
     def test_deletes(self):
         lines = [
@@ -171,6 +200,17 @@ class Undone(shells.InThisProcess):
             with self.subTest(lines):
                 self.check(["table t (id int)", *lines, ".undo", "select * from t", "tables"], [*left, "table t (id int)"])
 
+    def test_updates(self):
+        front = ["table t (id int, s text)", "index t s hash", "insert t (1, 'a')"]
+        for lines, left in (
+            (["update t set s = 'b'"], "a"),
+            (["update t set s = 'b'", "update t set s = 'a text that no cell of a row can hold' where s = 'b'"], "b"),
+            (["update t set s = 'b'", "delete t where s = 'b'"], "b"),
+            ([".parameter set 1 'c'", "update t set s = ? where id = 1", ".parameter clear"], "a"),
+        ):
+            with self.subTest(lines):
+                self.check([*front, *lines, ".undo", f"select s from t where s = '{left}'"], ["t.s", left])
+
     def test_declarations(self):
         csv = self.file("f.csv", "id,s\n7,a\n")
         front = ["table t (id int, s text)", "index t s hash"]
@@ -196,8 +236,7 @@ class Undone(shells.InThisProcess):
         no_more = "the last change can't be undone any more"
         for lines, why in (
             ([], "no change was done yet"),
-            (["update t set s = 'b' where id = 1"], "update t set s = 'b' where id = 1 can't be undone"),
-            (["insert t (2, 'b')", f"update t set s = '{'x' * 90}'"], f"update t set s = '{'x' * 39}... can't be undone"),
+            ([f"drop{' ' * 60}table t"], f"drop{' ' * 53}... can't be undone"),
             (["insert t (2, 'b')", "drop table t"], "drop table t can't be undone"),
             (["insert t (2, 'b')", "table t (id int)"], no_more),
             (["insert t (2, 'b')", ".undo"], "nothing more can be undone"),
@@ -213,8 +252,8 @@ class Undone(shells.InThisProcess):
                 self.assertEqual(err[-1], f"line {len(lines) + 4}: {why}")
 
     def test_in_a_transaction(self):
-        front = ["table t (id int)", "insert t (1)", ".begin", "insert t (2)", "insert t (3)", "update t set id = 4", ".undo"]
-        refused = [f"line 6: update {NOT_IN_ONE}"]
+        front = ["table t (id int)", "insert t (1)", ".begin", "insert t (2)", "insert t (3)", "table u (id int)", ".undo"]
+        refused = [f"line 6: table {NOT_IN_ONE}"]
         self.check([*front, "select * from t", ".rollback", "select * from t"], ["t.id", "1", "2", "t.id", "1"], refused)
         self.check([*front, ".commit", "select * from t"], ["t.id", "1", "2"], refused)
         nothing = "line 8: nothing more can be undone"
@@ -222,6 +261,9 @@ class Undone(shells.InThisProcess):
         front = ["table t (id int)", "insert t (1)", "insert t (2)", ".begin", "delete t where id = 1", "delete t", ".undo"]
         self.check([*front, "select * from t", ".rollback", "select * from t"], ["t.id", "2", "t.id", "1", "2"])
         self.check([*front, ".commit", "select * from t", ".undo"], ["t.id", "2"], ["line 10: no change was done since .commit"])
+        front = ["table t (id int, s text)", "insert t (1, 'a')", ".begin", "update t set s = 'b'", "update t set s = 'c'", ".undo"]
+        self.check([*front, "select s from t", ".rollback", "select s from t"], ["t.s", "b", "t.s", "a"])
+        self.check([*front, ".commit", "select s from t"], ["t.s", "b"])
 
     def test_lines_of_a_long_file(self):
         lines = [*(f"insert t ({at})" for at in range(3)), *["# a comment"] * (transactions.MOST_LINES - 4)]
@@ -266,18 +308,18 @@ class Held(shells.InThisProcess):
             self.do(shell, f".load t {self.file('f', 'id')}", refused=f"error 90 no memory; no row of {self.room}/f went in")
         self.do(shell, ".begin", "insert t (4)")
         with unittest.mock.patch.object(shell.db, "begin", side_effect=mmdb.NoMemory(90, "no memory")):
-            self.do(shell, "update t set id = 9", refused=f"update {NOT_IN_ONE}")
+            self.do(shell, "table u (id int)", refused=f"table {NOT_IN_ONE}")
             self.do(shell, "delete t", ".count t", said="0\n")
             self.do(shell, ".undo", refused="no memory was found to undo delete t")
         self.do(shell, ".rollback", ".count t", said="3\n")
 
     def test_no_memory_for_a_change_in_one(self):
         shell = self.shell()
-        self.do(shell, "table t (id int)", "insert t (1)")
+        self.do(shell, "table t (id int)", "insert t (1)", "table u (id int, s text)", "insert u (1, 'a')")
         answered = shell.db.answer
 
         def answer(line, block=None):
-            is_refused = line.startswith((b"insert", b"delete")) and shell.db.in_transaction
+            is_refused = line.startswith((b"insert", b"update", b"delete")) and shell.db.in_transaction
             return b"error 90 no memory\n" if is_refused else answered(line, block)
 
         with unittest.mock.patch.object(shell.db, "answer", answer):
@@ -285,6 +327,8 @@ class Held(shells.InThisProcess):
             self.do(shell, ".undo", refused="no memory was found to undo insert t (2)")
             self.do(shell, "delete t where id = 1", ".count t", said="1\n")
             self.do(shell, ".undo", refused="no memory was found to undo delete t where id = 1")
+            self.do(shell, "update u set s = 'b'", "select s from u", said="u.s\nb\n")
+            self.do(shell, ".undo", refused="no memory was found to undo update u set s = 'b'")
 
     def test_answers_are_those_without_it(self):
         for name, stream, _ in harness.rows():
@@ -351,19 +395,19 @@ class AtATerminal(shells.AtATerminal):
 
     def test_over_several_lines_in_one(self):
         shell = self.typed()
-        shell.ask("table t (id int)")
+        shell.ask("table t (id int, n int)")
         self.asked(shell, ".begin", "mmdb*> ")
         shell.type("table u (\n")
         shell.wait_for(" ...> ")
         self.assertEqual(self.asked(shell, "id int)", "mmdb*> "), f"table {NOT_IN_ONE}\n")
         told = "  tabel u\n  ^\nerror 20 not a command: column 1: tabel is no command: is table meant?\n"
         self.assertEqual(self.asked(shell, "tabel u", "mmdb*> "), told)
-        shell.type("ins\tt (7)\n")
+        shell.type("ins\tt (7, 7)\n")
         shell.wait_for("ok 1\n")
+        shell.type("upd\tt set n = 1\n")
+        shell.wait_for("update t set n = 1\nok 1\nmmdb*> ")
         shell.type("del\tt\n")
         shell.wait_for("delete t\nok 1\nmmdb*> ")
-        shell.type("upd\tt set id = 1\n")
-        shell.wait_for(f"update t set id = 1\nupdate {NOT_IN_ONE}\nmmdb*> ")
         shell.type("\x04")
         shell.wait_for("a transaction was open, and ends with the database: it wasn't committed\n")
         self.assertEqual(shell.end(), 0)
