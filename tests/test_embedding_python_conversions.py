@@ -1,5 +1,6 @@
 """The binding for Python: values of other types than int and str, which adapters store and converters read."""
 
+import contextlib
 import datetime
 import decimal
 import enum
@@ -100,7 +101,7 @@ class Adapters(WithTables):
                     self.assertEqual(self.db.execute("delete t"), 1)
 
     def test_by_a_cursor(self):
-        with mmdb.connect() as connection:
+        with contextlib.closing(mmdb.connect()) as connection:
             cursor = connection.cursor().execute("table t (id int, day text)")
             cursor.execute("insert t (?, ?)", (True, datetime.date(2026, 1, 1)))
             self.assertEqual(cursor.execute("select * from t").fetchall(), [(1, "2026-01-01")])

@@ -1,9 +1,10 @@
-"""The binding for Python: PEP 249, and the classes of its errors."""
+"""The binding for Python: PEP 249, its transactions, and the classes of its errors."""
 
 import contextlib
 import datetime
 import pickle
 import re
+import threading
 import unittest
 
 from support import model
@@ -194,6 +195,7 @@ class Connections(unittest.TestCase):
 
     def test_nothing_to_fetch(self):
         for operation in (None, "insert t (1, 'a')", "# select", "drop table t"):
+            self.connection.commit()
             cursor = self.connection.cursor() if operation is None else self.cursor.execute(operation)
             for fetch in (cursor.fetchone, cursor.fetchmany, cursor.fetchall, lambda cursor=cursor: next(cursor)):
                 with self.assertRaisesRegex(mmdb.ProgrammingError, "no rows to fetch"):
@@ -221,6 +223,7 @@ class Connections(unittest.TestCase):
                 self.assertRaises(error, self.cursor.execute, operation, parameters)
                 self.assertRaises(mmdb.ProgrammingError, self.cursor.fetchall)
                 self.assertEqual((self.cursor.description, self.cursor.rowcount), (None, -1))
+                self.assertFalse(self.connection.database.in_transaction)
         self.assertRaises(mmdb.ProgrammingError, self.cursor.executemany, "select * from t", [()])
         self.assertEqual(self.connection.database.dump("t"), [[1, "a"]])
 
@@ -235,11 +238,6 @@ class Connections(unittest.TestCase):
             with self.subTest(given=given), self.assertRaises(error) as raised:
                 call("insert t (?, ?)", *given)
             self.assertEqual(str(raised.exception).split("\n")[0], f"error {told}")
-
-    def test_no_transactions(self):
-        self.cursor.execute("insert t (1, 'a')")
-        self.assertRaises(mmdb.NotSupportedError, self.connection.rollback)
-        self.assertEqual(self.cursor.execute("select * from t").fetchall(), [[1, "a"]])
 
     def test_sizes_are_taken(self):
         self.cursor.setinputsizes([int])
@@ -267,11 +265,193 @@ class Connections(unittest.TestCase):
         self.assertEqual(self.connection.cursor().execute("select * from t").fetchall(), [])
 
     def test_a_closed_connection(self):
-        with self.connection as connection:
+        with contextlib.closing(self.connection) as connection:
             self.cursor.execute("select * from t")
         connection.close()
         self.check_closed(self.cursor, "the connection is closed")
-        for call in (connection.cursor, connection.commit):
+        for call in (connection.cursor, connection.commit, connection.rollback):
             with self.assertRaisesRegex(mmdb.ProgrammingError, re.escape("the connection is closed")):
                 call()
         self.cursor.close()
+
+
+class Stop(Exception):
+    """What ends a block."""
+
+
+class WithRows(unittest.TestCase):
+    """A connection with a table of one row."""
+
+    autocommit = False
+
+    def setUp(self):
+        self.connection = mmdb.connect(autocommit=self.autocommit)
+        self.addCleanup(self.connection.close)
+        self.database = self.connection.database
+        self.cursor = self.connection.cursor()
+        self.cursor.execute("table t (id int, s text)")
+        self.database.execute("insert t (1, 'a')")
+
+    def check(self, rows, is_open):
+        self.assertEqual((self.database.dump("t"), self.database.in_transaction), (rows, is_open))
+
+    def rows(self):
+        return self.connection.cursor().execute("select * from t").fetchall()
+
+
+class Transactions(WithRows):
+    """A change begins one, which a commit or a rollback ends."""
+
+    def test_a_change_begins_one_and_nothing_else_does(self):
+        self.assertIs(self.connection.autocommit, False)
+        for operation in ("select * from t", "tables", "dump t", "# insert", "", "index t s hash", "drop index t s hash"):
+            self.cursor.execute(operation)
+            self.check([(1, "a")], False)
+        for operation, parameters in (
+            ("insert t (2, 'b')", ()),
+            ("update t set s = ?", ("b",)),
+            (" delete t where id = 9", ()),
+            ("# one more\ninsert t (:id,\n :s)", {"id": 3, "s": "c"}),
+        ):
+            self.cursor.execute(operation, parameters)
+            self.assertTrue(self.database.in_transaction)
+            self.cursor.execute("delete t where id = 1")
+            # (which ends the innermost)
+            self.database.rollback()
+            self.check([(1, "a")], False)
+        self.cursor.executemany("insert t (?, 'b')", [(2,)])
+        self.check([(1, "a"), (2, "b")], True)
+
+    def test_a_commit_keeps_and_a_rollback_undoes(self):
+        for end, rows in ((self.connection.rollback, [(1, "a")]), (self.connection.commit, [(2, "b"), (3, "c"), (4, "b")])):
+            self.cursor.executemany("insert t (?, ?)", [(2, "x"), (3, "c"), (4, "b")])
+            self.cursor.execute("update t set s = ? where id = ?", ("b", 2))
+            self.cursor.execute("delete t where s = ?", ("a",))
+            self.assertEqual((self.cursor.rowcount, self.rows()), (1, [(2, "b"), (3, "c"), (4, "b")]))
+            for _ in range(2):
+                self.assertIsNone(end())
+                self.check(rows, False)
+        self.connection.rollback()
+        self.check(rows, False)
+
+    def test_one_that_is_refused_begins_none(self):
+        for operation, parameters in (("insert t (1, 'b')", ()), ("insert t (2, ?)", ()), ("delete u", ()), ("update t set s = 1", ())):
+            self.assertRaises(mmdb.DatabaseError, self.cursor.execute, operation, parameters)
+            self.check([(1, "a")], False)
+        self.cursor.execute("insert t (2, 'b')")
+        self.assertRaises(mmdb.IntegrityError, self.cursor.execute, "insert t (2, 'c')")
+        self.check([(1, "a"), (2, "b")], True)
+
+    def test_many_of_which_one_is_refused(self):
+        for rows in ([(2, "b"), (3,)], [(2, "b"), 3], [(2, "b"), (3, 1.5)]):
+            self.assertRaises(mmdb.ProgrammingError, self.cursor.executemany, "insert t (?, ?)", rows)
+            self.check([(1, "a")], False)
+        self.assertRaises(mmdb.IntegrityError, self.cursor.executemany, "insert t (?, ?)", iter([(2, "b"), (1, "c"), (3, "d")]))
+        self.check([(1, "a"), (2, "b")], True)
+        self.connection.rollback()
+        self.check([(1, "a")], False)
+
+    def test_declarations_are_final_and_stand_in_none(self):
+        self.cursor.execute("insert t (2, 'b')")
+        for operation in ("table u (id int)", "index t s hash", "drop table t"):
+            with self.assertRaisesRegex(mmdb.NotSupportedError, "this isn't done in a transaction: commit it or roll it back first"):
+                self.cursor.execute(operation)
+            self.check([(1, "a"), (2, "b")], True)
+        self.connection.commit()
+        self.cursor.execute("table u (id int)").execute("insert u (1)")
+        self.connection.rollback()
+        self.assertEqual((self.database.dump("u"), self.database.in_transaction), ([], False))
+
+    def test_a_block_commits_and_an_exception_rolls_back(self):
+        with self.connection as given:
+            self.cursor.execute("insert t (2, 'b')")
+        self.assertIs(given, self.connection)
+        self.check([(1, "a"), (2, "b")], False)
+        for raised in (Stop, KeyboardInterrupt):
+            with self.assertRaises(raised), self.connection:
+                self.cursor.execute("delete t")
+                raise raised
+            self.check([(1, "a"), (2, "b")], False)
+        with self.connection:
+            pass
+        with self.assertRaises(Stop), self.connection:
+            self.cursor.execute("delete t")
+            self.connection.close()
+            raise Stop
+        with self.assertRaisesRegex(mmdb.ProgrammingError, "the connection is closed"), self.connection:
+            self.cursor.execute("delete t")
+
+    def test_savepoints_of_the_database_end_too(self):
+        for end, rows in ((self.connection.rollback, [(1, "a")]), (self.connection.commit, [(1, "a"), (2, "b"), (4, "d")])):
+            self.cursor.execute("insert t (2, 'b')")
+            with self.assertRaises(Stop), self.database.transaction():
+                self.cursor.execute("insert t (3, 'c')")
+                raise Stop
+            self.database.begin()
+            self.cursor.execute("insert t (4, 'd')")
+            end()
+            self.check(rows, False)
+
+    def test_the_calls_of_the_database_begin_none(self):
+        self.database.load("t", [(2, "b")])
+        self.connection.rollback()
+        self.check([(1, "a"), (2, "b")], False)
+        self.cursor.execute("delete t where id = 2")
+        self.database.load("t", [(3, "c")])
+        self.connection.rollback()
+        self.check([(1, "a"), (2, "b")], False)
+
+    def test_it_is_of_all_cursors_and_threads(self):
+        for call in (lambda: self.cursor.execute("insert t (2, 'b')"), lambda: self.connection.cursor().execute("delete t where id = 1")):
+            thread = threading.Thread(target=call)
+            thread.start()
+            thread.join()
+        self.check([(2, "b")], True)
+        self.connection.rollback()
+        self.check([(1, "a")], False)
+
+    def test_none_begins_while_tables_are_shared(self):
+        with self.database.reader():
+            self.assertRaises(mmdb.OperationalError, self.cursor.execute, "insert t (2, 'b')")
+            self.assertEqual(self.rows(), [(1, "a")])
+            self.connection.commit()
+        self.cursor.execute("insert t (2, 'b')")
+        self.assertRaises(mmdb.NotSupportedError, self.database.reader)
+
+    def test_rows_stay(self):
+        self.cursor.execute("insert t (2, 'b')").execute("select * from t")
+        self.connection.rollback()
+        self.assertEqual((self.cursor.fetchall(), self.rows()), ([(1, "a"), (2, "b")], [(1, "a")]))
+
+    def test_a_close_commits_nothing(self):
+        self.cursor.execute("insert t (2, 'b')")
+        self.connection.close()
+        self.assertFalse(self.database.in_transaction)
+        with contextlib.closing(mmdb.connect()) as other:
+            self.assertEqual(other.database.execute("tables"), "")
+
+
+class Autocommit(WithRows):
+    """Each change is final."""
+
+    autocommit = True
+
+    def test_each_change_is_final(self):
+        self.assertIs(self.connection.autocommit, True)
+        self.cursor.execute("insert t (2, 'b')")
+        self.cursor.execute("update t set s = 'c' where id = 1")
+        self.assertRaises(mmdb.IntegrityError, self.cursor.executemany, "insert t (?, 'd')", [(3,), (2,), (4,)])
+        self.check([(1, "c"), (2, "b"), (3, "d")], False)
+        self.connection.commit()
+        with self.assertRaisesRegex(mmdb.NotSupportedError, "each change is final by autocommit"):
+            self.connection.rollback()
+        self.cursor.execute("index t s hash").execute("drop table t")
+        self.assertEqual(self.database.execute("tables"), "")
+
+    def test_the_end_of_a_block_does_nothing(self):
+        with self.connection:
+            self.cursor.execute("insert t (2, 'b')")
+        with self.assertRaises(Stop), self.connection:
+            self.cursor.execute("insert t (3, 'c')")
+            raise Stop
+        self.check([(1, "a"), (2, "b"), (3, "c")], False)

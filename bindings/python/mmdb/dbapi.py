@@ -1,14 +1,15 @@
-"""PEP 249 over a database, as far as it goes without transactions: each command is final."""
+"""PEP 249 over a database. A change begins a transaction, unless the connection commits each by itself."""
 
 from __future__ import annotations
 
+import contextlib
 import datetime
-from typing import Any, Iterable, List, Mapping, NoReturn, Optional, Sequence, Tuple
+from typing import Any, Callable, Iterable, Iterator, List, Mapping, NoReturn, Optional, Sequence, Tuple, Type
 
 from . import errors
 from .database import MOST, Database, Parameters
-from .errors import NotSupportedError, WrongType, WrongUse
-from .lines import one_line
+from .errors import NotSupportedError, Refused, WrongType, WrongUse
+from .lines import check_line, one_line, placed
 from .rows import Row, Rows, row_type, short_names
 
 apilevel = "2.0"
@@ -63,15 +64,22 @@ def TimestampFromTicks(ticks: float) -> datetime.datetime:  # pylint: disable=in
 Description = Tuple[str, type, None, None, None, None, None]
 
 
-def connect(policy: str = "auto", rows: int = MOST, block: int = MOST) -> Connection:
-    """A connection to a new database, which has no tables yet. The arguments are those of `Database`."""
-    return Connection(Database(policy, rows, block))
+def connect(policy: str = "auto", rows: int = MOST, block: int = MOST, *, autocommit: bool = False) -> Connection:
+    """A connection to a new database, which has no tables yet. The first three arguments are those of `Database`.
+
+    With `autocommit` each change is final, and nothing can be rolled back.
+    """
+    return Connection(Database(policy, rows, block), autocommit)
 
 
 class Connection:
-    """A connection to a database. Each command is done for good once its call is, and begins no transaction.
+    """A connection to a database.
 
-    Used as a context manager, it is closed at the end. Each call of a closed one but `close` raises ProgrammingError.
+    Without `autocommit` the first insert, update or delete of its cursors begins a transaction, which `commit` or `rollback`
+    ends. A declaration begins none. It is final, and raises InTransaction if a transaction is open: commit first.
+
+    Used as a context manager, it commits at the end, or rolls back at an exception. It isn't closed then. Each call of a
+    closed one but `close` raises ProgrammingError.
     """
 
     # (the exceptions of PEP 249, for programs that have connections of several modules)
@@ -86,31 +94,78 @@ class Connection:
     ProgrammingError = errors.ProgrammingError
     NotSupportedError = errors.NotSupportedError
 
-    def __init__(self, database: Database) -> None:
-        #: The database, for what PEP 249 has no call for, as `load` and `dump`.
+    def __init__(self, database: Database, autocommit: bool = False) -> None:
+        #: The database, for what PEP 249 has no call for, as `load` and `dump`. Its calls begin no transaction by themselves.
         self.database = database
+        self._autocommit = autocommit
+
+    @property
+    def autocommit(self) -> bool:
+        """Whether each change is final."""
+        return self._autocommit
 
     def cursor(self) -> Cursor:
         self._check()
         return Cursor(self)
 
     def commit(self) -> None:
-        """Does nothing, since there is nothing to do."""
+        """Keeps what was changed since the last commit or rollback. Does nothing if nothing was, and with `autocommit`."""
         self._check()
+        if not self._autocommit:
+            self._end_all(self.database.commit)
 
-    def rollback(self) -> NoReturn:
-        """Raises NotSupportedError, since nothing can be taken back."""
-        raise NotSupportedError("mmdb: each command is final, so nothing can be rolled back")
+    def rollback(self) -> None:
+        """Undoes what was changed since the last commit or rollback. Does nothing if nothing was.
+
+        Raises NotSupportedError with `autocommit`.
+        """
+        self._check()
+        if self._autocommit:
+            raise NotSupportedError("mmdb: each change is final by autocommit, so nothing can be rolled back")
+        self._end_all(self.database.rollback)
 
     def close(self) -> None:
-        """Closes the database, which frees all its memory. A second call does nothing."""
+        """Closes the database, which frees all its memory, without a commit. A second call does nothing."""
         self.database.close()
 
     def __enter__(self) -> Connection:
         return self
 
-    def __exit__(self, *_: object) -> None:
-        self.close()
+    def __exit__(self, kind: Optional[Type[BaseException]], *_: object) -> None:
+        if self._autocommit or self.database.closed:
+            return
+        if kind is None:
+            self.commit()
+        else:
+            self.rollback()
+
+    @contextlib.contextmanager
+    def _doing(self, operation: str, *leaving: Type[BaseException]) -> Iterator[None]:
+        """For an operation: a change begins a transaction if none is open, which ends again if the change raises. It stays open
+        where that is one of the errors that leave some rows changed."""
+        check_line(operation)
+        at = placed(operation)
+        if self._autocommit or not at.is_statement or at.is_select:
+            yield
+            return
+        with self.database._alone():
+            if self.database.in_transaction:
+                yield
+                return
+            self.database.begin()
+            try:
+                yield
+            except leaving:
+                raise
+            except BaseException:
+                self._end_all(self.database.rollback)
+                raise
+
+    def _end_all(self, end: Callable[[], None]) -> None:
+        """Ends all transactions that are open, as savepoints may be."""
+        with self.database._alone():
+            while self.database.in_transaction:
+                end()
 
     def _check(self) -> None:
         """Raises ProgrammingError where the connection is closed."""
@@ -141,20 +196,25 @@ class Cursor:
 
         Raises one of the errors of PEP 249.
         """
-        self._begin()
+        self._forget()
         if isinstance(parameters, (str, bytes)) or not isinstance(parameters, (Sequence, Mapping)):
             raise WrongType(f"mmdb: parameters are a sequence or a mapping, not a {type(parameters).__name__}")
         given = (parameters,) if isinstance(parameters, Mapping) else tuple(parameters)
-        self._take(operation, self.connection.database.execute(operation, *given))
+        with self.connection._doing(operation):
+            found = self.connection.database.execute(operation, *given)
+        self._take(operation, found)
         return self
 
     def executemany(self, operation: str, seq_of_parameters: Iterable[Parameters]) -> Cursor:
         """Executes an insert, an update or a delete with each of these, and returns this cursor.
 
-        `rowcount` is the sum of all. Raises what `Database.executemany` raises.
+        `rowcount` is the sum of all. Raises what `Database.executemany` raises. If one is refused, those before it are done,
+        unless the transaction is rolled back.
         """
-        self._begin()
-        self.rowcount = self.connection.database.executemany(operation, seq_of_parameters)
+        self._forget()
+        rows = list(seq_of_parameters)
+        with self.connection._doing(operation, Refused):
+            self.rowcount = self.connection.database.executemany(operation, rows)
         return self
 
     def fetchone(self) -> Optional[Row]:
@@ -236,7 +296,7 @@ class Cursor:
         if self._is_closed:
             raise WrongUse("mmdb: the cursor is closed")
 
-    def _begin(self) -> None:
+    def _forget(self) -> None:
         """Forgets what the last command gave."""
         self._check()
         self._rows, self.description, self.rowcount, self._at = None, None, -1, 0
