@@ -133,6 +133,10 @@ same_kind Tree Hash = refl
 same_kind Hash Tree = refl
 same_kind Hash Hash = refl
 
+-- a declaration is tested alike among relations and among plain tables
+pub same_tests : (column : ColumnNumber) (k : IndexKind) → relation.is_index (declaration column k) ≡ (λ d. plain.is_index column k (plain_index d))
+same_tests column k = λ i d. (d.column.0 == column.0) && sym (same_kind k d.kind) i
+
 kind_exact : (k l : IndexKind) → plain.is_kind k l ≡ true → l ≡ k
 kind_exact Tree Tree e = refl
 kind_exact Hash Hash e = refl
@@ -168,11 +172,10 @@ module _ (c : CatalogState) (ok : IsConsistent c) (n : TableNumber) (column : Co
       let dropped = dropped_alike k column.0 s others in
       let keeps : IsAlike s new = subst (IsAlike s) (sym changed.changed) dropped.0 in
       let declared : new.declared ≡ others = ap (λ (t : RelationState). t.declared) changed.changed ∙ dropped.1 in
-      let tests : relation.is_index (declaration column k) ≡ (λ d. plain.is_index column k (plain_index d)) = λ i d. (d.column.0 == column.0) && sym (same_kind k d.kind) i in
       let sound_table : IsSoundTable c.limits (table_of c.relations name.0 s) = All-at (IsSoundTable c.limits) (database_of c) n.0 (table_of c.relations name.0 s) ok.sound.each at in
       let apart = sound_table.indexes_apart in
       let indexes : map plain_index new.declared ≡ filter (λ i. not (plain.is_index column k i)) (map plain_index s.declared) =
-      ap (map plain_index) declared ∙ ap (λ test. map plain_index (without_first test s.declared)) tests
+      ap (map plain_index) declared ∙ ap (λ test. map plain_index (without_first test s.declared)) (same_tests column k)
       ∙ sym (without_first-map (plain.is_index column k) plain_index s.declared)
       ∙ without_apart (plain.is_index column k) (map plain_index s.declared) (index_exact column k) apart in
       let database : database_of (record c { relations = set c.relations n.0 new }) ≡ (done c.limits (database_of c) (resolved.DropIndex n column k)).database =

@@ -52,6 +52,8 @@ pub mod HiddenRows
 pub mod HideSteps
 pub mod Owing
 pub mod ShownAgain
+pub mod LastTable
+pub mod IndexMore
 pub mod HideDone
 pub mod LoadSteps
 pub mod NamedTables

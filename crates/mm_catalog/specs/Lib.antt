@@ -4,6 +4,7 @@ pub mod Changes
 pub mod ChangedBack
 pub mod Consistent
 pub mod Created
+pub mod Declarations
 pub mod Deleted
 pub mod Dropped
 pub mod Inserted

@@ -29,7 +29,7 @@ use std::marker::Model;
 #[derive(Drop)]
 pub struct Catalog {
     pub(crate) limits: Limits,
-    names: IndexSet<String>,
+    pub(crate) names: IndexSet<String>,
     pub(crate) relations: Vec<Relation>,
     // Where the cells of a row are packed on their way into a table. It keeps its memory from row to row.
     cells: Vec<StoredCell>,
@@ -65,6 +65,7 @@ impl Catalog {
     ghost use Rattle.plain_tables.specs.Effects.{Refused};
     ghost use Rattle.plain_tables.specs.Tables.{Row};
     ghost use Rattle.mm_catalog.specs.Changes.{IsDone, HasEffect, IsRefusedFor, IsDeclinedFor, KeepsDatabase};
+    ghost use Rattle.mm_catalog.specs.Declarations.{HasIndexMore, HasTableMore, without_declared};
     ghost use Rattle.mm_catalog.specs.LoadOrder.{row_at};
     ghost use Rattle.mm_catalog.specs.Loaded.{HasCome, HaveGone, AreFreeRows};
     ghost use Rattle.mm_catalog.specs.Outline.{HasRowsMore, HaveCome, outline_of, without_rows};
@@ -73,6 +74,7 @@ impl Catalog {
     ghost use Rattle.mm_resolver.specs.Naming.{table_number};
     ghost use Rattle.mm_catalog.specs.Trees.{TellsTree};
     ghost use Rattle.mm_relation.specs.Changes.{HasTree};
+    ghost use Rattle.mm_relation.specs.Declaring.{declaration};
     ghost use Rattle.mm_relation.specs.State.{RelationState};
 
     /// A catalog of no tables, under these limits. It takes no memory.
@@ -164,6 +166,7 @@ impl Catalog {
     pub fn create(&mut self, name: Text, schema: Schema) -> Result<(), NoMemory>
         requires { IsMeant self.old.limits (database_of self.old) (resolved.Table name schema) }
         ensures done { OnOk result (IsDone self.old self.new (resolved.Table name schema)) }
+        ensures made { OnOk result (HasTableMore (outline_of self.old) (outline_of self.new)) }
         ensures unchanged { OnErr result (self.new ≡ self.old) }
     {
         self.relations.reserve(1)?;
@@ -188,6 +191,7 @@ impl Catalog {
     ) -> Result<(), NoMemory>
         requires { IsMeant self.old.limits (database_of self.old) (resolved.Index table column kind) }
         ensures done { OnOk result (IsDone self.old self.new (resolved.Index table column kind)) }
+        ensures indexed { OnOk result (HasIndexMore (outline_of self.old) (outline_of self.new) table.0 (declaration column kind)) }
         ensures unchanged { OnErr result (self.new ≡ self.old) }
     {
         declare(self.relations.as_mut_slice(), table, column, kind)
@@ -196,7 +200,8 @@ impl Catalog {
     /// Drops an index of a table. It takes no memory.
     pub fn drop_index(&mut self, table: TableNumber, column: ColumnNumber, kind: IndexKind)
         requires { IsMeant self.old.limits (database_of self.old) (resolved.DropIndex table column kind) }
-        ensures { IsDone self.old self.new (resolved.DropIndex table column kind) }
+        ensures done { IsDone self.old self.new (resolved.DropIndex table column kind) }
+        ensures outline { outline_of self.new ≡ without_declared table.0 (declaration column kind) (outline_of self.old) }
     {
         undeclare(self.relations.as_mut_slice(), table, column, kind)
     }

@@ -17,8 +17,11 @@ use Rattle.mm_catalog.specs.Counted.{LeadIntoCounted}
 use Rattle.mm_catalog.specs.Created.{aimed_relation, GainCounts}
 use Rattle.mm_catalog.specs.Consistent.{IsConsistent}
 use Rattle.mm_catalog.specs.Changes.{IsDone}
+use Rattle.mm_catalog.specs.Declarations.{HasTableMore}
+use Rattle.mm_catalog.specs.Outline.{outline_of}
 use Rattle.mm_catalog.proofs.Created.{new_key, leads_before}
 use Rattle.mm_catalog.proofs.Gaining.{consistent_created, done_created}
+use Rattle.mm_catalog.proofs.LastTable.{table_more}
 use Rattle.mm_catalog.proofs.Lists.{whole}
 use Rattle.mm_catalog.proofs.catalog.Catalog.create.Goals as goal
 use Rattle.mm_catalog.proofs.catalog.Catalog.create.Goals.{After-push_reserved}
@@ -53,9 +56,9 @@ invariant_of-self-in_err-count_targets c =
 abbrev seen : After-push_reserved → CatalogState
 seen c = record { limits = c.self.inside.limits; names = map string_bytes c.self.inside.names.keys; relations = c.self.inside.relations.items }
 
--- the table is there, and the catalog is consistent
+-- the table is there, and is empty, and the catalog is consistent
 created : (c : After-push_reserved) → (d : CatalogState) → d ≡ record (seen c) { names = map string_bytes c.insert.new.self.keys; relations = c.push_reserved.new.self.items }
-    → IsConsistent d × IsDone (seen c) d (resolved.Table c.args.name c.args.schema)
+    → IsConsistent d × IsDone (seen c) d (resolved.Table c.args.name c.args.schema) × HasTableMore (outline_of (seen c)) (outline_of d)
 created c d is =
     let keys = c.self.inside.names.keys in
     let keys_now = c.reserve-2.new.self.keys in
@@ -79,9 +82,10 @@ created c d is =
     let relations : c.push_reserved.new.self.items ≡ mid ++ aimed_relation s.names c.args.schema ∷ [] =
     c.push_reserved.ensures.items ∙ ap (λ rs. rs ++ c.in_ok-relation.relation ∷ []) back ∙ ap (λ r. mid ++ r ∷ []) made in
     let kept : IsKept (aimed_relation s.names c.args.schema) = subst IsKept made c.in_ok-relation.ensures.kept in
-    subst (λ e. IsConsistent e × IsDone s e (resolved.Table c.args.name c.args.schema)) ((λ i. record { limits = s.limits; names = sym names i; relations = sym relations i }) ∙ sym is) (
+    subst (λ e. IsConsistent e × IsDone s e (resolved.Table c.args.name c.args.schema) × HasTableMore (outline_of s) (outline_of e)) ((λ i. record { limits = s.limits; names = sym names i; relations = sym relations i }) ∙ sym is) (
       consistent_created s c.self.invariant mid gains c.args.name c.args.schema kept meant counts,
       done_created s c.self.invariant mid gains c.args.name c.args.schema kept meant counts,
+      table_more s mid gains c.args.name c.args.schema,
     )
 
 pub invariant_of-self-2 : goal.invariant_of-self-2
@@ -89,3 +93,6 @@ invariant_of-self-2 c = (created (goal.at.invariant_of-self-2 c).After-push_rese
 
 pub returns-clause-done : goal.returns-clause-done
 returns-clause-done c = rw (← c.self.view_is) (created (goal.at.returns-clause-done c).After-push_reserved _ refl).1
+
+pub returns-clause-made : goal.returns-clause-made
+returns-clause-made c = rw (← c.self.view_is) (created (goal.at.returns-clause-made c).After-push_reserved _ refl).2
