@@ -34,6 +34,7 @@ mod references;
 mod removal;
 mod row_values;
 mod schemas;
+mod taking_back;
 mod updating;
 
 pub use catalog::Catalog;
