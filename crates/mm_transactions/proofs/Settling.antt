@@ -1,21 +1,23 @@
 -- Changes that are settled: what they set aside is let go.
-use Rattle.std.proofs.Common.{◌≡◌, ℕ, ◌+◌, ◌-◌, ◌≤◌, List, [], ◌∷◌, Some, None, IsSome, refl, sym, ap, ◌∙◌, subst, arith, length, map, set}
+use Rattle.std.proofs.Common.{◌≡◌, ◌≢◌, ℕ, ◌+◌, ◌-◌, ◌≤◌, List, [], ◌∷◌, Some, None, IsSome, refl, sym, ap, ◌∙◌, subst, arith, length, length-take, set, take, inl, inr}
 use Rattle.std.specs.List.{All, slice_get}
-use Rattle.std.specs.Option.{option_map, option_map_or}
+use Rattle.std.specs.Option.{option_map_or}
 use Rattle.std.specs.FinMap.{get, len}
-use Rattle.std.proofs.lemmas.List.{map-set}
-use Rattle.std.proofs.lemmas.Option.{same_Some, slice_get-map, slice_get_within}
-use Rattle.common_lemmas.proofs.Options.{option_map_some}
-use Rattle.common_lemmas.proofs.Places.{set_itself, slice_get-inside}
+use Rattle.std.proofs.lemmas.Bool.{cases_eq}
+use Rattle.std.proofs.lemmas.Option.{same_Some, slice_get_within}
+use Rattle.common_lemmas.proofs.Places.{slice_get-inside, slice_get_set, slice_get-set_other}
 use Rattle.part_raw.specs.Store.{Tuples}
 use Rattle.part_raw.specs.declared.tuple_ref.TupleRef.{TupleRef}
 use Rattle.mm_relation.specs.Rows.{Row}
 use Rattle.mm_relation.specs.State.{RelationState}
 use Rattle.mm_catalog.specs.Assigned.{CellSet}
+use Rattle.mm_catalog.specs.Declarations.{undeclared, without_declared, without_last}
 use Rattle.mm_catalog.specs.Outline.{HidesOnce, Outline, OwesCells, OwesRows, RelationOutline, changed_at, changed_back, dropped, forgiven, outline_of, shown, with_changed_back, with_dropped, with_forgiven, with_shown, without, without_rows}
 use Rattle.mm_catalog.specs.State.{CatalogState}
+use Rattle.mm_catalog.proofs.Lists.{get-take}
+use Rattle.mm_catalog.proofs.Outlined.{changed_here}
 use Rattle.mm_transactions.specs.Log.{AreSettled, IsSettledOnce, LogState}
-use Rattle.mm_transactions.specs.Undoing.{Came, CanSettle, CanUndo, Change, Went, Were, all_settled, set_aside}
+use Rattle.mm_transactions.specs.Undoing.{Came, CanSettle, CanUndo, Change, Indexed, Made, Went, Were, all_settled}
 
 abbrev Aside : Type 0
 Aside = Tuples Row × ℕ
@@ -23,25 +25,21 @@ Aside = Tuples Row × ℕ
 abbrev aside_in : RelationOutline → Aside
 aside_in s = (s.hidden, s.owed)
 
--- a change of one relation is one of what it sets aside
-aside_changed : (f : RelationOutline → RelationOutline) (g : Aside → Aside) → ((s : RelationOutline) → aside_in (f s) ≡ g (aside_in s)) → (n : ℕ) (xs : List RelationOutline) → map aside_in (changed_at f n xs) ≡ changed_at g n (map aside_in xs)
-aside_changed f g same n xs =
-    elim (slice_get xs n) as (λ o. slice_get xs n ≡ o → map aside_in (option_map_or (λ x. set xs n (f x)) o xs) ≡ changed_at g n (map aside_in xs)) [
-      | None ↦ λ e. sym (ap (λ o. option_map_or (λ x. set (map aside_in xs) n (g x)) o (map aside_in xs)) (slice_get-map aside_in xs n ∙ ap (option_map aside_in) e))
-      | Some x ↦ λ e.
-          map-set aside_in xs n (f x) ∙ ap (set (map aside_in xs) n) (same x)
-          ∙ sym (ap (λ o. option_map_or (λ y. set (map aside_in xs) n (g y)) o (map aside_in xs)) (slice_get-map aside_in xs n ∙ ap (option_map aside_in) e))
-    ] refl
+-- each table of one outline is in the other, and hides the same rows there, and owes as many
+abbrev AreAside : Outline → Outline → Type 0
+AreAside o p = (k : ℕ) (s : RelationOutline) → slice_get o.relations k ≡ Some s → (t : RelationOutline) × (slice_get p.relations k ≡ Some t) × (aside_in t ≡ aside_in s)
 
-changed_not : (n : ℕ) (xs : List Aside) → changed_at (λ x. x) n xs ≡ xs
-changed_not n xs =
-    elim (slice_get xs n) as (λ o. slice_get xs n ≡ o → option_map_or (λ x. set xs n x) o xs ≡ xs) [
-      | None ↦ λ e. refl
-      | Some x ↦ λ e. set_itself xs n x e
-    ] refl
+pub aside_itself : (o : Outline) → AreAside o o
+aside_itself o k s at = (s, at, refl)
 
-aside_without : (n : ℕ) (refs : List TupleRef) (o : Outline) → set_aside (without_rows n refs o) ≡ set_aside o
-aside_without n refs o = aside_changed (λ s. record s { rows = without refs s.rows }) (λ x. x) (λ s. refl) n o.relations ∙ changed_not n (set_aside o)
+changed_same : {A : Type 0} (f : A → A) (n : ℕ) (xs : List A) (x : A) → slice_get xs n ≡ Some x → slice_get (changed_at f n xs) n ≡ Some (f x)
+changed_same f n xs x at = ap (λ ys. slice_get ys n) (changed_here f n xs x at) ∙ slice_get_set xs n (f x) (slice_get_within xs n x at)
+
+changed_other : {A : Type 0} (f : A → A) (n k : ℕ) (xs : List A) → k ≢ n → slice_get (changed_at f n xs) k ≡ slice_get xs k
+changed_other f n k xs other = elim (slice_get xs n) as (λ o. slice_get (option_map_or (λ x. set xs n (f x)) o xs) k ≡ slice_get xs k) [
+  | None ↦ refl
+  | Some x ↦ slice_get-set_other xs n k (f x) other
+]
 
 -- what is set aside is let go: hidden rows, and as many that are owed, or only these
 abbrev let_go : List TupleRef → Aside → Aside
@@ -50,20 +48,38 @@ let_go refs a = (without refs a.0, a.1 - length refs)
 abbrev let_off : ℕ → Aside → Aside
 let_off count a = (a.0, a.1 - count)
 
--- where the same is set aside, and two changes let the same go, what is left is the same
-module _ (n : ℕ) (o p : Outline) (same : set_aside p ≡ set_aside o) where
-  aside_alike : (f h : RelationOutline → RelationOutline) (g : Aside → Aside) → ((s : RelationOutline) → aside_in (f s) ≡ g (aside_in s)) → ((s : RelationOutline) → aside_in (h s) ≡ g (aside_in s))
-      → set_aside (record p { relations = changed_at f n p.relations }) ≡ set_aside (record o { relations = changed_at h n o.relations })
-  aside_alike f h g first second = aside_changed f g first n p.relations ∙ ap (changed_at g n) same ∙ sym (aside_changed h g second n o.relations)
+module _ (o p : Outline) (same : AreAside o p) where
+  last_gone : AreAside (without_last o) p
+  last_gone k s at =
+      let n = length o.relations - 1 in
+      same k s (sym (get-take o.relations n k (omega (arith, slice_get_within (take n o.relations) k s at, length-take n o.relations))) ∙ at)
 
-  there_too : (s : RelationOutline) → slice_get o.relations n ≡ Some s → (t : RelationOutline) × (slice_get p.relations n ≡ Some t) × (aside_in t ≡ aside_in s)
-  there_too s there =
-      let at : slice_get (map aside_in p.relations) n ≡ Some (aside_in s) = ap (λ xs. slice_get xs n) same ∙ slice_get-map aside_in o.relations n ∙ ap (option_map aside_in) there in
-      option_map_some aside_in (slice_get p.relations n) (aside_in s) (sym (slice_get-map aside_in p.relations n) ∙ at)
+  module _ (n : ℕ) (s : RelationOutline) (there : slice_get o.relations n ≡ Some s) where
+    abbrev t : (t : RelationOutline) × (slice_get p.relations n ≡ Some t) × (aside_in t ≡ aside_in s)
+    t = same n s there
 
-  hides_same : (refs : List TupleRef) → HidesOnce o n refs → HidesOnce p n refs
-  hides_same refs hides =
-      let t = there_too hides.relation hides.there in
+    changed_is : (h : RelationOutline → RelationOutline) (k : ℕ) (u : RelationOutline) → k ≡ n → slice_get (changed_at h n o.relations) k ≡ Some u → h s ≡ u
+    changed_is h k u e at = same_Some (h s) u (sym (changed_same h n o.relations s there) ∙ ap (slice_get (changed_at h n o.relations)) (sym e) ∙ at)
+
+    -- a change that lets nothing go
+    one_changed : (h : RelationOutline → RelationOutline) → aside_in (h s) ≡ aside_in s → AreAside (record o { relations = changed_at h n o.relations }) p
+    one_changed h alike k u at = elim (cases_eq k n) [
+      | inl e ↦ (t.0, ap (slice_get p.relations) e ∙ t.1, t.2 ∙ sym alike ∙ ap aside_in (changed_is h k u e at))
+      | inr other ↦ same k u (sym (changed_other h n k o.relations other) ∙ at)
+    ]
+
+    -- two changes that let the same go
+    both_changed : (f h : RelationOutline → RelationOutline) → aside_in (f t.0) ≡ aside_in (h s) → AreAside (record o { relations = changed_at h n o.relations }) (record p { relations = changed_at f n p.relations })
+    both_changed f h alike k u at = elim (cases_eq k n) [
+      | inl e ↦ (f t.0, ap (slice_get (changed_at f n p.relations)) e ∙ changed_same f n p.relations t.0 t.1, alike ∙ ap aside_in (changed_is h k u e at))
+      | inr other ↦
+          let v = same k u (sym (changed_other h n k o.relations other) ∙ at) in
+          (v.0, changed_other f n k p.relations other ∙ v.1, v.2)
+    ]
+
+  hides_same : (n : ℕ) (refs : List TupleRef) → HidesOnce o n refs → HidesOnce p n refs
+  hides_same n refs hides =
+      let t = same n hides.relation hides.there in
       record {
         relation = t.0;
         there = t.1;
@@ -72,21 +88,25 @@ module _ (n : ℕ) (o p : Outline) (same : set_aside p ≡ set_aside o) where
         owed = subst (λ (a : Aside). length refs + len (without refs a.0) ≤ a.1) (sym t.2) hides.owed;
       }
 
-  owes_same : (refs : List TupleRef) (width : ℕ) (cells : List CellSet) → OwesCells o n refs width cells → OwesRows p n (length refs)
-  owes_same refs width cells owes =
-      let t = there_too owes.relation owes.there in
+  owes_same : (n : ℕ) (refs : List TupleRef) (width : ℕ) (cells : List CellSet) → OwesCells o n refs width cells → OwesRows p n (length refs)
+  owes_same n refs width cells owes =
+      let t = same n owes.relation owes.there in
       record { relation = t.0; there = t.1; owed = subst (λ (a : Aside). length refs + len a.0 ≤ a.1) (sym t.2) owes.owed }
 
 -- where changes can be undone they can be settled
-pub can_settle : (changes : List Change) (o p : Outline) → set_aside p ≡ set_aside o → CanUndo changes o → CanSettle changes p
+pub can_settle : (changes : List Change) (o p : Outline) → AreAside o p → CanUndo changes o → CanSettle changes p
 can_settle [] o p same can = tt
-can_settle (Came n refs ∷ changes) o p same can = (tt, can_settle changes (without_rows n refs o) p (same ∙ sym (aside_without n refs o)) can.2)
+can_settle (Came n refs ∷ changes) o p same can =
+    (tt, can_settle changes (without_rows n refs o) p (one_changed o p same n can.0.relation can.0.there (λ s. record s { rows = without refs s.rows }) refl) can.2)
 can_settle (Went n refs ∷ changes) o p same can =
-    let left = aside_alike n o p same (dropped refs) (shown refs) (let_go refs) (λ s. refl) (λ s. refl) in
-    (hides_same n o p same refs can.0, can_settle changes (with_shown n refs o) (with_dropped n refs p) left can.2)
+    let left = both_changed o p same n can.0.relation can.0.there (dropped refs) (shown refs) (ap (let_go refs) (same n can.0.relation can.0.there).2) in
+    (hides_same o p same n refs can.0, can_settle changes (with_shown n refs o) (with_dropped n refs p) left can.2)
 can_settle (Were n refs width cells ∷ changes) o p same can =
-    let left = aside_alike n o p same (forgiven (length refs)) (changed_back refs width cells) (let_off (length refs)) (λ s. refl) (λ s. refl) in
-    (owes_same n o p same refs width cells can.0, can_settle changes (with_changed_back n refs width cells o) (with_forgiven n (length refs) p) left can.2)
+    let left = both_changed o p same n can.0.relation can.0.there (forgiven (length refs)) (changed_back refs width cells) (ap (let_off (length refs)) (same n can.0.relation can.0.there).2) in
+    (owes_same o p same n refs width cells can.0, can_settle changes (with_changed_back n refs width cells o) (with_forgiven n (length refs) p) left can.2)
+can_settle (Made ∷ changes) o p same can = (tt, can_settle changes (without_last o) p (last_gone o p same) can.2)
+can_settle (Indexed n index ∷ changes) o p same can =
+    (tt, can_settle changes (without_declared n index o) p (one_changed o p same n can.0.relation can.0.there (undeclared index) refl) can.2)
 
 -- ---- what else stays
 

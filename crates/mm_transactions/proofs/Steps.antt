@@ -6,8 +6,16 @@ use Rattle.std.specs.Option.{option_map}
 use Rattle.std.proofs.Math.Seq.{drop-append_seam, take-append_seam}
 use Rattle.std.proofs.lemmas.List.{length-map, reverse-append}
 use Rattle.std.proofs.lemmas.Option.{same_Some, slice_get-map, slice_get_within}
+use Rattle.common_lemmas.proofs.Places.{slice_get-inside}
 use Rattle.part_raw.specs.declared.tuple_ref.TupleRef.{TupleRef}
+use Rattle.plain_tables.specs.ResolvedLaws.{IsMeant}
+use Rattle.plain_tables.specs.declared.numbers.ColumnNumber.{ColumnNumber}
+use Rattle.plain_tables.specs.declared.numbers.TableNumber.{TableNumber}
+use Rattle.plain_tables.specs.declared.resolved.Resolved.TheVariants as resolved
+use Rattle.plain_tables.specs.declared.schema.IndexKind.{IndexKind}
+use Rattle.mm_relation.specs.Declaring.{declaration}
 use Rattle.mm_catalog.specs.Consistent.{IsConsistent}
+use Rattle.mm_catalog.specs.Declarations.{Declares}
 use Rattle.mm_catalog.specs.Loaded.{AreFreeRows}
 use Rattle.mm_catalog.specs.Outline.{HoldsOnce, IsOutline, RelationOutline, outline_of, relation_outline, without_rows}
 use Rattle.mm_catalog.specs.Picked.{HoldsRows}
@@ -51,3 +59,10 @@ module _ (c : CatalogState) (ok : IsConsistent c) (n : ℕ) (refs : List TupleRe
 
   pub rows_free : IsOutline (without_rows n refs (outline_of c)) → AreFreeRows c n refs
   rows_free stands = free_without c stands.0 ok stands.1 n refs stands.2 rows_there
+
+-- an index can be dropped of a table that declares it
+pub can_drop : (c : CatalogState) (ok : IsConsistent c) (n : TableNumber) (column : ColumnNumber) (k : IndexKind) → Declares (outline_of c) n.0 (declaration column k) → IsMeant c.limits (database_of c) (resolved.DropIndex n column k)
+can_drop c ok n column k declares =
+    let within = slice_get_within (map relation_outline c.relations) n.0 declares.relation declares.there in
+    let table = slice_get-inside (database_of c) n.0 (omega (arith, within, length-map c.relations relation_outline, database-length c ok.named)) in
+    (table.0, table.1, tt)

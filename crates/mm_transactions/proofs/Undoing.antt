@@ -15,7 +15,7 @@ use Rattle.mm_catalog.specs.State.{CatalogState}
 use Rattle.mm_transactions.specs.Log.{IsNoted, IsUndone, LogState}
 use Rattle.mm_transactions.specs.State.{IsUndoable, TransactionalState, database_at, saved_of, transactional_of}
 use Rattle.mm_transactions.specs.Tables.{tables_in}
-use Rattle.mm_transactions.specs.Undoing.{AreMarks, CanUndo, Came, Change, Went, Were, before, undone}
+use Rattle.mm_transactions.specs.Undoing.{AreMarks, CanUndo, Came, Change, Went, Were, Made, Indexed, before, undone}
 use Rattle.mm_transactions.proofs.Tables.{tables_outlined}
 
 -- where no more changes had been noted since, it is what there is
@@ -31,6 +31,8 @@ before_limits : (c : Change) (o : Outline) → (before c o).limits ≡ o.limits
 before_limits (Came n refs) o = refl
 before_limits (Went n refs) o = refl
 before_limits (Were n refs width cells) o = refl
+before_limits Made o = refl
+before_limits (Indexed n index) o = refl
 
 undone_limits : (mark : ℕ) (changes : List Change) (o : Outline) → (undone mark changes o).limits ≡ o.limits
 undone_limits mark [] o = refl

@@ -1,6 +1,7 @@
 -- What a log of changes is seen as.
 use Rattle.std.specs.Prelude.{◌≡◌, ℕ, ◌≤◌, List, [], ◌∷◌, Some, drop, length, slice_get, take}
 use Rattle.part_raw.specs.declared.tuple_ref.TupleRef.{TupleRef}
+use Rattle.mm_relation.specs.Declaring.{declaration}
 use Rattle.mm_relation.specs.State.{RelationState}
 use Rattle.mm_catalog.specs.Changes.{KeepsDatabase}
 use Rattle.mm_catalog.specs.Outline.{Outline, outline_of}
@@ -8,7 +9,7 @@ use Rattle.mm_catalog.specs.State.{CatalogState}
 use Rattle.mm_transactions.specs.declared.log.Kind.{Kind}
 use Rattle.mm_transactions.specs.declared.log.Kind.TheVariants as kind
 use Rattle.mm_transactions.specs.declared.log.Step.{Step}
-use Rattle.mm_transactions.specs.Undoing.{Change, Came, Went, Were, IsReady, before, settled}
+use Rattle.mm_transactions.specs.Undoing.{Change, Came, Went, Were, Made, Indexed, IsReady, before, settled}
 
 -- the changes of the open transactions, the newest first, and how many there were when each began, the innermost first
 pub record LogState : Type 0 where
@@ -20,6 +21,8 @@ abbrev pub change_of : Kind → ℕ → List TupleRef → Change
 change_of kind.Came n refs = Came n refs
 change_of kind.Went n refs = Went n refs
 change_of (kind.Were width cells) n refs = Were n refs width cells.items
+change_of kind.Made n refs = Made
+change_of (kind.Indexed column k) n refs = Indexed n (declaration column k)
 
 -- the changes of steps, the newest first, whose references are these, the oldest first
 abbrev pub changes_of : List Step → List TupleRef → List Change

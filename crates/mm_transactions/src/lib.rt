@@ -10,7 +10,7 @@
 //! A rollback takes the steps back to the innermost mark, the newest first. Nothing is copied when a transaction begins. It knows
 //! no names and makes no checks: the catalog does the changes, and says of each which rows came. Rows that went are hidden
 //! there, and keep their references, until the outermost transaction ends. Where values were assigned, a step keeps the cells
-//! that the rows had.
+//! that the rows had. Where a table or an index was declared, a step has no rows.
 //!
 //! - Each open transaction can be rolled back to just the database that it began with, without memory.
 //! - Outside a transaction nothing is noted.

@@ -10,22 +10,31 @@ use mm_catalog::laws::a_catalog_is_consistent;
 use mm_relation::StoredCell;
 use no_memory::NoMemory;
 use part_raw::TupleRef;
-use plain_tables::{Assignment, ColumnNumber, Refusal, Sequence, TableNumber, Value};
+use plain_tables::{
+    Assignment, ColumnNumber, IndexKind, Refusal, Schema, Sequence, TableNumber, Text, Value,
+};
 use std::alloc::Global;
 use std::marker::Model;
 use std::mem::size_of;
 
-/// What a command did with rows of a table.
+/// What a command did to a table.
 #[derive(Drop)]
 pub enum Kind {
-    /// They came in.
+    /// Rows came in.
     Came,
-    /// They went out, and are hidden.
+    /// Rows went out, and are hidden.
     Went,
-    /// Values were assigned to them. What stood in their cells: so many of each row, one row's behind the other's.
+    /// Values were assigned to rows. What stood in their cells: so many of each row, one row's behind the other's.
     Were {
         width: usize,
         cells: Vec<(ColumnNumber, StoredCell)>,
+    },
+    /// It was made, and stood last.
+    Made,
+    /// An index of it was declared.
+    Indexed {
+        column: ColumnNumber,
+        kind: IndexKind,
     },
 }
 
@@ -67,7 +76,7 @@ impl UndoLog {
     ghost use Rattle.plain_tables.specs.Doing.{done};
     ghost use Rattle.plain_tables.specs.ResolvedLaws.{AreAssignable, IsMeant, OfTable};
     ghost use Rattle.plain_tables.specs.declared.resolved.Resolved.TheVariants as resolved;
-    ghost use Rattle.mm_catalog.specs.Changes.{HasEffect, IsRefusedFor, IsDeclinedFor};
+    ghost use Rattle.mm_catalog.specs.Changes.{IsDone, HasEffect, IsRefusedFor, IsDeclinedFor};
     ghost use Rattle.mm_catalog.specs.Picked.{ArePicked, HoldsRows};
     ghost use Rattle.mm_catalog.specs.Seen.{database_of};
     ghost use Rattle.plain_tables.specs.Doing as doing;
@@ -242,6 +251,56 @@ impl UndoLog {
         Ok(())
     }
 
+    /// Declares a table in a catalog, and notes it.
+    pub fn create(
+        &mut self,
+        catalog: &mut Catalog,
+        name: Text,
+        schema: Schema,
+    ) -> Result<(), NoMemory>
+        requires { IsMeant catalog.old.limits (database_of catalog.old) (resolved.Table name schema) }
+        ensures done { OnOk result (IsDone catalog.old catalog.new (resolved.Table name schema)) }
+        ensures noted { OnOk result (IsNoted (outline_of catalog.old) (outline_of catalog.new) self.old self.new) }
+        ensures kept { OnErr result (catalog.new ≡ catalog.old) }
+        ensures unchanged { OnErr result (self.new ≡ self.old) }
+    {
+        self.steps.reserve(1)?;
+        let table = TableNumber(catalog.table_count());
+        catalog.create(name, schema)?;
+        let start = self.refs.len();
+        self.steps.push_reserved(Step {
+            kind: Kind::Made,
+            table,
+            start,
+        });
+        Ok(())
+    }
+
+    /// Declares an index of a table of a catalog, and notes it.
+    pub fn add_index(
+        &mut self,
+        catalog: &mut Catalog,
+        table: TableNumber,
+        column: ColumnNumber,
+        kind: IndexKind,
+    ) -> Result<(), NoMemory>
+        requires { IsMeant catalog.old.limits (database_of catalog.old) (resolved.Index table column kind) }
+        ensures done { OnOk result (IsDone catalog.old catalog.new (resolved.Index table column kind)) }
+        ensures noted { OnOk result (IsNoted (outline_of catalog.old) (outline_of catalog.new) self.old self.new) }
+        ensures kept { OnErr result (catalog.new ≡ catalog.old) }
+        ensures unchanged { OnErr result (self.new ≡ self.old) }
+    {
+        self.steps.reserve(1)?;
+        catalog.add_index(table, column, kind)?;
+        let start = self.refs.len();
+        self.steps.push_reserved(Step {
+            kind: Kind::Indexed { column, kind },
+            table,
+            start,
+        });
+        Ok(())
+    }
+
     // Settles the newest step: what it sets aside is let go, and it is noted no longer. It takes no memory.
     fn settle_newest(&mut self, catalog: &mut Catalog)
         requires some { 0 < length self.old.changes }
@@ -301,7 +360,7 @@ impl UndoLog {
     }
 }
 
-// Undoes what a step did with rows of a table. It takes no memory.
+// Undoes what a step did to a table, and to these rows of it. It takes no memory.
 fn undo_step(catalog: &mut Catalog, kind: Kind, table: TableNumber, rows: &[TupleRef])
     requires ready { IsReady (change_of kind table.0 rows.now) (outline_of catalog.old) }
     requires stands { IsOutline (before (change_of kind table.0 rows.now) (outline_of catalog.old)) }
@@ -312,17 +371,19 @@ fn undo_step(catalog: &mut Catalog, kind: Kind, table: TableNumber, rows: &[Tupl
         Kind::Came => catalog.take_back(table, rows),
         Kind::Went => catalog.show(table, rows),
         Kind::Were { width, mut cells } => catalog.change_back(table, rows, width, &mut cells),
+        Kind::Made => catalog.take_back_table(),
+        Kind::Indexed { column, kind } => catalog.drop_index(table, column, kind),
     }
 }
 
-// Settles what a step did with rows of a table. It takes no memory.
+// Settles what a step did to a table, and to these rows of it. It takes no memory.
 fn settle_step(catalog: &mut Catalog, kind: Kind, table: TableNumber, rows: &[TupleRef])
     requires { IsOwed (change_of kind table.0 rows.now) (outline_of catalog.old) }
     ensures outline { outline_of catalog.new ≡ settled (change_of kind table.0 rows.now) (outline_of catalog.old) }
     ensures catalog { AreSettled catalog.old catalog.new }
 {
     match kind {
-        Kind::Came => {}
+        Kind::Came | Kind::Made | Kind::Indexed { .. } => {}
         Kind::Went => catalog.drop_hidden(table, rows),
         Kind::Were { .. } => catalog.forgive(table, rows.len()),
     }

@@ -9,7 +9,10 @@ use mm_catalog::Catalog;
 use mm_catalog::laws::a_catalog_is_consistent;
 use no_memory::NoMemory;
 use part_raw::TupleRef;
-use plain_tables::{Assignment, Limits, Refusal, Sequence, TableNumber, Value};
+use plain_tables::{
+    Assignment, ColumnNumber, IndexKind, Limits, Refusal, Schema, Sequence, TableNumber, Text,
+    Value,
+};
 use std::alloc::Global;
 use std::marker::Model;
 
@@ -22,13 +25,14 @@ pub struct TransactionalCatalog {
 
 impl Model for TransactionalCatalog {
     ghost use Rattle.plain_tables.specs.contracts.numbers.ColumnNumber.{the_row as column_row};
+    ghost use Rattle.mm_relation.specs.contracts.numbers.DeclaredIndex.{the_row as index_row};
     ghost use Rattle.mm_relation.specs.contracts.row.Cell.{the_row as cell_row};
     ghost use Rattle.mm_catalog.specs.contracts.catalog.Catalog.{the_row as catalog_row};
     ghost use Rattle.mm_transactions.specs.State.{TransactionalState, IsUndoable, state_code};
 
     ghost Value = { TransactionalState };
 
-    ghost coded = { state_code catalog_row.coded column_row.coded cell_row.coded };
+    ghost coded = { state_code catalog_row.coded column_row.coded cell_row.coded index_row.coded };
 
     ghost view = { λ t. record { catalog = t.catalog; changes = t.log.changes; marks = t.log.marks } };
 
@@ -40,7 +44,7 @@ impl TransactionalCatalog {
     ghost use Rattle.plain_tables.specs.ResolvedLaws.{AreAssignable, IsMeant, OfTable};
     ghost use Rattle.plain_tables.specs.Transactions.{begun, committed, rolled_back};
     ghost use Rattle.plain_tables.specs.declared.resolved.Resolved.TheVariants as resolved;
-    ghost use Rattle.mm_catalog.specs.Changes.{HasEffect, IsRefusedFor, IsDeclinedFor};
+    ghost use Rattle.mm_catalog.specs.Changes.{IsDone, HasEffect, IsRefusedFor, IsDeclinedFor};
     ghost use Rattle.mm_catalog.specs.Outline.{outline_of};
     ghost use Rattle.mm_catalog.specs.Picked.{ArePicked, HoldsRows};
     ghost use Rattle.mm_catalog.specs.Seen.{database_of};
@@ -209,6 +213,39 @@ impl TransactionalCatalog {
         }
         a_catalog_is_consistent(&self.catalog);
         self.log.update(&mut self.catalog, table, rows, assignments)
+    }
+
+    /// Declares a table, which stands last. Its links lead into the tables that its columns refer to.
+    pub fn create(&mut self, name: Text, schema: Schema) -> Result<(), NoMemory>
+        requires { IsMeant self.old.catalog.limits (database_of self.old.catalog) (resolved.Table name schema) }
+        ensures done { OnOk result (IsDone self.old.catalog self.new.catalog (resolved.Table name schema)) }
+        ensures unchanged { OnErr result (self.new ≡ self.old) }
+        ensures saved { saved_of self.new ≡ saved_of self.old }
+    {
+        if self.log.depth() == 0 {
+            return self.catalog.create(name, schema);
+        }
+        a_catalog_is_consistent(&self.catalog);
+        self.log.create(&mut self.catalog, name, schema)
+    }
+
+    /// Declares an index of a table over the rows that are there.
+    pub fn add_index(
+        &mut self,
+        table: TableNumber,
+        column: ColumnNumber,
+        kind: IndexKind,
+    ) -> Result<(), NoMemory>
+        requires { IsMeant self.old.catalog.limits (database_of self.old.catalog) (resolved.Index table column kind) }
+        ensures done { OnOk result (IsDone self.old.catalog self.new.catalog (resolved.Index table column kind)) }
+        ensures unchanged { OnErr result (self.new ≡ self.old) }
+        ensures saved { saved_of self.new ≡ saved_of self.old }
+    {
+        if self.log.depth() == 0 {
+            return self.catalog.add_index(table, column, kind);
+        }
+        a_catalog_is_consistent(&self.catalog);
+        self.log.add_index(&mut self.catalog, table, column, kind)
     }
 
     /// The tables, to be changed in any way where no transaction is open.

@@ -3,7 +3,7 @@ use Rattle.mm_catalog.specs.Assigned.{CellSet}
 use Rattle.mm_catalog.specs.Outline.{HoldsOnce, IsOutline, OwesCells, outline_of, with_changed_back, without_rows}
 use Rattle.mm_transactions.specs.Log.{change_of}
 use Rattle.mm_transactions.specs.Undoing.{IsReady, before}
-use Rattle.mm_transactions.proofs.Steps.{rows_free, rows_there, table_there}
+use Rattle.mm_transactions.proofs.Steps.{can_drop, rows_free, rows_there, table_there}
 use Rattle.mm_transactions.proofs.log.undo_step.Goals as goal
 use Rattle.mm_transactions.proofs.log.undo_step.Goals.{In-Came}
 
@@ -41,3 +41,14 @@ change_back-requires-clause-stands c =
     let stands : IsOutline (with_changed_back n c.args.rows.now c.in-Were.width c.in-Were.cells.items (outline_of c.args.catalog.now)) =
     subst (λ k. IsOutline (before (change_of k n c.args.rows.now) (outline_of c.args.catalog.now))) c.in-Were.is c.requires.stands in
     subst (λ (cells : List CellSet). IsOutline (with_changed_back n c.args.rows.now c.in-Were.width cells (outline_of c.args.catalog.now))) (sym c.deref_mut.ensures.value) stands
+
+pub take_back_table-requires-clause-empty : goal.take_back_table-requires-clause-empty
+take_back_table-requires-clause-empty c = subst (λ k. IsReady (change_of k c.args.table.0 c.args.rows.now) (outline_of c.args.catalog.now)) c.in-Made.is c.requires.ready
+
+pub take_back_table-requires-clause-stands : goal.take_back_table-requires-clause-stands
+take_back_table-requires-clause-stands c = subst (λ k. IsOutline (before (change_of k c.args.table.0 c.args.rows.now) (outline_of c.args.catalog.now))) c.in-Made.is c.requires.stands
+
+pub drop_index-requires : goal.drop_index-requires
+drop_index-requires c =
+    can_drop c.args.catalog.now c.a_catalog_is_consistent.ensures c.args.table c.in-Indexed.column c.in-Indexed.kind
+    (subst (λ k. IsReady (change_of k c.args.table.0 c.args.rows.now) (outline_of c.args.catalog.now)) c.in-Indexed.is c.requires.ready)

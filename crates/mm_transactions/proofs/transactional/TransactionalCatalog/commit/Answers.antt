@@ -3,7 +3,7 @@ use Rattle.plain_tables.specs.Transactions.{committed}
 use Rattle.mm_catalog.specs.Outline.{outline_of}
 use Rattle.mm_transactions.specs.State.{IsUndoable, TransactionalState, database_at, transactional_of}
 use Rattle.mm_transactions.specs.Undoing.{all_settled}
-use Rattle.mm_transactions.proofs.Settling.{can_settle}
+use Rattle.mm_transactions.proofs.Settling.{aside_itself, can_settle}
 use Rattle.mm_transactions.proofs.Undoing.{committed_so, no_marks}
 use Rattle.mm_transactions.proofs.transactional.TransactionalCatalog.commit.Goals as goal
 use Rattle.mm_transactions.proofs.transactional.TransactionalCatalog.commit.Goals.{After-settle}
@@ -18,7 +18,7 @@ both c =
 
 pub settle_all-requires : goal.settle_all-requires
 settle_all-requires c =
-    rw c.in-Some.ensures.changes (record { ready = can_settle c.self.inside.log.changes (outline_of c.self.inside.catalog) (outline_of c.self.inside.catalog) refl c.self.invariant.ready })
+    rw c.in-Some.ensures.changes (record { ready = can_settle c.self.inside.log.changes (outline_of c.self.inside.catalog) (outline_of c.self.inside.catalog) (aside_itself (outline_of c.self.inside.catalog)) c.self.invariant.ready })
 
 pub invariant_of-self-2 : goal.invariant_of-self-2
 invariant_of-self-2 c = (both (goal.at.invariant_of-self-2 c).After-settle).0
