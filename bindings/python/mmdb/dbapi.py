@@ -2,14 +2,14 @@
 
 from __future__ import annotations
 
-import contextlib
 import datetime
-from typing import Any, Callable, Iterable, Iterator, List, Mapping, NoReturn, Optional, Sequence, Tuple, Type
+import functools
+from typing import Any, Callable, Iterable, List, Mapping, NoReturn, Optional, Sequence, Tuple, Type, TypeVar
 
 from . import errors
 from .database import MOST, Database, Parameters
 from .errors import NotSupportedError, Refused, WrongType, WrongUse
-from .lines import check_line, one_line, placed
+from .lines import one_line, placed
 from .rows import Row, Rows, row_type, short_names
 
 apilevel = "2.0"
@@ -22,6 +22,9 @@ paramstyle = "qmark"
 
 #: The types of columns, as `Cursor.description` has them. There are no others.
 STRING, NUMBER = str, int
+
+
+Result = TypeVar("Result")
 
 
 class TypeObject:
@@ -139,27 +142,31 @@ class Connection:
         else:
             self.rollback()
 
-    @contextlib.contextmanager
-    def _doing(self, operation: str, *leaving: Type[BaseException]) -> Iterator[None]:
-        """For an operation: a change begins a transaction if none is open, which ends again if the change raises. It stays open
-        where that is one of the errors that leave some rows changed."""
-        check_line(operation)
+    def _begins(self, operation: Any) -> bool:
+        """Whether an operation is an insert, an update or a delete, and these are done in transactions."""
+        if self._autocommit or not isinstance(operation, str):
+            return False
         at = placed(operation)
-        if self._autocommit or not at.is_statement or at.is_select:
-            yield
-            return
-        with self.database._alone():
-            if self.database.in_transaction:
-                yield
-                return
-            self.database.begin()
+        return at.is_statement and not at.is_select
+
+    def _changed(self, change: Callable[[], Result], *leaving: Type[BaseException]) -> Result:
+        """Does a change in a transaction, which begins if none is open. It ends again if the change raises, but for errors that
+        leave some rows changed. Other threads wait meanwhile, so that none ends it before."""
+        database = self.database
+        database._keep()
+        try:
+            if database.in_transaction:
+                return change()
+            database.begin()
             try:
-                yield
+                return change()
             except leaving:
                 raise
             except BaseException:
-                self._end_all(self.database.rollback)
+                database.rollback()
                 raise
+        finally:
+            database._end_keeping()
 
     def _end_all(self, end: Callable[[], None]) -> None:
         """Ends all transactions that are open, as savepoints may be."""
@@ -200,9 +207,8 @@ class Cursor:
         if isinstance(parameters, (str, bytes)) or not isinstance(parameters, (Sequence, Mapping)):
             raise WrongType(f"mmdb: parameters are a sequence or a mapping, not a {type(parameters).__name__}")
         given = (parameters,) if isinstance(parameters, Mapping) else tuple(parameters)
-        with self.connection._doing(operation):
-            found = self.connection.database.execute(operation, *given)
-        self._take(operation, found)
+        do = functools.partial(self.connection.database.execute, operation, *given)
+        self._take(operation, self.connection._changed(do) if self.connection._begins(operation) else do())
         return self
 
     def executemany(self, operation: str, seq_of_parameters: Iterable[Parameters]) -> Cursor:
@@ -213,8 +219,8 @@ class Cursor:
         """
         self._forget()
         rows = list(seq_of_parameters)
-        with self.connection._doing(operation, Refused):
-            self.rowcount = self.connection.database.executemany(operation, rows)
+        do = functools.partial(self.connection.database.executemany, operation, rows)
+        self.rowcount = self.connection._changed(do, Refused) if self.connection._begins(operation) else do()
         return self
 
     def fetchone(self) -> Optional[Row]:
