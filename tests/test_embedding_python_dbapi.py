@@ -10,6 +10,8 @@ import unittest
 from support import model
 from support.binding import mmdb
 
+# How many rows a thread inserts.
+INSERTS = 1_000
 # By the class of PEP 249, the numbers of the refusals that are of it.
 NUMBERS = {
     mmdb.ProgrammingError: (10, 11, 20, *range(30, 40), 45),
@@ -407,6 +409,20 @@ class Transactions(WithRows):
             thread.start()
             thread.join()
         self.check([(2, "b")], True)
+        self.connection.rollback()
+        self.check([(1, "a")], False)
+
+    def test_nothing_is_kept_that_no_thread_commits(self):
+        def insert(keys):
+            cursor = self.connection.cursor()
+            for key in keys:
+                cursor.execute("insert t (?, 'b')", (key,))
+
+        threads = [threading.Thread(target=insert, args=(range(first, first + INSERTS),)) for first in (10, 10 + INSERTS)]
+        for thread in threads:
+            thread.start()
+        while any(thread.is_alive() for thread in threads):
+            self.connection.rollback()
         self.connection.rollback()
         self.check([(1, "a")], False)
 
