@@ -153,7 +153,7 @@ module _ (aside : Aside) (schema : Schema) (targets : List (Option ℕ)) (declar
     hashes = All-without_first (HashServes keys rows (tree_list tree)) (λ (h : ℕ × List (ℕ × TupleRef)). h.0 == column.0) (hashes_of (map seen all)) current.hashes;
   }
 
-any_of : {A B : Type 0} (f : A → B) (at : B → Bool) (kind : A → Bool) (xs : List A) → list_any (λ x. at (f x) && kind x) xs ≡ list_any at (map f (filter kind xs))
+pub any_of : {A B : Type 0} (f : A → B) (at : B → Bool) (kind : A → Bool) (xs : List A) → list_any (λ x. at (f x) && kind x) xs ≡ list_any at (map f (filter kind xs))
 any_of f at kind [] = refl
 any_of f at kind (x ∷ xs) = elim (kind x) as (λ b. ((at (f x) && b) || list_any (λ y. at (f y) && kind y) xs) ≡ list_any at (map f (cond b (x ∷ filter kind xs) (filter kind xs)))) [
   | true ↦ ap (λ b. b || list_any (λ y. at (f y) && kind y) xs) (and_true (at (f x))) ∙ ap (λ b. at (f x) || b) (any_of f at kind xs)

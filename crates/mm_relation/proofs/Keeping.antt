@@ -25,7 +25,7 @@ use Rattle.mm_relation.specs.Seen.{state}
 use Rattle.mm_relation.proofs.KeyOrder.{not_taken}
 
 -- the columns of the indexes of a kind are those that are declared so
-columns_seen : {B : Type 0} (q : Bool → Bool) (X : SeenIndex → B) (all : Indexes) → map (λ (t : ℕ × B). t.0) (map (λ (s : SeenIndex). (s.declaration.column.0, X s)) (filter (λ s. q (is_tree s.declaration.kind)) (map seen all))) ≡ map (λ d. d.column.0) (filter (λ d. q (is_tree d.kind)) (map declaration_of all))
+pub columns_seen : {B : Type 0} (q : Bool → Bool) (X : SeenIndex → B) (all : Indexes) → map (λ (t : ℕ × B). t.0) (map (λ (s : SeenIndex). (s.declaration.column.0, X s)) (filter (λ s. q (is_tree s.declaration.kind)) (map seen all))) ≡ map (λ d. d.column.0) (filter (λ d. q (is_tree d.kind)) (map declaration_of all))
 columns_seen q X [] = refl
 columns_seen {B} q X (on ∷ all) = elim (q (is_tree (kind_in on.index))) as (λ b. map (λ (t : ℕ × B). t.0) (map (λ (s : SeenIndex). (s.declaration.column.0, X s)) (cond b (seen on ∷ filter (λ s. q (is_tree s.declaration.kind)) (map seen all)) (filter (λ s. q (is_tree s.declaration.kind)) (map seen all)))) ≡ map (λ (d : DeclaredIndex). d.column.0) (cond b (declaration_of on ∷ filter (λ d. q (is_tree d.kind)) (map declaration_of all)) (filter (λ d. q (is_tree d.kind)) (map declaration_of all)))) [
   | true ↦ ap (λ cs. on.column.0 ∷ cs) (columns_seen q X all)

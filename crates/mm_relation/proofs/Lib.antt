@@ -24,3 +24,5 @@ pub mod Room
 pub mod Owed
 pub mod SetColumns
 pub mod Sorted
+pub mod Firsts
+pub mod PutBack

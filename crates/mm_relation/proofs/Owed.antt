@@ -117,7 +117,7 @@ owed_fewer n hidden tree p all owed = record {
   covered = λ q held. All-without_first (λ on. CoversIn q on.index) p all (owed.covered q held);
 }
 
-sure_both : (n : ℕ) (index : Index) → n ≤ room_in index → sure n n index ≤ room_in index
+pub sure_both : (n : ℕ) (index : Index) → n ≤ room_in index → sure n n index ≤ room_in index
 sure_both n (Tree x) room = room
 sure_both n (Hash x) room = room
 

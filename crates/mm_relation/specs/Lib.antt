@@ -11,4 +11,5 @@ pub mod Cells
 pub mod Changes
 pub mod Searching
 pub mod Declaring
+pub mod Taken
 pub mod Sorting

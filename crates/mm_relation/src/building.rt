@@ -128,7 +128,7 @@ pub fn add_index<R: LinkedKeys>(
 }
 
 // The place of the first index like this one.
-fn first_index(indexes: &[IndexOn], index: DeclaredIndex) -> Option<usize>
+pub fn first_index(indexes: &[IndexOn], index: DeclaredIndex) -> Option<usize>
     ensures { result ≡ position (λ on. is_index index (declaration_of on)) indexes.now }
 {
     indexes

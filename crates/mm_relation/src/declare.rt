@@ -15,7 +15,7 @@ use plain_tables::{ColumnNumber, IndexKind, Schema, Sequence, TableNumber};
 use std::alloc::Global;
 
 // The place of the first declaration like this one.
-fn first_declared(declared: &[DeclaredIndex], index: DeclaredIndex) -> Option<usize>
+pub fn first_declared(declared: &[DeclaredIndex], index: DeclaredIndex) -> Option<usize>
     ensures { result ≡ position (is_index index) declared.now }
 {
     declared.iter().position(|d| is_same(*d, index))

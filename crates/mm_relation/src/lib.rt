@@ -40,6 +40,7 @@ mod slot_set;
 mod sorted_rows;
 mod spares;
 mod stored_cell;
+mod taken;
 mod tree;
 mod view;
 
@@ -55,6 +56,7 @@ pub use relation::Relation;
 pub use relations::Relations;
 pub use row::Cell;
 pub use stored_cell::StoredCell;
+pub use taken::DroppedIndex;
 pub use tree::Walk;
 pub use ttree::{LEAST_ITEMS, MOST_ITEMS, TreeShape};
 pub use view::RowView;

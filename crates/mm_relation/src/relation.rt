@@ -151,8 +151,8 @@ impl Relation {
         self.declared.as_slice()
     }
 
-    // Whether an index of this kind is declared on a column.
-    fn has_declared(&self, column: ColumnNumber, kind: IndexKind) -> bool
+    /// Whether an index of this kind is declared on a column.
+    pub fn has_declared(&self, column: ColumnNumber, kind: IndexKind) -> bool
         ensures { result ≡ has_declared_on self.now column.0 kind }
     {
         is_declared(self.indexes.as_slice(), DeclaredIndex { column, kind })
