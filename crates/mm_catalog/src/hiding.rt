@@ -19,10 +19,7 @@ use crate::references::named::any_referenced;
 use mm_relation::Relation;
 use mm_relation::laws::{a_relation_is_kept, hidden_rows_are_apart};
 use part_raw::TupleRef;
-use plain_tables::{Refusal, TableNumber};
-
-// The most rows that a relation can owe.
-const MOST_OWED: u64 = 16_777_216;
+use plain_tables::{MOST_ROWS, Refusal, TableNumber};
 
 // ---- rows that are hidden
 
@@ -36,7 +33,7 @@ pub fn owe_rows(relation: &mut Relation, count: usize) -> Result<(), Refusal>
 {
     hidden_rows_are_apart(relation);
     let count = count as u64;
-    if count > MOST_OWED - relation.owed() {
+    if count > u64::from(MOST_ROWS) - relation.owed() {
         return Err(Refusal::NoMemory);
     }
     relation.owe(count)?;
@@ -65,7 +62,7 @@ fn hide_each(before: &mut [Relation], relation: &mut Relation, rows: &[TupleRef]
     }
 }
 
-/// Hides rows of the relation of this number, where no link names any of them. Its links lead into those before it.
+// Hides rows of the relation of this number, where no link names any of them. Its links lead into those before it.
 fn hide_rows(
     relations: &mut [Relation],
     table: TableNumber,

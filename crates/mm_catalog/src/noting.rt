@@ -57,7 +57,7 @@ fn copy_rows(
 }
 
 // Assigns values to these rows of the relation of this number, which owes them then, and gives what stood in their cells.
-fn note_rows(
+fn set_and_note(
     alloc: Global,
     relations: &mut [Relation],
     table: TableNumber,
@@ -116,7 +116,7 @@ impl Catalog {
         ensures unchanged { OnErr result (self.new ≡ self.old) }
     {
         let alloc = *self.relations.allocator();
-        let answer = note_rows(
+        let answer = set_and_note(
             alloc,
             self.relations.as_mut_slice(),
             table,

@@ -19,19 +19,19 @@ use Rattle.mm_catalog.proofs.NotedBack.{not_noted, note_consistent, note_effect,
 use Rattle.mm_catalog.specs.Outline.{HasCellsChanged, outline_of}
 use Rattle.mm_catalog.proofs.catalog.Catalog.update_noted.Goals as goal
 
-pub note_rows-answer-requires-clause-there : goal.note_rows-answer-requires-clause-there
-note_rows-answer-requires-clause-there c =
+pub set_and_note-answer-requires-clause-there : goal.set_and_note-answer-requires-clause-there
+set_and_note-answer-requires-clause-there c =
     let s : CatalogState = record { limits = c.self.inside.limits; names = map string_bytes c.self.inside.names.keys; relations = c.self.inside.relations.items } in
     let meant : OfTable c.args.table (database_of s) (AreAssignable (database_of s) c.args.assignments.now) = rw (← c.self.view_is) at c.requires.meant in
     subst (λ (rs : List RelationState). c.args.table.0 < length rs) (sym c.as_mut_slice.ensures.value) (there_at s c.self.invariant c.args.table.0 meant.0 meant.1)
 
-pub note_rows-answer-requires-clause-consistent : goal.note_rows-answer-requires-clause-consistent
-note_rows-answer-requires-clause-consistent c =
+pub set_and_note-answer-requires-clause-consistent : goal.set_and_note-answer-requires-clause-consistent
+set_and_note-answer-requires-clause-consistent c =
     let s : CatalogState = record { limits = c.self.inside.limits; names = map string_bytes c.self.inside.names.keys; relations = c.self.inside.relations.items } in
     subst AreConsistent (sym c.as_mut_slice.ensures.value) (s, refl, c.self.invariant)
 
-pub note_rows-answer-requires-clause-columns : goal.note_rows-answer-requires-clause-columns
-note_rows-answer-requires-clause-columns c =
+pub set_and_note-answer-requires-clause-columns : goal.set_and_note-answer-requires-clause-columns
+set_and_note-answer-requires-clause-columns c =
     let s : CatalogState = record { limits = c.self.inside.limits; names = map string_bytes c.self.inside.names.keys; relations = c.self.inside.relations.items } in
     let meant : OfTable c.args.table (database_of s) (AreAssignable (database_of s) c.args.assignments.now) = rw (← c.self.view_is) at c.requires.meant in
     subst (λ (rs : List RelationState). (t : RelationState) → slice_get rs c.args.table.0 ≡ Some t → AreToColumns (length t.targets) c.args.assignments.now) (sym c.as_mut_slice.ensures.value)
@@ -42,32 +42,32 @@ invariant_of-self c =
     let s : CatalogState = record { limits = c.self.inside.limits; names = map string_bytes c.self.inside.names.keys; relations = c.self.inside.relations.items } in
     let meant : OfTable c.args.table (database_of s) (AreAssignable (database_of s) c.args.assignments.now) = rw (← c.self.view_is) at c.requires.meant in
     let held : HoldsRows s c.args.table.0 c.args.rows.now = rw (← c.self.view_is) at c.requires.held in
-    let back = whole c.note_rows-answer.new.relations (drop (length c.note_rows-answer.new.relations) c.self.inside.relations.items) c.self.inside.relations.len (omega (arith, c.note_rows-answer.auto.relations, ap length c.as_mut_slice.ensures.value, c.self.inside.relations.ok.0)) in
+    let back = whole c.set_and_note-answer.new.relations (drop (length c.set_and_note-answer.new.relations) c.self.inside.relations.items) c.self.inside.relations.len (omega (arith, c.set_and_note-answer.auto.relations, ap length c.as_mut_slice.ensures.value, c.self.inside.relations.ok.0)) in
     subst (λ rs. IsConsistent (record s { relations = rs })) (sym back)
-    (note_consistent s c.self.invariant c.args.table c.args.assignments.now meant c.args.rows.now held c.requires.once c.note_rows-answer.new.relations c.note_rows-answer.result (λ v. v.items)
-    (rw c.as_mut_slice.ensures.value at c.note_rows-answer.ensures.noted) (rw c.as_mut_slice.ensures.value at c.note_rows-answer.ensures.unchanged))
+    (note_consistent s c.self.invariant c.args.table c.args.assignments.now meant c.args.rows.now held c.requires.once c.set_and_note-answer.new.relations c.set_and_note-answer.result (λ v. v.items)
+    (rw c.as_mut_slice.ensures.value at c.set_and_note-answer.ensures.noted) (rw c.as_mut_slice.ensures.value at c.set_and_note-answer.ensures.unchanged))
 
 pub returns-clause-updated : goal.returns-clause-updated
 returns-clause-updated c =
     let s : CatalogState = record { limits = c.self.inside.limits; names = map string_bytes c.self.inside.names.keys; relations = c.self.inside.relations.items } in
     let meant : OfTable c.args.table (database_of s) (AreAssignable (database_of s) c.args.assignments.now) = rw (← c.self.view_is) at c.requires.meant in
     let held : HoldsRows s c.args.table.0 c.args.rows.now = rw (← c.self.view_is) at c.requires.held in
-    let back = whole c.note_rows-answer.new.relations (drop (length c.note_rows-answer.new.relations) c.self.inside.relations.items) c.self.inside.relations.len (omega (arith, c.note_rows-answer.auto.relations, ap length c.as_mut_slice.ensures.value, c.self.inside.relations.ok.0)) in
+    let back = whole c.set_and_note-answer.new.relations (drop (length c.set_and_note-answer.new.relations) c.self.inside.relations.items) c.self.inside.relations.len (omega (arith, c.set_and_note-answer.auto.relations, ap length c.as_mut_slice.ensures.value, c.self.inside.relations.ok.0)) in
     rw (← c.self.view_is)
-    (subst (λ rs. OnOk c.note_rows-answer.result ((picks : Row → Bool) → ArePicked s c.args.table.0 c.args.rows.now picks → HasEffect s (record s { relations = rs }) (doing.update (database_of s) c.args.table c.args.assignments.now picks) (length c.args.rows.now))) (sym back)
-    (note_effect s c.self.invariant c.args.table c.args.assignments.now meant c.args.rows.now held c.requires.once c.note_rows-answer.new.relations c.note_rows-answer.result (λ v. v.items)
-    (rw c.as_mut_slice.ensures.value at c.note_rows-answer.ensures.noted)))
+    (subst (λ rs. OnOk c.set_and_note-answer.result ((picks : Row → Bool) → ArePicked s c.args.table.0 c.args.rows.now picks → HasEffect s (record s { relations = rs }) (doing.update (database_of s) c.args.table c.args.assignments.now picks) (length c.args.rows.now))) (sym back)
+    (note_effect s c.self.invariant c.args.table c.args.assignments.now meant c.args.rows.now held c.requires.once c.set_and_note-answer.new.relations c.set_and_note-answer.result (λ v. v.items)
+    (rw c.as_mut_slice.ensures.value at c.set_and_note-answer.ensures.noted)))
 
 pub returns-clause-noted : goal.returns-clause-noted
 returns-clause-noted c =
     let s : CatalogState = record { limits = c.self.inside.limits; names = map string_bytes c.self.inside.names.keys; relations = c.self.inside.relations.items } in
     let meant : OfTable c.args.table (database_of s) (AreAssignable (database_of s) c.args.assignments.now) = rw (← c.self.view_is) at c.requires.meant in
     let held : HoldsRows s c.args.table.0 c.args.rows.now = rw (← c.self.view_is) at c.requires.held in
-    let back = whole c.note_rows-answer.new.relations (drop (length c.note_rows-answer.new.relations) c.self.inside.relations.items) c.self.inside.relations.len (omega (arith, c.note_rows-answer.auto.relations, ap length c.as_mut_slice.ensures.value, c.self.inside.relations.ok.0)) in
+    let back = whole c.set_and_note-answer.new.relations (drop (length c.set_and_note-answer.new.relations) c.self.inside.relations.items) c.self.inside.relations.len (omega (arith, c.set_and_note-answer.auto.relations, ap length c.as_mut_slice.ensures.value, c.self.inside.relations.ok.0)) in
     rw (← c.self.view_is)
-    (subst (λ rs. IfOk c.note_rows-answer.result (λ cells. HasCellsChanged (outline_of s) (outline_of (record s { relations = rs })) c.args.table.0 c.args.rows.now (length c.args.assignments.now) cells.items)) (sym back)
-    (note_outline s c.self.invariant c.args.table c.args.assignments.now meant c.args.rows.now held c.requires.once c.note_rows-answer.new.relations c.note_rows-answer.result (λ v. v.items)
-    (rw c.as_mut_slice.ensures.value at c.note_rows-answer.ensures.noted)))
+    (subst (λ rs. IfOk c.set_and_note-answer.result (λ cells. HasCellsChanged (outline_of s) (outline_of (record s { relations = rs })) c.args.table.0 c.args.rows.now (length c.args.assignments.now) cells.items)) (sym back)
+    (note_outline s c.self.invariant c.args.table c.args.assignments.now meant c.args.rows.now held c.requires.once c.set_and_note-answer.new.relations c.set_and_note-answer.result (λ v. v.items)
+    (rw c.as_mut_slice.ensures.value at c.set_and_note-answer.ensures.noted)))
 
 pub returns-clause-refused : goal.returns-clause-refused
 returns-clause-refused c =
@@ -75,5 +75,5 @@ returns-clause-refused c =
     let meant : OfTable c.args.table (database_of s) (AreAssignable (database_of s) c.args.assignments.now) = rw (← c.self.view_is) at c.requires.meant in
     let held : HoldsRows s c.args.table.0 c.args.rows.now = rw (← c.self.view_is) at c.requires.held in
     rw (← c.self.view_is)
-    (not_noted s c.self.invariant c.args.table c.args.assignments.now meant c.note_rows-answer.result
-    (rw c.as_mut_slice.ensures.value at c.note_rows-answer.ensures.refused))
+    (not_noted s c.self.invariant c.args.table c.args.assignments.now meant c.set_and_note-answer.result
+    (rw c.as_mut_slice.ensures.value at c.set_and_note-answer.ensures.refused))

@@ -8,8 +8,8 @@ use Rattle.mm_relation.specs.State.{RelationState}
 use Rattle.mm_catalog.specs.Assigned.{AreNotSet, AreToColumns, IsUpdated}
 use Rattle.mm_catalog.specs.Noted.{cells_at, owing}
 use Rattle.mm_catalog.proofs.Owing.{consistent_aside}
-use Rattle.mm_catalog.proofs.noting.note_rows.Goals as goal
-use Rattle.mm_catalog.proofs.noting.note_rows.Goals.{After-index-relations-table-2}
+use Rattle.mm_catalog.proofs.noting.set_and_note.Goals as goal
+use Rattle.mm_catalog.proofs.noting.set_and_note.Goals.{After-index-relations-table-2}
 
 there : (c : After-index-relations-table-2) → slice_get c.args.relations.now c.args.table.0 ≡ Some (get_or c.args.relations.now c.args.table.0 c.index-relations-table-2.result)
 there c = slice_get-get_or c.args.relations.now c.args.table.0 c.index-relations-table-2.result c.requires.there
