@@ -1,17 +1,16 @@
 -- Declaring: the lines that declare or drop a table begin with one of two words.
-use Rattle.std.proofs.Common.{◌≡◌, ℕ, ◌-◌, Bool, true, false, cond, ◌||◌, List, [], ◌∷◌, ◌++◌, length, map, take, drop, refl, sym, ap, subst, arith, inl, inr, ◌∙◌, append_assoc, append-nil}
-use Rattle.std.specs.Prelude.{◌==◌, IsFalse, nat_eq, slice_index}
-use Rattle.plain_tables.specs.Names.{is_name, is_word_character}
+use Rattle.std.proofs.Common.{◌≡◌, ℕ, ◌-◌, Bool, true, false, cond, ◌||◌, List, [], ◌∷◌, ◌++◌, length, take, drop, refl, sym, ap, subst, ◌∙◌, append_assoc, append-nil}
+use Rattle.std.specs.Prelude.{◌==◌, nat_eq, slice_index}
 use Rattle.std.specs.List.{starts_with}
-use Rattle.std.proofs.lemmas.Bool.{cases_eq, false≢true, true≢false}
+use Rattle.std.proofs.lemmas.Bool.{false≢true}
 use Rattle.std.proofs.lemmas.List.{take-append-drop}
 use lib.Chars.{codes}
-use Rattle.plain_tables.specs.Spelling.{AreBlanks, Close, IsMadeOf, IsSymbol, Keyword, Name, Open, Sign, Symbol, column_symbols, separated}
+use Rattle.plain_tables.specs.Spelling.{AreBlanks, IsMadeOf, Keyword, Symbol}
 use Rattle.plain_tables.specs.declared.command.Command.{Command}
 use Rattle.plain_tables.specs.declared.command.Command.TheVariants as command
 use Rattle.plain_tables.proofs.FirstWords.{behind_word, first_word, split-word}
 use Rattle.plain_streams.specs.Requests.{without_return}
-use Rattle.mm_prepared.specs.Declaring.{IsDeclaration, IsOfTables, begins_waiting, behind_blanks, declares}
+use Rattle.mm_prepared.specs.Declaring.{IsDrop, IsOfTables, begins_waiting, behind_blanks, declares}
 
 -- whether a text begins with a word
 abbrev pub begins : List ℕ → List ℕ → Bool
@@ -65,48 +64,13 @@ pub last-begins : (a d : Bool) → (a || d) ≡ true → a ≡ false → d ≡ t
 last-begins true d is none = absurd (false≢true (sym none))
 last-begins false d is none = is
 
--- A name has characters.
-some-name : (blanks characters rest name : List ℕ) → IsSymbol characters (Name name) → blanks ++ (characters ++ rest) ≡ [] → ⊥
-some-name [] [] rest name (is, named) none = absurd (false≢true (subst (λ (n : List ℕ). is_name n ≡ true) (sym is) named))
-some-name [] (c ∷ characters) rest name named none = cc
-some-name (b ∷ blanks) characters rest name named none = cc
+-- the word of a drop stands first
+drop-begins : (line : List ℕ) (symbols : List Symbol) → IsMadeOf (without_return line) (Keyword (codes "drop") ∷ symbols) → begins_waiting (behind_blanks line) ≡ true
+drop-begins line symbols made =
+    let (more, is) = word-behind line (codes "drop") symbols (λ more. refl) made in
+    ap begins_waiting is
 
--- what is no letter is not the last letter of the word of the list of tables
-no-letter : (c : ℕ) (more : List ℕ) → IsFalse (is_word_character c) → begins_waiting (codes "table" ++ (c ∷ more)) ≡ true
-no-letter c more ends = elim (cases_eq c 115) [
-  | inl is ↦ absurd (true≢false (subst (λ (n : ℕ). is_word_character n ≡ false) is ends))
-  | inr other ↦ grind arith
-]
-
--- the word of a declared table does not go on as that of the list of tables does
-table-begins : (line name : List ℕ) (symbols : List Symbol) → IsMadeOf (without_return line) (Keyword (codes "table") ∷ Name name ∷ symbols)
-    → begins_waiting (behind_blanks line) ≡ true
-table-begins line name symbols (blanks, characters, [], are, is, ends, (spaces, letters, more, _, named, _, _, none), whole) =
-    absurd (some-name spaces letters more name named (sym none))
-table-begins line name symbols (blanks, characters, (c ∷ rest), are, is, ends, others, whole) =
-    let (tail, front) = return-front line in
-    let word : List ℕ = codes "table" in
-    let text : without_return line ≡ blanks ++ (word ++ (c ∷ rest)) = rw is at whole in
-    let all : line ≡ blanks ++ (word ++ (c ∷ (rest ++ tail))) =
-    front ∙ (ap (λ l. l ++ tail) text ∙ append_assoc blanks (word ++ (c ∷ rest)) tail) in
-    let same : behind_blanks line ≡ word ++ (c ∷ (rest ++ tail)) = ap behind_blanks all ∙ behind-blanks blanks (word ++ (c ∷ (rest ++ tail))) are in
-    ap begins_waiting same ∙ no-letter c (rest ++ tail) ends
-
--- the other declarations begin with words of their own
-other-begins : (line word : List ℕ) (symbols : List Symbol) → ((more : List ℕ) → behind_blanks (word ++ more) ≡ word ++ more)
-    → ((more : List ℕ) → begins_waiting (word ++ more) ≡ true) → IsMadeOf (without_return line) (Keyword word ∷ symbols)
-    → begins_waiting (behind_blanks line) ≡ true
-other-begins line word symbols plain begins made =
-    let (more, is) = word-behind line word symbols plain made in
-    ap begins_waiting is ∙ begins more
-
-pub declaration-waits : (line : List ℕ) → IsDeclaration (without_return line) → begins_waiting (behind_blanks line) ≡ true
-declaration-waits line (command.Table name schema, spells, of) =
-    table-begins line name (Sign Open ∷ (separated (map column_symbols schema.columns) ++ (Sign Close ∷ []))) spells.2
-declaration-waits line (command.DropTable name, spells, of) =
-    other-begins line (codes "drop") (behind_word (command.DropTable name)) (λ more. refl) (λ more. refl) spells.2
-declaration-waits line (command.Index table column kind, spells, of) =
-    other-begins line (codes "index") (behind_word (command.Index table column kind)) (λ more. refl) (λ more. refl) spells.2
-declaration-waits line (command.DropIndex table column kind, spells, of) =
-    other-begins line (codes "drop") (behind_word (command.DropIndex table column kind)) (λ more. refl) (λ more. refl) spells.2
-declaration-waits line (c, spells, of) = absurd (false≢true of)
+pub drop-waits : (line : List ℕ) → IsDrop (without_return line) → begins_waiting (behind_blanks line) ≡ true
+drop-waits line (command.DropTable name, spells, of) = drop-begins line (behind_word (command.DropTable name)) spells.2
+drop-waits line (command.DropIndex table column kind, spells, of) = drop-begins line (behind_word (command.DropIndex table column kind)) spells.2
+drop-waits line (c, spells, of) = absurd (false≢true of)

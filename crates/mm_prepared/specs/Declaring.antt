@@ -1,5 +1,5 @@
 -- Declaring: which lines may change the names and columns of tables, and which wait until no transaction is open.
-use Rattle.std.specs.Prelude.{ℕ, List, [], ◌∷◌, Bool, true, false, if◌then◌else◌, ◌||◌, nat_eq, not, ◌&&◌, IsTrue}
+use Rattle.std.specs.Prelude.{ℕ, List, [], ◌∷◌, Bool, true, false, if◌then◌else◌, nat_eq, IsTrue}
 use Rattle.std.specs.List.{starts_with}
 use lib.Chars.{codes}
 use Rattle.plain_tables.specs.Spelling.{Spells, is_blank}
@@ -21,18 +21,16 @@ declares c = false
 abbrev pub IsOfTables : List ℕ → Type 0
 IsOfTables line = (c : Command) × Spells line c × IsTrue (declares c)
 
--- whether a command declares or drops a table or an index
-abbrev pub is_declaration : Command → Bool
-is_declaration (command.Index table column kind) = true
-is_declaration (command.DropIndex table column kind) = true
-is_declaration c = declares c
+-- whether a command drops a table or an index
+abbrev pub drops : Command → Bool
+drops (command.DropTable name) = true
+drops (command.DropIndex table column kind) = true
+drops c = false
 
--- the line spells a declaration
-abbrev pub IsDeclaration : List ℕ → Type 0
-IsDeclaration line = (c : Command) × Spells line c × IsTrue (is_declaration c)
+-- the line spells a drop
+abbrev pub IsDrop : List ℕ → Type 0
+IsDrop line = (c : Command) × Spells line c × IsTrue (drops c)
 
--- whether a text begins with the first word of a declaration, which is not that of the list of tables
+-- whether a text begins with the first word of a drop
 abbrev pub begins_waiting : List ℕ → Bool
-begins_waiting text =
-    (starts_with nat_eq text (codes "table") && not (starts_with nat_eq text (codes "tables")))
-    || (starts_with nat_eq text (codes "index") || starts_with nat_eq text (codes "drop"))
+begins_waiting text = starts_with nat_eq text (codes "drop")

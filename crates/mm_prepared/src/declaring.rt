@@ -1,7 +1,7 @@
 //! Which lines may change the names and columns of tables, and which wait until no transaction is open.
 ghost use Rattle.std.specs.Prelude.{◌≡◌, IsTrue};
 ghost use Rattle.plain_streams.specs.Requests.{without_return};
-ghost use Rattle.mm_prepared.specs.Declaring.{IsDeclaration, IsOfTables, begins_waiting, behind_blanks};
+ghost use Rattle.mm_prepared.specs.Declaring.{IsDrop, IsOfTables, begins_waiting, behind_blanks};
 
 // The line from its first character on that is no blank.
 fn trim_blanks(line: &[u8]) -> &[u8]
@@ -23,19 +23,10 @@ pub fn may_declare(line: &[u8]) -> bool
     text.starts_with(b"table") || text.starts_with(b"drop")
 }
 
-// Whether a text begins with the first word of a declaration, which is not that of the list of tables.
-fn is_waiting(text: &[u8]) -> bool
-    ensures { result ≡ begins_waiting text.now }
-{
-    let is_table = text.starts_with(b"table") && !text.starts_with(b"tables");
-    is_table || text.starts_with(b"index") || text.starts_with(b"drop")
-}
-
-/// Whether a line waits until no transaction is open: it begins as those do that declare or drop a table or an index. So every
-/// declaration waits.
+/// Whether a line waits until no transaction is open: it begins as those do that drop a table or an index. So every drop waits.
 pub fn waits_in_transaction(line: &[u8]) -> bool
     ensures value { result ≡ begins_waiting (behind_blanks line.now) }
-    ensures declarations { IsDeclaration (without_return line.now) → IsTrue result }
+    ensures drops { IsDrop (without_return line.now) → IsTrue result }
 {
-    is_waiting(trim_blanks(line))
+    trim_blanks(line).starts_with(b"drop")
 }
