@@ -365,6 +365,11 @@ impl Database {
         &self.session.handle
     }
 
+    /// Forgets what is known of the columns, once a rollback may have undone declarations.
+    pub(crate) fn forget_columns(&self) {
+        self.known.forget();
+    }
+
     /// The number of the declarations as they are.
     pub(crate) fn declared(&self) -> u64 {
         self.known.declared()

@@ -8,8 +8,8 @@ use crate::columns::{tables_of, Tables};
 use crate::error::Result;
 use crate::session::Session;
 
-/// What is known of the columns. A table's columns change by a declaration or a drop alone, whose answer is `ok`, and where
-/// other tables are shared.
+/// What is known of the columns. A table's columns change by a declaration or a drop alone, whose answer is `ok`, by a rollback,
+/// and where other tables are shared.
 #[derive(Debug)]
 pub(crate) struct Known {
     tables: RefCell<Option<Arc<Tables>>>,
@@ -37,9 +37,14 @@ impl Known {
     /// Forgets what is known, where an answer says that columns may have been declared or dropped.
     pub(crate) fn heed(&self, answer: &[u8]) {
         if answer == b"ok\n" {
-            self.tables.replace(None);
-            self.declared.set(next_number());
+            self.forget();
         }
+    }
+
+    /// Forgets what is known, where columns may be others.
+    pub(crate) fn forget(&self) {
+        self.tables.replace(None);
+        self.declared.set(next_number());
     }
 
     /// Takes the declarations of another database, whose tables are shared now.

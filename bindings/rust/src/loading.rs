@@ -248,7 +248,7 @@ impl<'d> Load<'d> {
     fn end(mut self) -> Result<usize> {
         self.send()?;
         if let Some(before) = self.before {
-            self.database.handle().commit_to(before)?;
+            self.database.commit_to(before)?;
             self.before = None;
         }
         Ok(self.sent)
@@ -333,7 +333,7 @@ impl Drop for Load<'_> {
     fn drop(&mut self) {
         if let Some(before) = self.before {
             // (where it was ended by what makes the rows there is nothing to undo)
-            let _ = self.database.handle().roll_back_to(before);
+            let _ = self.database.roll_back_to(before);
         }
     }
 }

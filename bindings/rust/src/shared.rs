@@ -285,7 +285,7 @@ impl DerefMut for Writing<'_> {
 impl Drop for Writing<'_> {
     fn drop(&mut self) {
         // (where none is open there is nothing to undo)
-        let _ = self.database.handle().roll_back_to(0);
+        let _ = self.database.roll_back_to(0);
     }
 }
 

@@ -5,7 +5,6 @@ use std::ops::{Deref, DerefMut};
 
 use crate::database::Database;
 use crate::error::{Error, Result};
-use crate::library::Handle;
 
 /// A transaction, with the calls of its database. It is rolled back when it is dropped, unless it was committed.
 ///
@@ -28,9 +27,9 @@ use crate::library::Handle;
 /// # Ok::<(), mmdb::Error>(())
 /// ```
 ///
-/// Rows are inserted, loaded, updated, deleted and read in one. Declarations and drops aren't done in one yet
-/// ([`Error::InTransaction`]). A refused line changes nothing, and leaves the transaction open. Transactions that were begun in
-/// this one, and are open still, end as it does.
+/// Rows are inserted, loaded, updated, deleted and read in one, and tables and indexes declared. Only drops aren't done in one
+/// yet ([`Error::InTransaction`]). A refused line changes nothing, and leaves the transaction open. Transactions that were begun
+/// in this one, and are open still, end as it does.
 ///
 /// The database is lent to the transaction, so there is one at a time, and another only in it, as a
 /// [`savepoint`](Transaction::savepoint):
@@ -120,12 +119,12 @@ impl<'db> Transaction<'db> {
     /// Ends it, and keeps what was done in it. [`Error::NoTransaction`] says that it had ended already, by
     /// [`Database::commit`] or [`Database::rollback`].
     pub fn commit(self) -> Result<()> {
-        self.database.handle().commit_to(self.before)
+        self.database.commit_to(self.before)
     }
 
     /// Ends it, and undoes what was done in it, as a drop does. It needs no memory.
     pub fn rollback(self) -> Result<()> {
-        self.database.handle().roll_back_to(self.before)
+        self.database.roll_back_to(self.before)
     }
 }
 
@@ -146,7 +145,7 @@ impl DerefMut for Transaction<'_> {
 impl Drop for Transaction<'_> {
     fn drop(&mut self) {
         // (where it has ended there is nothing to undo)
-        let _ = self.database.handle().roll_back_to(self.before);
+        let _ = self.database.roll_back_to(self.before);
     }
 }
 
@@ -197,7 +196,9 @@ impl Database {
     /// Ends the innermost transaction, and undoes what was done in it: the tables are those that it began with. It needs no
     /// memory. [`Error::NoTransaction`] says that none is open.
     pub fn rollback(&self) -> Result<()> {
-        self.handle().roll_back()
+        self.handle().roll_back()?;
+        self.forget_columns();
+        Ok(())
     }
 
     /// How many transactions are open, each in the one before it.
@@ -212,18 +213,18 @@ impl Database {
 }
 
 /// The end of the transactions that were begun after some others.
-impl Handle {
+impl Database {
     /// Commits those behind the first `before`.
     pub(crate) fn commit_to(&self, before: usize) -> Result<()> {
-        self.end_to(before, Handle::commit)
+        self.end_to(before, Database::commit)
     }
 
     /// Rolls back those behind the first `before`.
     pub(crate) fn roll_back_to(&self, before: usize) -> Result<()> {
-        self.end_to(before, Handle::roll_back)
+        self.end_to(before, Database::rollback)
     }
 
-    fn end_to(&self, before: usize, end: fn(&Handle) -> Result<()>) -> Result<()> {
+    fn end_to(&self, before: usize, end: fn(&Database) -> Result<()>) -> Result<()> {
         if self.transactions() <= before {
             return Err(Error::NoTransaction);
         }
