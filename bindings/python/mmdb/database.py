@@ -161,7 +161,7 @@ class Database(Handle):
         Raises `NoTransaction` if none is open.
         """
         with self._turn:
-            self._rollback()
+            self._undo()
 
     @property
     def in_transaction(self) -> bool:
@@ -183,7 +183,7 @@ class Database(Handle):
             yield
         except BaseException:
             with self._turn:
-                self._end(depth, self._rollback)
+                self._end(depth, self._undo)
             raise
         with self._turn:
             if self._transactions() < depth:
@@ -459,6 +459,13 @@ class Database(Handle):
         """Ends the transactions from this one on, the innermost first."""
         while self._transactions() >= depth:
             end()
+
+    def _undo(self) -> None:
+        """Ends the innermost transaction, and restores the tables that it began with, whose columns may be others."""
+        try:
+            self._rollback()
+        finally:
+            self._forget_columns()
 
     def _answer(self, line: bytes, block: Optional[bytes] = None) -> bytes:
         """What is answered. After a declaration, and a call that was interrupted, the columns are known no longer."""
