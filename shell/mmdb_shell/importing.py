@@ -15,7 +15,7 @@ from mmdb.quotes import BEHIND, OPEN, Odd
 
 from .bars import Bar, Read
 from .cutting import MARK
-from .moving import Load, Readable, numbered, warning_of
+from .moving import Load, Readable, answer, numbered, warning_of
 from .schema import Table, table_of, tables_of
 from .trouble import Trouble
 from .words import RESERVED
@@ -78,28 +78,22 @@ class Import:
         self._shell = shell
         self._name = name
         self._options = options
-        #: Whether the table was made for it.
-        self._is_made = False
+        #: The columns of the file that the table has no place for.
+        self._left: List[str] = []
         #: What is odd in the file, each in a sentence.
         self.warnings: List[str] = []
 
     def run(self, file: BufferedReader, path: str, bar: Bar) -> Tuple[int, List[str]]:
         """Puts in the rows, and gives how many they are, and the columns of the file that the table has no place for.
-        If it raises, no row is in, and a table that was made is gone."""
+        If it raises, no row is in, and no table was made."""
         csv.field_size_limit(_LONGEST_FIELD)
-        table = tables_of(self._shell.db).get(self._name)
-        if table is None:
-            table, self._is_made = self._made(file, bar), True
-        try:
-            return self._loaded(table, file, path, bar)
-        except BaseException:
-            if self._is_made:
-                self._shell.transactions.undo()
-            raise
+        count = self._shell.transactions.whole(f".import {path} {self._name}", lambda: self._done(file, path, bar))
+        return count, self._left
 
-    def _loaded(self, table: Table, file: BufferedReader, path: str, bar: Bar) -> Tuple[int, List[str]]:
+    def _done(self, file: BufferedReader, path: str, bar: Bar) -> int:
+        table = tables_of(self._shell.db).get(self._name) or self._made(file, bar)
         if self._options == Options() and _is_of(table, file):
-            return self._put(table, Read(file, bar), path), []
+            return self._put(table, Read(file, bar), path)
         names, parsed = self._parsed(file, bar, is_looked_at=True)
         order = [_place(column.name, names) for column in table.columns]
         missing = [column.name for column, at in zip(table.columns, order) if at is None and not column.takes_null]
@@ -109,16 +103,14 @@ class Import:
             count = self._put(table, _Pieces(table.header, parsed.records, len(names), order), path)
         finally:
             self.warnings.extend(warning_of(odd.told()) for odd in parsed.odd[:1])
-        return count, [name for at, name in enumerate(names) if at not in order and name != _LEFT_OUT]
+        self._left = [name for at, name in enumerate(names) if at not in order and name != _LEFT_OUT]
+        return count
 
     def _put(self, table: Table, file: Readable, path: str) -> int:
         """Loads what is in the form of a load."""
         load = Load(self._shell.db, table, self._shell.interrupts)
         try:
-            back = f"drop table {table.name}" if self._is_made else ""
-            return self._shell.transactions.whole(
-                f".import {path} {table.name}", lambda: load.run(file, self._shell.settings.block), back
-            )
+            return load.run(file, self._shell.settings.block)
         except mmdb.Refused as why:
             raise Trouble(f"{numbered(why)}; no row of {path} went in", why.reason) from why
         finally:
@@ -149,7 +141,7 @@ class Import:
             raise Trouble(f"the file has no column {key}; it has {', '.join(kinds)}")
         order = [key, *(name for name in kinds if name != key)]
         declared = ", ".join(f"{name} {kinds[name]}" for name in order)
-        self._shell.transactions.answer(f"table {self._name} ({declared})".encode())
+        answer(self._shell.db, f"table {self._name} ({declared})")
         return table_of(self._shell.db, self._name)
 
 

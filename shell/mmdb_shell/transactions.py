@@ -7,7 +7,6 @@ are those that `.begin` has opened.
 
 from __future__ import annotations
 
-import re
 from functools import cached_property
 from typing import Any, Callable, List, Optional, Set, Tuple, TypeVar, Union
 
@@ -34,13 +33,9 @@ _MOST_TOLD = 60
 _ONE_ROW = b"ok 1\n"
 _NOT_KEPT = f"of a file or a pipe only the first {MOST_LINES:,} lines can be undone"
 _NO_MORE = "the last change can't be undone any more"
-# A declaration, up to what the line that drops it has behind the word drop.
-_DECLARED = re.compile(rb"[ \t]*(table[ \t]+\w+|index[ \t]+\w+[ \t]+\w+[ \t]+\w+)")
 
-
-# A change that can be taken back: its line, how many rows it is about, whether a transaction is open for it, and the line that is
-# done behind its rollback, or in place of it. (There is one for each line, so it is a plain tuple.)
-_Change = Tuple[bytes, int, bool, bytes]
+# A change that can be taken back: its line, and how many rows it is about. (There is one for each line, so it is a plain tuple.)
+_Change = Tuple[bytes, int]
 
 
 class Transactions:
@@ -118,17 +113,16 @@ class Transactions:
                 raise
             return self._done_unkept(line, do, *given)
         rows = 1 if result == _ONE_ROW else _rows_of(result)
-        self._kept.append((line, rows, True, b""))
+        self._kept.append((line, rows))
         self._rows += rows
         return result
 
-    def whole(self, line: str, do: Callable[[], int], back: str = "") -> int:
-        """Does several changes, all of them or none, and keeps them as one. They are called by a line, and once they are rolled
-        back another is done that takes back what came before."""
+    def whole(self, line: str, do: Callable[[], int]) -> int:
+        """Does several changes, all of them or none, and keeps them as one. They are called by a line."""
         if len(self._kept) >= _MOST_CHANGES or self._rows > _MOST_ROWS:
             self._forget(_NO_MORE)
         rows = self._done(do)
-        self._kept.append((line.encode("utf-8", "surrogateescape"), rows, True, back.encode()))
+        self._kept.append((line.encode("utf-8", "surrogateescape"), rows))
         self._rows += rows
         return rows
 
@@ -136,12 +130,9 @@ class Transactions:
         """Takes the last change back, and tells which it was."""
         if not self._kept:
             raise Trouble(self._nothing if isinstance(self._nothing, str) else f"{_told(self._nothing)} can't be undone")
-        line, _, is_open, back = self._kept.pop()
-        if is_open:
-            self._db.rollback()
+        line, _ = self._kept.pop()
+        self._db.rollback()
         self._forget("nothing more can be undone")
-        if back:
-            answer(self._db, back)
         return _told(line)
 
     def _done(self, do: Callable[..., Result], *given: Any) -> Result:
@@ -170,13 +161,12 @@ class Transactions:
 
     def _is_in_one(self) -> bool:
         """Whether a transaction is open."""
-        return self.count > 0 or bool(self._kept) and self._kept[-1][2]
+        return self.count > 0 or bool(self._kept)
 
     def _forget(self, nothing: Union[str, bytes]) -> None:
         """Ends the transactions of the changes that are kept."""
-        for _, _, is_open, _ in self._kept:
-            if is_open:
-                self._db.commit()
+        for _ in self._kept:
+            self._db.commit()
         self._kept.clear()
         self._rows, self._nothing = 0, nothing
 
@@ -191,12 +181,9 @@ class Transactions:
         self._outside.add(word)
 
     def _done_outside(self, line: bytes, do: Callable[..., Result], *given: Any) -> Result:
-        """Does a line outside of transactions. A declaration is kept all the same, with the line that drops it."""
+        """Does a line outside of transactions, which can't be undone."""
         result = do(*given)
         self._forget(line)
-        declared = _DECLARED.match(line)
-        if declared:
-            self._kept.append((line, 0, False, b"drop " + declared[1]))
         return result
 
     @cached_property
