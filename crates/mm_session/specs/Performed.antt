@@ -14,10 +14,8 @@ pub record HasPerformed (old new : CatalogState) (effect : Effect) (answer : Lis
   pub limits : new.limits ≡ old.limits
   pub told : answer ≡ answer_text effect.outcome
 
--- With these databases saved by open transactions the command can be done: a declaration if none is open, all others always.
+-- With these databases saved by open transactions the command can be done: a drop if none is open, all others always.
 abbrev pub CanBeDone : List Database → Resolved → Type 0
-CanBeDone saved (resolved.Table name schema) = saved ≡ []
 CanBeDone saved (resolved.DropTable n) = saved ≡ []
-CanBeDone saved (resolved.Index n column kind) = saved ≡ []
 CanBeDone saved (resolved.DropIndex n column kind) = saved ≡ []
 CanBeDone saved r = Unit {0}

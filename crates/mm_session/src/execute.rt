@@ -83,17 +83,14 @@ impl Executor {
         u64::from(self.tables.catalog().limits().block)
     }
 
-    // Refuses a declaration while a transaction is open.
+    // Refuses a drop while a transaction is open.
     fn check_outside(&self, command: &Resolved) -> Result<(), Refusal>
         ensures ok { OnOk result (CanBeDone (saved_of self.now.tables) command.now) }
         ensures refused { IfErr result (λ e. e ≡ refusal.NoMemory) }
         ensures open { OnErr result (saved_of self.now.tables ≢ []) }
     {
         match command {
-            Resolved::Table { .. }
-            | Resolved::DropTable { .. }
-            | Resolved::Index { .. }
-            | Resolved::DropIndex { .. }
+            Resolved::DropTable { .. } | Resolved::DropIndex { .. }
                 if self.tables.transactions() > 0 => { Err(Refusal::NoMemory) }
             _ => Ok(()),
         }
@@ -110,7 +107,7 @@ impl Executor {
         answer.clear();
         match command {
             Resolved::Table { name, schema } => {
-                self.tables.outside().create(name, schema)?;
+                self.tables.create(name, schema)?;
                 answer.set(OK);
             }
             Resolved::DropTable { table } => {
@@ -122,7 +119,7 @@ impl Executor {
                 column,
                 kind,
             } => {
-                self.tables.outside().add_index(table, column, kind)?;
+                self.tables.add_index(table, column, kind)?;
                 answer.set(OK);
             }
             Resolved::DropIndex {

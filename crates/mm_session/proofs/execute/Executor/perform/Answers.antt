@@ -18,17 +18,9 @@ select-requires c =
     subst (λ (k : CatalogState). IsMeant k.limits (database_of k) (resolved.Select c.in-Select.query)) (sym c.catalog.ensures)
     (rw c.in-Select.is at c.requires.meant)
 
-pub returns-in_ok-create-in-Table-clause-saved : goal.returns-in_ok-create-in-Table-clause-saved
-returns-in_ok-create-in-Table-clause-saved c =
-    stays_outside c.args.self.now.tables c.create.new.self (rw c.in-Table.is at c.requires.can)
-
 pub returns-in-DropTable-clause-saved : goal.returns-in-DropTable-clause-saved
 returns-in-DropTable-clause-saved c =
     stays_outside c.args.self.now.tables c.drop_table.new.self (rw c.in-DropTable.is at c.requires.can)
-
-pub returns-in_ok-add_index-in-Index-clause-saved : goal.returns-in_ok-add_index-in-Index-clause-saved
-returns-in_ok-add_index-in-Index-clause-saved c =
-    stays_outside c.args.self.now.tables c.add_index.new.self (rw c.in-Index.is at c.requires.can)
 
 pub returns-in-DropIndex-clause-saved : goal.returns-in-DropIndex-clause-saved
 returns-in-DropIndex-clause-saved c =
