@@ -46,8 +46,8 @@ pub struct PreparedLine<'a> {
 /// the values that are bound then.
 ///
 /// Several databases may share a session. Each has statements of its own, and reads the tables. Only the last that is left changes
-/// them; the others are refused by `Shared`. In a transaction declarations, drops, pieces of the stream, sharing and leaving are refused by
-/// `InTransaction`. All other changes are done there, and a rollback undoes them.
+/// them; the others are refused by `Shared`. In a transaction drops, pieces of the stream, sharing and leaving are refused by
+/// `InTransaction`. All other changes are done there, declarations too, and a rollback undoes them.
 #[derive(Drop)]
 pub struct Database {
     held: SharedSession,
@@ -217,7 +217,8 @@ impl Database {
     }
 
     /// Ends the innermost transaction, and undoes what was done in it: the tables are those that it began with. It takes no memory.
-    /// The stream goes on as before. What is known of the statements' meaning is forgotten.
+    /// The stream goes on as before. What is known of the statements' meaning is forgotten, since the names and columns of tables may
+    /// be others.
     pub fn rollback(&mut self) -> Result<(), NoTransaction>
         ensures open { OnOk result (self.old.session.saved ≢ []) }
         ensures rolled_back { OnOk result (tables_of self.new.session ≡ rolled_back (tables_of self.old.session)) }
@@ -257,7 +258,7 @@ impl Database {
         ensures stream { StaysInStream self.old.session self.new.session }
         ensures run { OnOk result (GoesBetween self.old.session self.new.session (record { line = line.now; block = block.now }) answer.new) }
 
-        // In a transaction a request is declined whose line begins as a declaration.
+        // In a transaction a request is declined whose line begins as a drop.
         ensures open { IsErrOf result request_fault.InTransaction → (self.old.session.saved ≢ []) × (begins_waiting (behind_blanks line.now) ≡ true) }
         ensures waits { self.old.session.saved ≢ [] → begins_waiting (behind_blanks line.now) ≡ true → result ≡ Err request_fault.InTransaction }
 

@@ -134,7 +134,7 @@ pub enum RequestFault {
     NotOneRequest,
     /// Another database shares the tables.
     Shared,
-    /// A transaction is open, and the line begins as a declaration.
+    /// A transaction is open, and the line begins as a drop.
     InTransaction,
 }
 

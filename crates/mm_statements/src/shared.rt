@@ -271,7 +271,7 @@ impl SharedSession {
     }
 
     /// Answers one request by itself, as the session does, where nobody else holds it. In a transaction one is declined whose line begins as
-    /// a declaration.
+    /// a drop.
     pub fn answer_request(
         &mut self,
         line: &[u8],
