@@ -126,8 +126,7 @@ typedef enum mmdb_status {
                                     another handle shares the tables. Nothing changed */
     MMDB_NO_TRANSACTION = 15,    /* mmdb_commit, mmdb_rollback: no transaction is open */
     MMDB_IN_TRANSACTION = 16     /* what isn't done in a transaction: mmdb_command and mmdb_load of a line that begins
-                                    with table (and not tables), index or drop; mmdb_feed, mmdb_share, mmdb_leave. Nothing
-                                    changed */
+                                    with drop; mmdb_feed, mmdb_share, mmdb_leave. Nothing changed */
 } mmdb_status;
 
 /* How plans are chosen. No policy changes an answer, only what it costs. MMDB_AUTO is the one to take. */
@@ -154,8 +153,8 @@ uint32_t mmdb_open(mmdb *db, uint32_t policy, uint32_t rows, uint32_t block);
    before a line feed in any file. A line that asks for a block, as `load T 20` does, goes to mmdb_load.
    Gives MMDB_DONE and the answer, which is good until the next call on this handle: the bytes that the program mmdb
    writes for the line, none for blanks and comments. Or gives MMDB_NOT_OPEN or MMDB_NO_LINE; or MMDB_IN_TRANSACTION
-   where a transaction is open and the line begins with table (and not tables), index or drop; or MMDB_SHARED, whatever
-   line it is; or MMDB_NOT_ONE_REQUEST. */
+   where a transaction is open and the line begins with drop; or MMDB_SHARED, whatever line it is; or
+   MMDB_NOT_ONE_REQUEST. */
 uint32_t mmdb_command(mmdb *db, const void *line, size_t length, mmdb_bytes *answer);
 
 /* Answers one line with the block that it asks for: `load T 20` with 20 bytes. Answer and statuses are as those of

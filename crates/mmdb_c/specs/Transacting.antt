@@ -16,7 +16,7 @@ IsInTransaction d = d.inner.session.saved ≢ []
 abbrev pub IsOutside : Database → Type 0
 IsOutside d = d.inner.session.saved ≡ []
 
--- A transaction is open, and the line begins as a declaration.
+-- A transaction is open, and the line begins as a drop.
 abbrev pub PutsOff : List ℕ → Database → Type 0
 PutsOff line d = IsInTransaction d × (begins_waiting (behind_blanks line) ≡ true)
 

@@ -6,8 +6,8 @@
 //! - A handle that is closed owns nothing, and a call on it does nothing.
 //! - Several handles may share a session. Each has statements, answers and rows of its own. While they share it none of them changes its
 //!   tables. `SHARED` comes only of a handle that has shared its tables and not left them since, and never in a transaction.
-//! - In a transaction rows are inserted, loaded, updated, deleted and read. `IN_TRANSACTION` refuses declarations and pieces of the stream
-//!   there, and sharing and leaving.
+//! - In a transaction rows are inserted, loaded, updated, deleted and read, and tables and indexes declared. `IN_TRANSACTION` refuses drops
+//!   and pieces of the stream there, and sharing and leaving.
 //! - After each status but `DONE` the tables are as they were, unless a piece found no room for its answers.
 #![tactic(auto)]
 
