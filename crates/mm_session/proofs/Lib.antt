@@ -32,6 +32,7 @@ pub mod SinkLemmas
 pub mod StorableValues
 pub mod StreamLemmas
 pub mod TakeLemmas
+pub mod ToldLemmas
 pub mod TransactionLemmas
 pub mod TurnLemmas
 pub mod WalkedLemmas

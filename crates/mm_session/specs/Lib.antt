@@ -24,6 +24,7 @@ pub mod Sessions
 pub mod Shown
 pub mod Sinks
 pub mod StreamLaws
+pub mod Told
 pub mod Turns
 pub mod Walked
 pub mod WholeRuns

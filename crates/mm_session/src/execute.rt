@@ -16,6 +16,7 @@ mod scanned;
 pub mod search;
 mod select;
 mod sink;
+pub mod told;
 
 use crate::answer::Answer;
 use mm_catalog::Catalog;

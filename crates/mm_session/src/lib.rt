@@ -32,6 +32,7 @@ mod stream;
 
 pub use answer::Answer;
 pub use execute::search::rows_passing;
+pub use execute::told::{NextJoin, ToldPlan, Way};
 pub use fault::{NotOneRequest, RunFault, SessionFault};
 pub use session::Session;
 pub use stream::lines::{Judged, LONGEST_LINE, judge_line, split_line};

@@ -4,6 +4,7 @@ ghost use Rattle.std.specs.Prelude.{◌≡◌, ◌≢◌, ◌<◌, ◌≤◌, �
 ghost use Rattle.std.specs.Io.KnownBytes.{Keeps};
 
 use crate::answer::Answer;
+use crate::execute::told::ToldPlan;
 use crate::fault::{NotOneRequest, SessionFault};
 use crate::stream::outlet::{Lent, Outlet};
 use crate::stream::responder::Responder;
@@ -59,6 +60,7 @@ impl Session {
     ghost use Rattle.plain_tables.specs.declared.resolved.Resolved.TheVariants as resolved;
     ghost use Rattle.mm_session.specs.Changing.{HasChanged, HasDeclined, IsChange, IsDeleteByKey, ShowsValues};
     ghost use Rattle.mm_session.specs.Columns.{columns_told};
+    ghost use Rattle.mm_session.specs.Told.{IsPlanOf};
     ghost use Rattle.mm_session.specs.Sessions.{State, Gains, Feeds, Finishes, BreaksOff, new_session, tables_of};
 
     /// A session with no tables, under the standard limits.
@@ -249,6 +251,17 @@ impl Session {
         executor
             .reading()
             .columns(executor.tables.catalog(), query, cells)
+    }
+
+    /// The plan by which `select` shows what a query asks for, as far as it can be known before a row is read.
+    pub fn plan(&self, query: &Query) -> Result<ToldPlan, NoMemory>
+        requires { IsMeant self.now.limits self.now.database (resolved.Select query.now) }
+        ensures { IfOk result (λ told. (policy : Policy) × IsPlanOf policy self.now.catalog query.now told) }
+    {
+        let executor = &self.responder.executor;
+        executor
+            .reading()
+            .tell_plan(executor.tables.catalog(), query)
     }
 
     /// Makes the answer how the indexes of the table of a name stand: that of its key, and the declared ones.
