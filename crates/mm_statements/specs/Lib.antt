@@ -5,6 +5,7 @@ pub mod Executing
 pub mod Faults
 pub mod Held
 pub mod LineLaws
+pub mod Planning
 pub mod Preparing
 pub mod Querying
 pub mod Resolving

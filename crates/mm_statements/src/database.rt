@@ -4,6 +4,7 @@ use crate::columns::push_columns;
 use crate::faults::{
     BeginFault, ExecuteFault, PrepareFault, QueryFault, RequestFault, ShareFault, StreamFault,
 };
+use crate::planning::{PlannedSelect, plan_of_line};
 use crate::querying::command_of_line;
 use crate::reading::{count_marks, meaning, readable};
 use crate::resolving::{command_of, resolution_of, resolve};
@@ -14,7 +15,7 @@ use mm_session::{Answer, Session};
 use mm_transactions::NoTransaction;
 use no_memory::NoMemory;
 use plain_statements::Template;
-use plain_tables::{Limits, Resolved, Value};
+use plain_tables::{Limits, Refusal, Resolved, Value};
 use plan_chooser::Policy;
 use std::alloc::Global;
 use std::io::Write;
@@ -88,6 +89,7 @@ impl Database {
     ghost use Rattle.mm_prepared.specs.Kept.{KeptStatement};
     ghost use Rattle.mm_statements.specs.Databases.{statement_at, IsUnchanged, NowNames, SameStatements, SharesMore};
     ghost use Rattle.mm_statements.specs.Executing.{HasGiven, IsDeclined, IsEffectOf, IsUntold, TellsColumns};
+    ghost use Rattle.mm_statements.specs.Planning.{IsPlanOfLine, IsUnplanned};
     ghost use Rattle.mm_statements.specs.Preparing.{IsPrepared, IsUnpreparedFor};
     ghost use Rattle.mm_statements.specs.Querying.{IsEffectOfLine, IsUnanswered};
     ghost use Rattle.mm_prepared.specs.declared.declined.Declined.TheVariants as declined;
@@ -175,6 +177,14 @@ impl Database {
         self.held.leave(alloc, self.policy)?;
         self.statements.forget();
         Ok(())
+    }
+
+    /// The select that a line spells, and its plan. A carriage return at the line's end is no part of it.
+    pub fn plan(&self, alloc: Global, line: &[u8]) -> Result<PlannedSelect, Refusal>
+        ensures planned { IfOk result (IsPlanOfLine self.now.session (without_return line.now)) }
+        ensures refused { IfErr result (IsUnplanned self.now.session (without_return line.now)) }
+    {
+        plan_of_line(alloc, &self.held, line)
     }
 
     /// The session, lent.

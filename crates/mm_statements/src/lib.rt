@@ -25,6 +25,7 @@ mod columns;
 mod database;
 mod faults;
 pub mod laws;
+mod planning;
 mod querying;
 mod reading;
 mod resolving;
@@ -36,3 +37,4 @@ pub use faults::{
 };
 pub use mm_prepared::{Bound, Cell, Declined, Prepared, Statements, finish};
 pub use mm_transactions::NoTransaction;
+pub use planning::PlannedSelect;
