@@ -1,5 +1,5 @@
 //! Why a request was refused, in a line of words: what stands where in a line that is no command, and which name, column,
-//! value, row or limit it was of one that is.
+//! value, row or limit it was of one that is. Also the plan of a select in words.
 //!
 //! ```text
 //!  line that is no command ──▶ syntax: the symbol where the parser stops, and what may stand there
@@ -7,6 +7,7 @@
 //!  command                 ──▶ mm_resolver tells what is to blame ──▶ blamed, by declaring, joins, values and blocks
 //!  rows                    ──▶ rows: which key, which reference; referrers: who names the row
 //!  statement with values   ──▶ filled: the command that it is ──▶ as above ──▶ statements: the column of the value's question mark
+//!  plan of a select        ──▶ plans: a line for each of its steps
 //! ```
 //!
 //! It is asked after a refusal, which has changed nothing: so what is found out costs nothing where nobody asks. What a command
@@ -30,6 +31,7 @@ mod hints;
 mod joins;
 mod nearest;
 mod parts;
+mod plans;
 mod reasons;
 mod referrers;
 mod rows;
@@ -43,5 +45,6 @@ mod values;
 
 pub use answered::refusal_of;
 pub use fault::ReasonFault;
+pub use plans::plan_words;
 pub use reasons::reason;
 pub use statements::{prepare_reason, statement_reason};
