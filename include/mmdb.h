@@ -118,8 +118,8 @@ typedef enum mmdb_status {
     MMDB_NO_SUCH_STATEMENT = 9,  /* the number names no statement, or one that was finalised */
     MMDB_NO_SUCH_PLACE = 10,     /* the statement has no place of that number */
     MMDB_NOT_UTF8 = 11,          /* mmdb_bind_text of bytes that are not UTF-8 */
-    MMDB_REFUSED = 12,           /* mmdb_prepare, mmdb_execute, mmdb_columns, mmdb_query: refused. mmdb_answer and
-                                    mmdb_refusal tell why, as `error 41 key exists` and a line feed; nothing changed */
+    MMDB_REFUSED = 12,           /* mmdb_prepare, mmdb_execute, mmdb_columns, mmdb_query, mmdb_plan: refused. mmdb_answer
+                                    and mmdb_refusal tell why, as `error 41 key exists` and a line feed; nothing changed */
     MMDB_TOO_LARGE = 13,         /* mmdb_execute, mmdb_query: the texts of the rows are more than 4 GiB together;
                                     mmdb_prepare: the database has 4294967296 statements. Nothing changed */
     MMDB_SHARED = 14,            /* mmdb_execute and mmdb_query of a change; mmdb_command, mmdb_load, mmdb_feed, mmdb_begin:
@@ -230,6 +230,14 @@ uint32_t mmdb_feed(mmdb *db, const void *piece, size_t length);
    MMDB_NO_LINE where the name is null and has a length. */
 uint32_t mmdb_indexes(mmdb *db, const void *table, size_t length, mmdb_bytes *answer);
 
+/* Tells the plan of the select that a line spells, beside the stream; the select is not done, and nothing changes. The
+   answer is for people, a line for each step, and the words may change from version to version: how the rows of the first
+   table are found, each join, and how rows are shown. One carriage return at the line's end is dropped.
+   Gives MMDB_DONE and the answer, which is good until the next call on this handle; or MMDB_NOT_OPEN or MMDB_NO_LINE; or
+   MMDB_REFUSED and the refusal: as mmdb_query would be refused, or by 20 where the line spells no select, or by 90 when
+   out of memory. */
+uint32_t mmdb_plan(mmdb *db, const void *line, size_t length, mmdb_bytes *answer);
+
 /* The answers of the last call that was done or refused, one behind the other: of the piece that was fed, or of the
    line. Of a piece whose answers found no room it is a front of them. Where a statement was prepared, executed or asked
    for its columns, or a line queried, they are its refusal, or no bytes. Any other call leaves them as they are: one
@@ -243,9 +251,9 @@ uint32_t mmdb_answer(mmdb *db, mmdb_bytes *answer);
 uint32_t mmdb_refusal(mmdb *db);
 
 /* Why a line was refused, with the block that it asks for, in one line of English: for people, who are told what stands
-   at which column, or which name, column, value or row it was. It is asked right behind the mmdb_command, mmdb_load or
-   mmdb_query that was refused, while the tables are as they were, and changes neither them nor the answers. What the
-   words are may change from version to version; the number of the refusal doesn't.
+   at which column, or which name, column, value or row it was. It is asked right behind the mmdb_command, mmdb_load,
+   mmdb_query or mmdb_plan that was refused, while the tables are as they were, and changes neither them nor the answers.
+   What the words are may change from version to version; the number of the refusal doesn't.
    Gives MMDB_DONE and the words, which are good until the next call on this handle: no bytes where the last answers
    begin with no refusal, or it is none of this line. Or gives MMDB_NOT_OPEN, MMDB_NO_LINE, or MMDB_NO_MEMORY where none
    was found for the words. */
@@ -524,6 +532,15 @@ static inline mmdb_status mmdb_checked_indexes(mmdb *db, const void *table, size
     return mmdb_checked_status(mmdb_indexes(db, mmdb_checked_bytes(table), length, to));
 }
 
+static inline mmdb_status mmdb_checked_plan(mmdb *db, const void *line, size_t length, mmdb_bytes *answer)
+{
+    mmdb_bytes unwanted;
+    mmdb_bytes *to = mmdb_checked_answer_at(answer, &unwanted);
+    if (mmdb_checked_is_closed(db))
+        return MMDB_NOT_OPEN;
+    return line ? mmdb_checked_status(mmdb_plan(db, line, length, to)) : MMDB_NO_LINE;
+}
+
 static inline mmdb_status mmdb_checked_answer(mmdb *db, mmdb_bytes *answer)
 {
     mmdb_bytes unwanted;
@@ -619,6 +636,7 @@ static inline void mmdb_checked_close(mmdb *db)
 #define mmdb_query mmdb_checked_query
 #define mmdb_feed mmdb_checked_feed
 #define mmdb_indexes mmdb_checked_indexes
+#define mmdb_plan mmdb_checked_plan
 #define mmdb_answer mmdb_checked_answer
 #define mmdb_refusal mmdb_checked_refusal
 #define mmdb_reason mmdb_checked_reason

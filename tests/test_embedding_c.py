@@ -14,7 +14,7 @@ from support import compiling, harness, refusing, tested
 EXAMPLES = harness.ROOT / "examples" / "c"
 PAGE = harness.ROOT / "docs" / "c.md"
 STATEMENTS = {"mmdb_prepare", "mmdb_bind_integer", "mmdb_bind_text", "mmdb_bind_null", "mmdb_execute", "mmdb_columns", "mmdb_finalize"}
-LINES = {"mmdb_command", "mmdb_load", "mmdb_query", "mmdb_feed", "mmdb_indexes", "mmdb_answer", "mmdb_refusal"}
+LINES = {"mmdb_command", "mmdb_load", "mmdb_query", "mmdb_feed", "mmdb_indexes", "mmdb_plan", "mmdb_answer", "mmdb_refusal"}
 REASONS = {"mmdb_reason", "mmdb_prepare_reason", "mmdb_statement_reason"}
 SHARING = {"mmdb_share", "mmdb_leave"}
 TRANSACTIONS = {"mmdb_begin", "mmdb_commit", "mmdb_rollback", "mmdb_transactions"}

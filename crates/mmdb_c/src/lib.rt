@@ -21,6 +21,8 @@ ghost use Rattle.mmdb_c.specs.Transacting.{IsInTransaction, PutsOff};
 
 mod database;
 mod handle;
+pub mod plan_calls;
+mod plans;
 pub mod reason_calls;
 mod reasons;
 mod rows;

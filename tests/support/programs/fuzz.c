@@ -448,6 +448,18 @@ static void queries(handle *of)
     free(line.at);
 }
 
+static void asks_plan(handle *of)
+{
+    const bytes line = given_bytes();
+    mmdb_bytes told;
+    const mmdb_status status = mmdb_plan(&of->db, line.at, line.length, &told);
+    const int is_none = line.at == NULL || line.length == 0;
+    const uint32_t allowed = is_none ? only(MMDB_NO_LINE) : only(MMDB_DONE) | only(MMDB_REFUSED);
+    if (is_within(status, of->is_open ? allowed : only(MMDB_NOT_OPEN), "plan") && !is_none)
+        reads_answer(of, told);
+    free(line.at);
+}
+
 static void asks_columns(handle *of)
 {
     const statement *to = any_statement(of);
@@ -555,6 +567,7 @@ static void calls_on_null(void)
     CHECK(mmdb_reason(NULL, NULL, 1, NULL, 1, &answer) == MMDB_NOT_OPEN && mmdb_indexes(NULL, "", 0, NULL) == MMDB_NOT_OPEN);
     CHECK(mmdb_prepare_reason(NULL, NULL, 1, &answer) == MMDB_NOT_OPEN && mmdb_statement_reason(NULL, 0, NULL) == MMDB_NOT_OPEN);
     CHECK(mmdb_query(NULL, "", 0, &rows) == MMDB_NOT_OPEN && mmdb_query(NULL, NULL, 1, NULL) == MMDB_NOT_OPEN);
+    CHECK(mmdb_plan(NULL, "", 0, &answer) == MMDB_NOT_OPEN && mmdb_plan(NULL, NULL, 1, NULL) == MMDB_NOT_OPEN);
     CHECK(mmdb_answer(NULL, &answer) == MMDB_NOT_OPEN && mmdb_refusal(NULL) == 0);
     CHECK(mmdb_begin(NULL) == MMDB_NOT_OPEN && mmdb_transactions(NULL) == 0);
     CHECK(mmdb_commit(NULL) == MMDB_NOT_OPEN && mmdb_rollback(NULL) == MMDB_NOT_OPEN);
@@ -567,7 +580,7 @@ typedef void (*maker)(handle *of);
 static const maker MAKERS[] = {
     commands, commands, commands, commands, loads,    loads,     feeds,    feeds,        prepares,     prepares,      prepares,
     binds,    binds,    binds,    binds,    executes, executes,  executes, asks_columns, asks_columns, looks_at_rows, tells,
-    queries,  queries,  asks_why, begins,   leaves,   commits_or_rolls_back, commits_or_rolls_back,
+    queries,  queries,  asks_why, asks_plan, begins,  leaves,    commits_or_rolls_back, commits_or_rolls_back,
 };
 
 /* One call. Handles are seldom opened, closed and shared, so that much becomes of what they have. */

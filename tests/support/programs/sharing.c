@@ -124,6 +124,8 @@ static void it_reads(mmdb *db)
     CHECK(columns.rows == 1 && reads(mmdb_text(&columns, mmdb_cell_at(&columns, 0, 0)), "t.s"));
     GIVES(mmdb_indexes(db, "t", 1, &answer), MMDB_DONE);
     CHECK(answer.length > 0);
+    GIVES(mmdb_plan(db, "select s from t", 15, &answer), MMDB_DONE);
+    CHECK(answer.length > 0);
     GIVES(mmdb_finalize(db, find.number), MMDB_DONE);
 }
 

@@ -77,6 +77,10 @@ static void a_closed_handle_is_told(mmdb *db)
     GIVES(mmdb_indexes(db, "t", 1, &answer), MMDB_NOT_OPEN);
     CHECK(reads(answer, ""));
     GIVES(mmdb_indexes(db, NULL, 1, NULL), MMDB_NOT_OPEN);
+    answer = another();
+    GIVES(mmdb_plan(db, TABLE, 5, &answer), MMDB_NOT_OPEN);
+    CHECK(reads(answer, ""));
+    GIVES(mmdb_plan(db, NULL, 1, NULL), MMDB_NOT_OPEN);
     mmdb_close(db);
 }
 
@@ -266,6 +270,59 @@ static void indexes_want_memory_for_their_answer(void)
     mmdb_close(&db);
 }
 
+static mmdb_status plan(mmdb *db, const char *line, mmdb_bytes *answer)
+{
+    return mmdb_plan(db, line, strlen(line), answer);
+}
+
+static void plan_gives_each_status(mmdb *db)
+{
+    mmdb_bytes answer;
+    static const char told[] = "search of planned by the key, 0 rows\nshow the only row from where it lies\n";
+    GIVES(command(db, "table planned (id int, s text)", NULL), MMDB_DONE);
+    GIVES(plan(db, "select * from planned where id = 1\r", &answer), MMDB_DONE);
+    CHECK(reads(answer, told));
+    GIVES(mmdb_answer(db, &answer), MMDB_DONE);
+    CHECK(reads(answer, told));
+    GIVES(mmdb_refusal(db), 0);
+    GIVES(plan(db, "select s from planned", NULL), MMDB_DONE);
+    GIVES(plan(db, "select * from plannd", &answer), MMDB_REFUSED);
+    CHECK(reads(answer, "error 30 no such table\n"));
+    GIVES(mmdb_refusal(db), 30);
+    GIVES(mmdb_reason(db, "select * from plannd", 20, NULL, 0, &answer), MMDB_DONE);
+    CHECK(reads(answer, "plannd is no table: is planned meant?"));
+    GIVES(plan(db, "delete planned", &answer), MMDB_REFUSED);
+    CHECK(reads(answer, "error 20 not a command\n"));
+    GIVES(plan(db, "tables", &answer), MMDB_REFUSED);
+    CHECK(reads(answer, "error 20 not a command\n"));
+    GIVES(plan(db, "\377", &answer), MMDB_REFUSED);
+    CHECK(reads(answer, "error 11 not UTF-8\n"));
+    answer = another();
+    GIVES(plan(db, "", &answer), MMDB_NO_LINE);
+    CHECK(reads(answer, ""));
+    answer = another();
+    GIVES(mmdb_plan(db, NULL, 1, &answer), MMDB_NO_LINE);
+    CHECK(reads(answer, ""));
+    GIVES(command(db, "drop table planned", NULL), MMDB_DONE);
+}
+
+static void plans_want_memory_for_their_words(mmdb *db)
+{
+    mmdb_bytes answer;
+    static const char line[] = "select t.s from t join u on u.t = t.id where t.s = 'a'";
+    mmdb_status status = MMDB_REFUSED;
+    GIVES(command(db, "table u (id int, t ref t)", NULL), MMDB_DONE);
+    for (int place = 0; status == MMDB_REFUSED && place < 1000; place++) {
+        allocations_refuse(place, 1);
+        status = plan(db, line, &answer);
+        CHECK(status == MMDB_DONE || reads(answer, "error 90 no memory\n"));
+        CHECK(allocations_refused() == (status == MMDB_REFUSED));
+        allocations_refuse(0, 0);
+    }
+    GIVES(status, MMDB_DONE);
+    GIVES(command(db, "drop table u", NULL), MMDB_DONE);
+}
+
 static void each_status_has_words_of_its_own(void)
 {
     for (uint32_t one = MMDB_DONE; one <= MMDB_IN_TRANSACTION + 1; one++)
@@ -290,6 +347,8 @@ int main(void)
     reason_gives_each_status(&db);
     indexes_give_each_status(&db);
     indexes_want_memory_for_their_answer();
+    plan_gives_each_status(&db);
+    plans_want_memory_for_their_words(&db);
     mmdb_close(&db);
     a_closed_handle_is_told(&db);
     each_status_has_words_of_its_own();

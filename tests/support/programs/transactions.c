@@ -450,6 +450,7 @@ static void other_lines_are_answered(mmdb *db)
         GIVES(command(db, OTHERS[i].line, &answer), MMDB_DONE);
         CHECK(reads(answer, OTHERS[i].answer));
     }
+    GIVES(mmdb_plan(db, "select id from t", 16, NULL), MMDB_DONE);
 }
 
 static void statements_are_refused_as_ever(pair *both)
