@@ -345,6 +345,21 @@ static PyObject *handle_indexes(PyObject *self, PyObject *given)
     return told(handle, status, answer);
 }
 
+static PyObject *handle_plan(PyObject *self, PyObject *given)
+{
+    Handle *handle = (Handle *)self;
+    PyObject *line;
+    mmdb_bytes answer;
+    if (!PyArg_ParseTuple(given, "S", &line))
+        return NULL;
+    mmdb_bytes asked = content_of(line);
+    uint32_t status;
+    Py_BEGIN_ALLOW_THREADS
+    status = mmdb_plan(&handle->db, asked.at, asked.length, &answer);
+    Py_END_ALLOW_THREADS
+    return told(handle, status == MMDB_REFUSED ? MMDB_DONE : status, answer);
+}
+
 static PyObject *handle_reason(PyObject *self, PyObject *given)
 {
     Handle *handle = (Handle *)self;
@@ -469,6 +484,7 @@ static PyMethodDef handle_methods[] = {
     { "_command", handle_command, METH_VARARGS, "What is answered to a line." },
     { "_load", handle_load, METH_VARARGS, "What is answered to a line with its block." },
     { "_indexes", handle_indexes, METH_VARARGS, "What is answered to who asks how the indexes of a table stand." },
+    { "_plan", handle_plan, METH_VARARGS, "What is answered to who asks how the select of a line goes." },
     { "_reason", handle_reason, METH_VARARGS, "Why the line that was just answered was refused, with its block." },
     { "_begin", handle_begin, METH_NOARGS, "Begins a transaction." },
     { "_commit", handle_commit, METH_NOARGS, "Ends the innermost transaction, and keeps what was done in it." },

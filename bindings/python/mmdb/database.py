@@ -363,6 +363,20 @@ class Database(Handle):
         with self._turn:
             return self._indexes_of(table)
 
+    def plan(self, line: str, /, *parameters: Any, **named: Any) -> List[str]:
+        """How a select goes, in words for people: a step in each line. The select is not done.
+
+        Raises `Refused` if the line is refused, and with the number 20 if it is no select.
+        """
+        check_line(line)
+        at = placed(line)
+        sent = encoded(at.filled(stored_values(at.fitting(parameters, named))))
+        with self._turn:
+            answer = self._plan(sent)
+            if answer.startswith(b"error "):
+                raise refusal_of(answer, sent, self._reason(sent, b""), at.given if at.places else None)
+        return answer.decode().splitlines()
+
     def reader(self) -> Reader:
         """A reader of these tables, for a thread that reads while others do.
 

@@ -117,6 +117,7 @@ _OPEN = _call(_LIBRARY, "mmdb_open", _NUMBER, _ADDRESS, _NUMBER, _NUMBER, _NUMBE
 _COMMAND = _call(_LIBRARY, "mmdb_command", _NUMBER, _ADDRESS, _ADDRESS, _SIZE, _ADDRESS)
 _LOAD = _call(_LIBRARY, "mmdb_load", _NUMBER, _ADDRESS, _ADDRESS, _SIZE, _ADDRESS, _SIZE, _ADDRESS)
 _INDEXES = _call(_LIBRARY, "mmdb_indexes", _NUMBER, _ADDRESS, _ADDRESS, _SIZE, _ADDRESS)
+_PLAN = _call(_LIBRARY, "mmdb_plan", _NUMBER, _ADDRESS, _ADDRESS, _SIZE, _ADDRESS)
 _ANSWER = _call(_LIBRARY, "mmdb_answer", _NUMBER, _ADDRESS, _ADDRESS)
 _REASON = _call(_LIBRARY, "mmdb_reason", _NUMBER, _ADDRESS, _ADDRESS, _SIZE, _ADDRESS, _SIZE, _ADDRESS)
 _PREPARE_REASON = _call(_LIBRARY, "mmdb_prepare_reason", _NUMBER, _ADDRESS, _ADDRESS, _SIZE, _ADDRESS)
@@ -266,6 +267,11 @@ class Handle:
         """What is answered to who asks how the indexes of a table stand."""
         status = _INDEXES(self._at, table, len(table), self._told_at)
         return self._unanswered(status) if status else self._told_bytes()
+
+    def _plan(self, line: bytes) -> bytes:
+        """What is answered to who asks how the select of a line goes."""
+        status = _PLAN(self._at, line, len(line), self._told_at)
+        return self._unanswered(status) if status and status != _REFUSED else self._told_bytes()
 
     def _reason(self, line: bytes, block: bytes) -> Optional[str]:
         """Why the line that was just answered was refused, with its block. None if it wasn't, or when out of memory.

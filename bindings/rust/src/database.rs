@@ -282,6 +282,21 @@ impl Database {
         self.session.indexes(table, indexes_of)
     }
 
+    /// How a select goes, in words for people: a step in each line. The select isn't done.
+    ///
+    /// ```
+    /// let db = mmdb::Database::open_in_memory()?;
+    /// db.execute("table t (id int, s text)", [])?;
+    ///
+    /// let plan = db.plan("select s from t where id = ?", [1])?;
+    /// assert_eq!(plan, ["search of t by the key, 0 rows", "show the only row from where it lies"]);
+    /// # Ok::<(), mmdb::Error>(())
+    /// ```
+    pub fn plan<P: Params>(&self, line: &str, params: P) -> Result<Vec<String>> {
+        self.session
+            .plan(line, params, |told| told.lines().map(str::to_string).collect())
+    }
+
     /// The bytes that the library answers to a line, refusals too. They are none for comments and blank lines.
     pub fn answer(&mut self, line: &[u8]) -> Result<&[u8]> {
         self.session.handle().command(line)?;

@@ -111,6 +111,7 @@ extern "C" {
     fn mmdb_columns(db: *mut Inside, statement: u32, columns: *mut Found) -> u32;
     fn mmdb_finalize(db: *mut Inside, statement: u32) -> u32;
     fn mmdb_indexes(db: *mut Inside, table: *const u8, length: usize, answer: *mut Told) -> u32;
+    fn mmdb_plan(db: *mut Inside, line: *const u8, length: usize, answer: *mut Told) -> u32;
     fn mmdb_answer(db: *mut Inside, answer: *mut Told) -> u32;
     fn mmdb_reason(
         db: *mut Inside,
@@ -237,6 +238,18 @@ impl Handle {
         let db = self.inside.get();
         // SAFETY: as of `command`.
         self.answered(|told| unsafe { mmdb_indexes(db, table.as_ptr(), table.len(), told) })
+    }
+
+    /// Has it told how the select of a line goes. A refusal is an answer too.
+    pub(crate) fn plan(&self, line: &[u8]) -> Result<(), Error> {
+        let db = self.inside.get();
+        self.answered(|told| {
+            // SAFETY: as of `command`.
+            match unsafe { mmdb_plan(db, line.as_ptr(), line.len(), told) } {
+                REFUSED => IS_DONE,
+                status => status,
+            }
+        })
     }
 
     /// Makes a call that answers bytes, and keeps where these are.

@@ -92,6 +92,11 @@ impl Reader<'_> {
         self.database.query_row(line, params, read)
     }
 
+    /// How a select goes, a step in each line.
+    pub fn plan<P: Params>(&self, line: &str, params: P) -> Result<Vec<String>> {
+        self.database.plan(line, params)
+    }
+
     /// The state of the indexes of a table.
     pub fn indexes(&self, table: &str) -> Result<Vec<Index>> {
         self.database.indexes(table)

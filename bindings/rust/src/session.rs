@@ -22,6 +22,9 @@ struct Room {
     bound: Bound,
 }
 
+/// A call of the handle that answers a line.
+type Call = fn(&Handle, &[u8]) -> Result<()>;
+
 impl Session {
     pub(crate) fn over(handle: Handle) -> Session {
         Session {
@@ -32,13 +35,32 @@ impl Session {
 
     /// What a function makes of the answer to a line with parameters, where it is no refusal.
     pub(crate) fn ask<P: Params, T>(&self, line: &str, params: P, read: impl FnOnce(&str) -> T) -> Result<T> {
+        self.ask_by(Handle::command, line, params, read)
+    }
+
+    /// What a function makes of the plan of a select with parameters, where the line is no refusal.
+    pub(crate) fn plan<P: Params, T>(&self, line: &str, params: P, read: impl FnOnce(&str) -> T) -> Result<T> {
+        self.ask_by(Handle::plan, line, params, read)
+    }
+
+    fn ask_by<P, T>(&self, call: Call, line: &str, params: P, read: impl FnOnce(&str) -> T) -> Result<T>
+    where
+        P: Params,
+    {
         let mut room = self.room.take();
-        let answered = self.ask_in(&mut room, line, params, read);
+        let answered = self.ask_in(&mut room, call, line, params, read);
         self.room.replace(room);
         answered
     }
 
-    fn ask_in<P, T>(&self, room: &mut Room, line: &str, params: P, read: impl FnOnce(&str) -> T) -> Result<T>
+    fn ask_in<P, T>(
+        &self,
+        room: &mut Room,
+        call: Call,
+        line: &str,
+        params: P,
+        read: impl FnOnce(&str) -> T,
+    ) -> Result<T>
     where
         P: Params,
     {
@@ -48,7 +70,7 @@ impl Session {
             return Err(Error::LineFeed);
         }
         fill(line, &room.places, room.bound.iter(), &mut room.line);
-        self.handle.command(room.line.as_bytes())?;
+        call(&self.handle, room.line.as_bytes())?;
         self.accepted(&room.line, &room.line, &[], read)
     }
 
