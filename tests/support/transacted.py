@@ -1,7 +1,7 @@
 """Streams in transactions: begin, commit and rollback are drawn among their units, nested to three, and a judge does the same. A unit is
 asked for in one of several ways, and fed in pieces where no transaction is open, since a piece waits in one.
 
-What must hold: a unit that is put off in a transaction changes nothing, and the judge doesn't do it.
+What must hold: what begins as a drop is put off in a transaction, and nothing else is. It changes nothing, and the judge doesn't do it.
 """
 
 import collections
@@ -13,15 +13,17 @@ MOST_OPEN = 3
 # The chances that a transaction begins, is committed and is rolled back before a unit.
 BEGUN, COMMITTED, ROLLED_BACK = 0.15, 0.07, 0.1
 FED = 0.1
-# The chances that rows are deleted and updated which are there, as a stream's own deletes and updates mostly find none.
-TAKEN, SET = 0.08, 0.08
+# The chance that something is changed that is there: a stream's own deletes and updates mostly find no rows, and its tables are mostly
+# there.
+CHANGED = 0.24
+# The names of tables that are made then.
+MADE = ("made", "more")
 # The chance that a unit which was put off is done behind the transactions.
 DONE_BEHIND = 0.8
-# The commands that are done in each transaction.
-NEVER_PUT_OFF = ("insert", "load", "update", "delete", "select", "dump", "tables")
-# What has to come in a run of many streams.
+# The changes that are undone, and what has to come in a run of many streams.
+UNDONE = ("insert", "load", "update", "delete", "table", "index")
 COVERED = [f"{what}, {number} open" for what in ("begun", "committed", "rolled back") for number in range(1, MOST_OPEN + 1)]
-COVERED += ["fed around", "put off", *(f"of {word} undone" for word in ("insert", "load", "update", "delete"))]
+COVERED += ["fed around", "put off", "tables gone", "indexes gone", *(f"of {word} undone" for word in UNDONE)]
 
 
 def copy_of(table):
@@ -69,6 +71,11 @@ def written(value):
     return None if set(value) & set(b"\r\n") else "'" + value.decode().replace("'", "''") + "'"
 
 
+def waits(line):
+    """Whether a line waits until no transaction is open: it begins as a drop does, and may be none."""
+    return line.lstrip(b" \t").startswith(b"drop")
+
+
 def word_of(line):
     """The first word of a line, where it is one."""
     try:
@@ -110,25 +117,29 @@ class Run:
     # ---- transactions
 
     def turn(self):
-        """Begins a transaction, ends one, or does neither."""
+        """Begins a transaction, ends one, changes something in one, or does none of these."""
         luck = self.draw.random()
         if luck < BEGUN:
             if self.open < MOST_OPEN:
                 self.begin()
         elif luck < BEGUN + COMMITTED + ROLLED_BACK and self.open:
             self.end(luck < BEGUN + COMMITTED)
-        elif luck > 1 - TAKEN - SET and self.open:
-            tables = [table for table in self.judge.tables.by_name.values() if table.rows]
-            if tables:
-                (self.take_some if luck > 1 - TAKEN else self.set_some)(self.draw.choice(tables))
+        elif luck > 1 - CHANGED and self.open:
+            self.change(self.draw.choice([self.take_some, self.set_some, self.declare_some]))
+
+    def change(self, some):
+        """Changes a table, which has rows unless something is declared."""
+        tables = [table for table in self.judge.tables.by_name.values() if table.rows or some == self.declare_some]
+        if tables:
+            some(self.draw.choice(tables))
 
     def take_some(self, table):
         """Deletes rows that are there, and inserts one of them again."""
         values = [written(value) for value in self.draw.choice(table.rows)]
         if None not in values:
             sign = self.draw.choice(["=", "=", "<=", ">="])
-            self.do(f"delete {table.name} where {table.columns[0].name} {sign} {values[0]}".encode(), b"", iter(()))
-            self.do(f"insert {table.name} ({', '.join(values)})".encode(), b"", iter(()))
+            self.do_line(f"delete {table.name} where {table.columns[0].name} {sign} {values[0]}")
+            self.do_line(f"insert {table.name} ({', '.join(values)})")
 
     def set_some(self, table):
         """Sets rows that are there to values of another one, and may delete one of them."""
@@ -137,9 +148,21 @@ class Run:
         puts = [f"{column.name} = {value}" for column, value in settings if value is not None and self.draw.random() < 0.7]
         if puts and None not in (key, other):
             name, sign = table.columns[0].name, self.draw.choice(["=", "=", "<=", ">="])
-            self.do(f"update {table.name} set {', '.join(puts)} where {name} {sign} {key}".encode(), b"", iter(()))
+            self.do_line(f"update {table.name} set {', '.join(puts)} where {name} {sign} {key}")
             if self.draw.random() < 0.3:
-                self.do(f"delete {table.name} where {name} = {other}".encode(), b"", iter(()))
+                self.do_line(f"delete {table.name} where {name} = {other}")
+
+    def declare_some(self, table):
+        """Makes an index of a table, or another table that refers to it, with some rows and an index."""
+        kind = self.draw.choice(["tree", "hash"])
+        if self.draw.random() < 0.6:
+            self.do_line(f"index {table.name} {self.draw.choice(table.columns).name} {kind}")
+            return
+        name, keys = self.draw.choice(MADE), [written(row[0]) for row in table.rows]
+        self.do_line(f"table {name} (id int, k ref {table.name} null)")
+        for number, key in enumerate(self.draw.sample(keys, min(2, len(keys)))):
+            self.do_line(f"insert {name} ({number}, {key or 'null'})")
+        self.do_line(f"index {name} k {kind}")
 
     def begin(self):
         self.handle.begin()
@@ -158,11 +181,12 @@ class Run:
             if self.open:
                 self.changed[-1] += changed
             return
-        rows = {name: table.rows for name, table in self.judge.tables.by_name.items()}
+        before = self.judge.tables.by_name
         self.handle.roll_back()
         self.judge.roll_back()
         self.count.update(("transactions", f"of {word} undone") for word in changed)
-        self.look_at_all(rows)
+        self.look_at_all(before)
+        self.look_for(before.keys() - self.judge.tables.by_name.keys())
 
     def end_all(self):
         while self.open:
@@ -173,6 +197,9 @@ class Run:
 
     # ---- units
 
+    def do_line(self, line):
+        self.do(line.encode(), b"", iter(()))
+
     def do(self, line, block, left):
         if self.feeds and not self.open and self.draw.random() < FED:
             self.feed(line, block, left)
@@ -182,6 +209,8 @@ class Run:
         except embedded.PutOff:
             self.put_off(line, block, left)
             return
+        if self.open and waits(line):
+            self.misfits.append(f"{line!r} is done where {self.open} transactions are open")
         self.compare(line, block, answer)
         if self.open:
             self.note_change(line, answer)
@@ -190,14 +219,14 @@ class Run:
 
     def note_change(self, line, answer):
         word = word_of(line)
-        if answer.startswith(b"ok ") and answer != b"ok 0\n" and word != "tables":
+        if answer.startswith(b"ok") and answer != b"ok 0\n" and word != "tables":
             self.changed[-1].append(word)
             self.count["changes in transactions", word] += 1
 
     def put_off(self, line, block, left):
         """A unit was put off, so all is as it was. Mostly the transactions end, and it is done behind them."""
         self.count["transactions", "put off"] += 1
-        if not self.open or word_of(line) in NEVER_PUT_OFF:
+        if not self.open or not waits(line):
             self.misfits.append(f"{line!r} is put off where {self.open} transactions are open")
             return
         self.look_at_rows()
@@ -247,8 +276,9 @@ class Run:
         for line in ["tables", *(f"dump {name}" for name in self.judge.tables.by_name)]:
             self.ask(line)
 
-    def look_at_all(self, others):
-        """Declarations, rows, indexes, and through each index some rows that stand there or are among the others."""
+    def look_at_all(self, before):
+        """Declarations, rows, indexes, and through each index some rows that stand there, or stood before in a table of that name. Indexes
+        that there were before are looked for too."""
         if self.handle.transactions() != self.open:
             self.misfits.append(f"{self.handle.transactions()} transactions are open, not {self.open}")
         self.look_at_rows()
@@ -256,11 +286,31 @@ class Run:
             if not handle_tells(self.handle, name, listed):
                 self.misfits.append(f"the indexes {listed} are told as {self.handle.indexes(name.encode())!r}")
         for name, table in list(self.judge.tables.by_name.items()):
-            self.look_through_indexes(table, [*table.rows, *others.get(name, [])])
+            was = before.get(name, table)
+            gone = [index for index in was.indexes if index not in table.indexes]
+            self.count["transactions", "indexes gone"] += len(gone)
+            self.look_through(table, [(0, "tree"), *table.indexes, *gone], [*table.rows, *was.rows])
 
-    def look_through_indexes(self, table, rows):
-        """Selects through each index of a table what one of these rows has."""
-        for place, kind in [(0, "tree"), *table.indexes]:
+    def look_for(self, names):
+        """Looks for tables that are gone, whose names are free again."""
+        self.count["transactions", "tables gone"] += len(names)
+        for name in sorted(names):
+            for line in (f"dump {name}", f"select * from {name}", f"index {name} id tree"):
+                self.ask(line)
+            if not self.handle.indexes(name.encode()).startswith(b"error 30 "):
+                self.misfits.append(f"the indexes of {name} are told, which is gone")
+            self.make_for_a_while(name)
+
+    def make_for_a_while(self, name):
+        for who in (self.handle, self.judge):
+            who.begin()
+        self.ask(f"table {name} (id int)")
+        for who in (self.handle, self.judge):
+            who.roll_back()
+
+    def look_through(self, table, indexes, rows):
+        """Selects through these indexes what one of these rows has."""
+        for place, kind in indexes:
             row = self.draw.choice(rows) if rows else []
             value = written(row[place]) if place < len(row) else None
             if value is not None:
