@@ -283,17 +283,24 @@ class Planted(unittest.TestCase):
 
 
 class Plain(transacted.Lists):
-    """A handle whose tables are plain lists, and which puts nothing off."""
+    """A handle whose tables are plain lists."""
+
+    def waits(self, line):
+        """Whether a line is put off in a transaction."""
+        return transacted.waits(line)
 
     def ask(self, line, block):
+        if self.saved and self.waits(line):
+            raise embedded.PutOff
         return self.answer(line, block)
 
     def transactions(self):
         return len(self.saved)
 
     def indexes(self, name):
-        """How the indexes of a table stand, behind two lines."""
-        return b"".join(line + b"\n" for line in [b"", b"", *dict(transacted.lists(self.tables)).get(name.decode(), [])])
+        """How the indexes of a table stand, behind two lines, where there is such a table."""
+        listed = dict(transacted.lists(self.tables)).get(name.decode())
+        return b"error 30 no such table\n" if listed is None else b"".join(line + b"\n" for line in [b"", b"", *listed])
 
 
 class KeepsAll(Plain):
@@ -355,6 +362,79 @@ class LeavesEntries(Plain):
         return super().indexes(name) + b"id,tree,0,\n" * self.told
 
 
+class DeclaredRolledBack(Plain):
+    """A rollback leaves or takes what was declared, and what is mixed so is in the tables."""
+
+    def roll_back(self):
+        now = self.tables.by_name
+        super().roll_back()
+        self.mix(self.tables.by_name, now)
+
+
+class LeavesTables(DeclaredRolledBack):
+    def mix(self, tables, now):
+        tables |= {name: table for name, table in now.items() if name not in tables}
+
+
+class LeavesEmptyTables(DeclaredRolledBack):
+    def mix(self, tables, now):
+        tables |= {name: model.Table(name, table.columns) for name, table in now.items() if name not in tables}
+
+
+class LeavesIndexes(DeclaredRolledBack):
+    def mix(self, tables, now):
+        for name, table in tables.items():
+            table.indexes = list(now[name].indexes)
+
+
+class TakesTheLastIndex(DeclaredRolledBack):
+    """It takes the last index of a table of which rows have changed, whenever that was made."""
+
+    def mix(self, tables, now):
+        for name, table in tables.items():
+            if table.rows != now[name].rows:
+                del table.indexes[-1:]
+
+
+class RemembersTables(Plain):
+    """The name of a table that was rolled back stays taken."""
+
+    def __init__(self):
+        super().__init__()
+        self.taken = set()
+
+    def roll_back(self):
+        now = self.tables.by_name.keys()
+        super().roll_back()
+        self.taken |= now - self.tables.by_name.keys()
+
+    def answer(self, line, block):
+        is_table = transacted.word_of(line) == "table" and not self.taken.isdisjoint(line.decode().split()[1:2])
+        answer = super().answer(line, block)
+        return model.Refused(31).answer() if is_table and answer == b"ok\n" else answer
+
+
+class TellsIndexesOfNone(Plain):
+    """The indexes of a table that is gone are told."""
+
+    def indexes(self, name):
+        return super().indexes(name).replace(b"error 30 no such table\n", b"rows 0\n\n")
+
+
+class PutsNothingOff(Plain):
+    def waits(self, line):
+        return False
+
+
+class PutsDeclarationsOff(Plain):
+    def waits(self, line):
+        return super().waits(line) or transacted.word_of(line) in ("table", "index")
+
+
+MISTAKEN = (KeepsAll, KeepsWhatIsCommitted, UndoesAll, LeavesDeleted, LeavesUpdated, LeavesInserted, LeavesEntries, LeavesTables)
+MISTAKEN += (LeavesEmptyTables, LeavesIndexes, TakesTheLastIndex, RemembersTables, TellsIndexesOfNone, PutsNothingOff, PutsDeclarationsOff)
+
+
 class PlantedInTransactions(unittest.TestCase):
     """A mistake that is planted in transactions is seen, and without one nothing is."""
 
@@ -367,6 +447,6 @@ class PlantedInTransactions(unittest.TestCase):
         self.assertEqual([self.differ(Plain, number) for number in range(PLANTED_STREAMS // 4)], [[]] * (PLANTED_STREAMS // 4))
 
     def test_each_planted_mistake_is_seen(self):
-        for faulty in (KeepsAll, KeepsWhatIsCommitted, UndoesAll, LeavesDeleted, LeavesUpdated, LeavesInserted, LeavesEntries):
+        for faulty in MISTAKEN:
             with self.subTest(planted=faulty.__name__):
                 self.assertTrue(any(self.differ(faulty, number) for number in range(PLANTED_STREAMS)))
