@@ -405,14 +405,19 @@ static void none_begins_where_tables_are_shared(void)
     mmdb_close(&both.db);
 }
 
-static void declarations_are_put_off(mmdb *db)
+/* Those that begin as a drop does, whether they spell one or not; and pieces. */
+static void lines_are_put_off(mmdb *db)
 {
-    static const char *const OTHERS[] = { "table u (id int)", "table",          "drop table t",        "drop table u",
-                                          "drop",             "index t n hash", "drop index t s hash", " \tindex nothing" };
+    static const char *const DROPS[] = { "drop table t", "drop table u", "drop index t s hash", "drop index t m tree", "drop",
+                                         "drop\r",       "dropx",        "drop,",               "dropped table t",     " \tdrop nothing" };
     mmdb_bytes answer;
-    for (size_t i = 0; i < sizeof OTHERS / sizeof *OTHERS; i++)
-        GIVES(command(db, OTHERS[i], NULL), MMDB_IN_TRANSACTION);
-    GIVES(load(db, "index t 5", "id,s\n", NULL), MMDB_IN_TRANSACTION);
+    for (size_t i = 0; i < sizeof DROPS / sizeof *DROPS; i++) {
+        GIVES(command(db, DROPS[i], &answer), MMDB_IN_TRANSACTION);
+        CHECK(reads(answer, ""));
+    }
+    GIVES(load(db, "drop table t", "", NULL), MMDB_IN_TRANSACTION);
+    GIVES(load(db, "drop t 5", "id,s\n", NULL), MMDB_IN_TRANSACTION);
+    GIVES(load(db, "index t 5", "id,s\n", NULL), MMDB_NOT_ONE_REQUEST);
     GIVES(feed(db, "tables\n"), MMDB_IN_TRANSACTION);
     GIVES(mmdb_answer(db, &answer), MMDB_DONE);
     CHECK(reads(answer, ""));
@@ -439,6 +444,18 @@ static void other_lines_are_answered(mmdb *db)
         { "delete t where m = 0", "error 32 no such column\n" },
         { "delete u", "error 30 no such table\n" },
         { "delete", "error 20 not a command\n" },
+        { "table t (id int)", "error 31 table exists\n" },
+        { "table u (id int, v ref v)", "error 30 no such table\n" },
+        { "table u (id int, id int)", "error 33 column named twice\n" },
+        { "table", "error 20 not a command\n" },
+        { "tablex u (id int)", "error 20 not a command\n" },
+        { "index t s hash", "error 39 index exists\n" },
+        { "index t id tree", "error 39 index exists\n" },
+        { "index t m tree", "error 32 no such column\n" },
+        { "index u n tree", "error 30 no such table\n" },
+        { " \tindex nothing", "error 20 not a command\n" },
+        { "indexx t n hash", "error 20 not a command\n" },
+        { "dro table t", "error 20 not a command\n" },
         { "updat t set s = 'x'", "error 20 not a command\n" },
         { "no command", "error 20 not a command\n" },
         { "# a comment", "" },
@@ -485,14 +502,14 @@ static void what_is_done_in_one(void)
     pair both = opened();
     begin(&both);
     insert(&both, 0);
-    declarations_are_put_off(&both.db);
+    lines_are_put_off(&both.db);
     other_lines_are_answered(&both.db);
     statements_are_refused_as_ever(&both);
     tables_are_neither_shared_nor_left(&both.db);
     are_alike(&both);
     roll_back(&both);
     are_alike(&both);
-    GIVES(query(&both.db, "update t set s = 'x'", NULL), MMDB_DONE);
+    GIVES(command(&both.db, "drop index t s hash", NULL), MMDB_DONE);
     GIVES(feed(&both.db, "drop table t\n"), MMDB_DONE);
     mmdb_close(&both.db);
 }
