@@ -1,5 +1,5 @@
-"""Transactions from C: each status, every order of begin, insert, update, delete, commit and rollback beside plain lists, and memory: each
-call for it refused, and the bytes that are held behind rounds of rollbacks and behind a commit.
+"""Transactions from C: each status, every order of begin, insert, update, delete, commit and rollback beside plain lists, declarations that
+are undone, and memory: each call for it refused, and the bytes that are held behind rounds of rollbacks and behind a commit.
 """
 
 import os
@@ -8,7 +8,8 @@ import unittest
 
 from support import compiling, preloading
 
-TRANSACTIONS, DELETES, UPDATES = (compiling.PROGRAMS / name for name in ("transactions.c", "undone_deletes.c", "undone_updates.c"))
+TRANSACTIONS = compiling.PROGRAMS / "transactions.c"
+DELETES, UPDATES, DECLARATIONS = (compiling.PROGRAMS / f"undone_{what}.c" for what in ("deletes", "updates", "declarations"))
 ROOM = compiling.Room()
 ROUNDS = 100
 HELD = re.compile(rb"\n\[held (\d+), most \d+\]\n([a-z ]+)\n")
@@ -48,6 +49,12 @@ class Updates(Transactions):
     """Values that are replaced and restored, references among them."""
 
     source = UPDATES
+
+
+class Declarations(Transactions):
+    """Tables and indexes that are made and gone again, and the statements on them."""
+
+    source = DECLARATIONS
 
 
 class Memory(compiling.Programs):

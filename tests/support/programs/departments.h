@@ -1,4 +1,4 @@
-/* What the programs share that undo deletes and updates: departments, people who refer to them, and what each index finds of them. */
+/* What the programs share that undo changes: departments, people who refer to them, and what each index finds of them. */
 #ifndef DEPARTMENTS_H
 #define DEPARTMENTS_H
 
@@ -17,8 +17,9 @@ typedef struct picture {
     size_t length;
 } picture;
 
-/* Both tables, and each index of the second: that of its key, a tree, two hashes, and the references of the first. */
+/* What is declared, both tables, and each index of the second: that of its key, a tree, two hashes, and the references of the first. */
 static const char *const SEEN[] = {
+    "tables",
     "dump dept",
     "dump emp",
     "select * from emp where id = 7",
