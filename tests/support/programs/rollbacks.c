@@ -62,6 +62,22 @@ static mmdb opened(void)
     return db;
 }
 
+/* Tables that refer to others, with rows, and indexes of these and of rows that are there. */
+static void declare(mmdb *db)
+{
+    char line[96];
+    answered(db, "table proj (id int, lead ref emp null, name text)");
+    answered(db, "index proj lead hash");
+    answered(db, "table task (id int, proj ref proj null)");
+    for (int key = 0; key < ROWS; key++) {
+        snprintf(line, sizeof line, "insert proj (%d, %d, '%0*d')", key, key % 100, key % 3 * 20, key);
+        answered(db, line);
+    }
+    answered(db, "index proj name tree");
+    answered(db, "index emp dept hash");
+    answered(db, "index emp name tree");
+}
+
 static void changes(mmdb *db)
 {
     insert(db, ROWS, ROWS);
@@ -69,6 +85,7 @@ static void changes(mmdb *db)
     answered(db, "update emp set name = 'a name that is longer than fourteen bytes' where n < 10");
     answered(db, "update emp set n = 3, dept = null where id > 500");
     answered(db, "delete emp where id >= 200 and id < 700");
+    declare(db);
 }
 
 /* Changes in a transaction, and others in two that are in it. */
@@ -81,6 +98,9 @@ static void round_of_changes(mmdb *db)
     GIVES(mmdb_commit(db), MMDB_DONE);
     GIVES(mmdb_begin(db), MMDB_DONE);
     answered(db, "update emp set name = 'short', n = 1000");
+    answered(db, "index proj lead tree");
+    answered(db, "delete proj");
+    answered(db, "table more (id int, task ref task)");
     answered(db, "delete emp");
     load_rows(db, 4 * ROWS, ROWS);
     GIVES(mmdb_rollback(db), MMDB_DONE);
@@ -104,8 +124,10 @@ static void change_once(int in_transaction, int takes_all, const char *word)
     if (in_transaction)
         GIVES(mmdb_begin(&db), MMDB_DONE);
     changes(&db);
-    if (takes_all)
+    if (takes_all) {
+        answered(&db, "delete proj where id >= 0");
         answered(&db, "delete emp where id >= 0");
+    }
     if (in_transaction)
         GIVES(mmdb_commit(&db), MMDB_DONE);
     mark(word);
