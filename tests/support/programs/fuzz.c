@@ -3,7 +3,7 @@
    closed, null or open. The words are the SEED and the number of CALLS.
 
    Each status must be one that the header names, and NOT_OPEN, NO_LINE, NO_SUCH_STATEMENT and NO_SUCH_PLACE come exactly where they
-   must. So does SHARED, but for statements. Answers are read to their end. The rows of each statement stay until it is executed again, and those of a line until the next
+   must. So do IN_TRANSACTION, and SHARED but for statements. Answers are read to their end. The rows of each statement stay until it is executed again, and those of a line until the next
    query. */
 #include "checking.h"
 
@@ -208,10 +208,13 @@ static int is_within(mmdb_status status, uint32_t allowed, const char *call)
     return is;
 }
 
-/* What a call may give besides where a transaction is open. */
-static uint32_t put_off(const handle *of)
+/* Whether a line begins as a drop does, and so waits until no transaction is open. */
+static int is_waiting(bytes line)
 {
-    return of->transactions > 0 ? only(MMDB_IN_TRANSACTION) : 0;
+    size_t at = 0;
+    while (at < line.length && (line.at[at] == ' ' || line.at[at] == '\t'))
+        at++;
+    return line.length - at >= strlen("drop") && memcmp(line.at + at, "drop", strlen("drop")) == 0;
 }
 
 /* Whether another handle shares the tables of this one. */
@@ -223,10 +226,10 @@ static int is_shared(const handle *of)
     return of->is_open && others > 0;
 }
 
-/* What a call may give of a line or a piece that is none: whatever it says, it is declined where tables are shared. */
+/* What a call may give of a line or a piece: whatever it says, it is declined where tables are shared. */
 static uint32_t unless_shared(const handle *of, uint32_t allowed)
 {
-    return is_shared(of) ? only(MMDB_SHARED) : allowed | put_off(of);
+    return is_shared(of) ? only(MMDB_SHARED) : allowed;
 }
 
 /* What a statement or a query may give. */
@@ -315,7 +318,9 @@ static void commands(handle *of)
     mmdb_bytes answer;
     const mmdb_status status = mmdb_command(&of->db, line.at, line.length, is_drawn(95) ? &answer : NULL);
     const int is_none = line.at == NULL || line.length == 0;
-    const uint32_t allowed = is_none ? only(MMDB_NO_LINE) : unless_shared(of, only(MMDB_DONE) | only(MMDB_NOT_ONE_REQUEST));
+    const int is_put_off = !is_none && of->transactions > 0 && is_waiting(line);
+    const uint32_t done = is_put_off ? only(MMDB_IN_TRANSACTION) : unless_shared(of, only(MMDB_DONE) | only(MMDB_NOT_ONE_REQUEST));
+    const uint32_t allowed = is_none ? only(MMDB_NO_LINE) : done;
     if (is_within(status, of->is_open ? allowed : only(MMDB_NOT_OPEN), "command") && status == MMDB_DONE &&
         mmdb_answer(&of->db, &answer) == MMDB_DONE)
         reads_answer(of, answer);
@@ -342,8 +347,8 @@ static void feeds(handle *of)
 {
     const bytes piece = given_bytes_to(is_drawn(80) ? "\n" : "");
     const mmdb_status status = mmdb_feed(&of->db, piece.at, piece.length);
-    const uint32_t done = of->transactions > 0 ? put_off(of) : unless_shared(of, only(MMDB_DONE));
-    const uint32_t allowed = is_null(piece) ? only(MMDB_NO_LINE) | put_off(of) : done;
+    const uint32_t done = of->transactions > 0 ? only(MMDB_IN_TRANSACTION) : unless_shared(of, only(MMDB_DONE));
+    const uint32_t allowed = is_null(piece) ? only(MMDB_NO_LINE) | (done & only(MMDB_IN_TRANSACTION)) : done;
     mmdb_bytes answer;
     if (is_within(status, of->is_open ? allowed : only(MMDB_NOT_OPEN), "feed") && status == MMDB_DONE) {
         GIVES(mmdb_answer(&of->db, &answer), MMDB_DONE);
