@@ -151,11 +151,12 @@ fn a_refusal_leaves_it_open() {
 }
 
 #[test]
-fn what_is_declared_stays() {
+fn drops_are_not_done_in_one() {
     let mut db = with_rows();
     db.execute("table u (id int, t ref t)", []).unwrap();
+    db.execute("index t s hash", []).unwrap();
     let mut tx = db.transaction().unwrap();
-    for line in ["table v (id int)", "index t s hash", "drop table u"] {
+    for line in ["drop table u", "drop index t s hash", "drop table nothing", " dropx"] {
         assert_eq!(tx.execute(line, []), Err(Error::InTransaction), "{line}");
         assert_eq!(tx.command(line, []), Err(Error::InTransaction), "{line}");
         assert_eq!(tx.answer(line.as_bytes()), Err(Error::InTransaction), "{line}");
@@ -165,7 +166,8 @@ fn what_is_declared_stays() {
     drop(tx);
     assert_eq!(db.load("u", [(1, 2)]), Ok(1));
     assert_eq!(selected(&db, "select * from u", []), [[Value::from(1), 2.into()]]);
-    assert_eq!(db.execute("table v (id int)", []), Ok(0));
+    assert_eq!(db.execute("drop index t s hash", []), Ok(0));
+    assert_eq!(db.execute("drop table u", []), Ok(0));
 }
 
 #[test]
