@@ -29,10 +29,12 @@ impl Both {
         Ok(Both { shared, reader })
     }
 
-    /// The rows, and how many transactions are open.
-    fn state(&mut self) -> Result<(Vec<Vec<Value>>, usize)> {
-        let tables = self.shared.write()?;
-        Ok((tables.query("select * from t", [])?.to_vec(), tables.transactions()))
+    /// What is declared, the rows, and how many transactions are open.
+    fn state(&mut self) -> Result<(Vec<u8>, Vec<Vec<Value>>, usize)> {
+        let mut tables = self.shared.write()?;
+        let declared = tables.answer(b"tables")?.to_vec();
+        let rows = tables.query("select * from t", [])?.to_vec();
+        Ok((declared, rows, tables.transactions()))
     }
 
     fn commit(&mut self) -> Result<usize> {
@@ -42,7 +44,10 @@ impl Both {
         let savepoint = tx.savepoint()?;
         savepoint.execute("insert t (?, ?)", (4, LONG))?;
         savepoint.execute("update t set s = ? where id > ?", (LONG, 1))?;
+        savepoint.execute("table u (id int, t ref t)", [])?;
+        savepoint.execute("insert u (1, 4)", [])?;
         savepoint.commit()?;
+        tx.execute("index u t hash", [])?;
         tx.execute("update t set s = ? where s = ?", ("short", LONG))?;
         tx.execute("delete t where id < ?", [3])?;
         tx.commit()?;
@@ -56,6 +61,8 @@ impl Both {
         let savepoint = tx.savepoint()?;
         savepoint.load("t", (10..20).map(|id| (id, LONG)))?;
         savepoint.execute("update t set s = ? where id < ?", (LONG, 12))?;
+        savepoint.execute("index t s tree", [])?;
+        savepoint.execute("table u (id int, t ref t)", [])?;
         savepoint.execute("delete t where s = ?", [LONG])?;
         savepoint.rollback()?;
         Ok(1)

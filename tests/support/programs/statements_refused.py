@@ -45,11 +45,19 @@ class Kept:
             self.update.execute(LONG, 1)
             self.db.change("update t set c = ?", KEY)
 
+    def declare_in_transaction(self):
+        with self.db.transaction():
+            self.delete.execute("a")
+            self.db.execute("index t s tree")
+            self.db.execute("table v (id int, c ref u)")
+            self.db.execute("insert v (1, ?)", KEY)
+            self.db.execute("index v c hash")
+
     def prepare(self):
         self.more.append(self.db.prepare("select s, c from t where s = ? and id < ? and c <> 'a text that is given'"))
 
     def state(self):
-        return self.db.select("select * from t"), self.select.execute(2)
+        return self.db.execute("tables"), self.db.select("select * from t"), self.select.execute(2)
 
 
 STEPS = (
@@ -66,6 +74,7 @@ STEPS = (
     lambda of: of.insert_in_transaction(),
     lambda of: of.update_in_transaction(),
     lambda of: of.delete_in_transaction(),
+    lambda of: of.declare_in_transaction(),
     lambda of: of.db.change("update t set c = ? where id = ?", KEY, 1),
 )
 
