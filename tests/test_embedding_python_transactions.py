@@ -1,7 +1,8 @@
-"""The binding for Python: transactions, one in another too, and what is raised of them."""
+"""The binding for Python: transactions, one in another too, what is undone by them, and what is raised of them."""
 
 import random
 import threading
+import typing
 
 from support import binding, sizes
 from support.binding import mmdb
@@ -157,21 +158,24 @@ class Transactions(binding.WithDatabase):
         self.assertEqual(self.ids(), [1])
 
     def test_what_is_not_done_in_one(self):
+        self.db.execute("index t s hash")
         with self.db.transaction():
             self.db.execute("insert t (2, 'b')")
             for call in (
-                lambda: self.db.execute("table u (id int)"),
+                lambda: self.db.execute("drop table t"),
                 lambda: self.db.execute("drop table ?", None),
-                lambda: self.db.answer("index t s hash"),
+                lambda: self.db.execute(" dropx"),
+                lambda: self.db.answer("drop index t s hash"),
                 lambda: self.db.reader(),
             ):
                 with self.assertRaisesRegex(mmdb.InTransaction, "^mmdb: this isn't done in a transaction") as raised:
                     call()
                 self.assertIsInstance(raised.exception, mmdb.NotSupportedError)
             self.refused(32, self.db.execute, "update t set nothing = 'b'")
-            self.assertEqual(self.db.execute("tables"), "table t (id int, s text)\n")
-        self.assertIsNone(self.db.execute("table u (id int)"))
+            self.assertEqual(self.db.execute("tables"), "table t (id int, s text)\nindex t s hash\n")
         self.assertEqual(self.ids(), [1, 2])
+        self.assertIsNone(self.db.execute("drop index t s hash"))
+        self.assertIsNone(self.db.execute("drop table t"))
 
     def test_a_closed_database(self):
         self.db.begin()
@@ -336,3 +340,146 @@ class Changes(binding.WithDatabase):
                 rows = saved.pop()
             self.assertEqual(db.dump("t"), sorted(rows.items()))
             self.assertEqual(db.select("select id from t where s = ?", text).column("id"), sorted(id for id, s in rows.items() if s == text))
+
+
+class Made(typing.NamedTuple):
+    """A table: the line that declares it, that of its index, and its rows."""
+
+    line: str
+    index: str = ""
+    rows: list = []
+
+
+class Declarations(binding.WithDatabase):
+    """Tables and indexes that are made in a transaction."""
+
+    def setUp(self):
+        super().setUp()
+        self.db.execute("table t (id int, s text)")
+        self.db.load("t", [(1, "a"), (2, "b")])
+        self.before = "table t (id int, s text)\n"
+
+    def check_declared(self, *lines):
+        self.assertEqual(self.db.execute("tables"), self.before + "".join(f"{line}\n" for line in lines))
+
+    def check_is_no_table(self, name):
+        for call in (self.db.dump, self.db.indexes, lambda name: self.db.select(f"select * from {name}")):
+            self.refused(30, call, name)
+        self.refused(30, self.db.load, name, [(1,)])
+
+    def test_a_rollback_undoes_a_table_with_its_rows(self):
+        for _ in range(3):
+            with self.assertRaises(Stop), self.db.transaction():
+                self.assertIsNone(self.db.execute("table u (id int, t ref t null)"))
+                self.assertEqual(self.db.load("u", [(1, 2), (2, None)]), 2)
+                self.assertEqual(self.db.answer("index u t hash"), b"ok\n")
+                self.refused(44, self.db.execute, "delete t where id = 2")
+                with self.assertRaises(Stop), self.db.transaction():
+                    self.db.execute("table v (k text, u ref u)")
+                    self.assertEqual(self.db.load_dicts("v", [{"u": 2, "k": "a text that no cell of a row can hold"}]), 1)
+                    self.refused(44, self.db.execute, "delete u")
+                    raise Stop
+                self.check_is_no_table("v")
+                self.check_declared("table u (id int, t ref t null)", "index u t hash")
+                self.assertEqual(self.db.dump("u"), [(1, 2), (2, None)])
+                raise Stop
+            self.check_declared()
+            self.check_is_no_table("u")
+            with self.assertRaises(Stop), self.db.transaction():
+                self.assertEqual(self.db.change("delete t where id = 2"), 1)
+                raise Stop
+        self.db.execute("table u (k text, n int)")
+        self.assertEqual(self.db.load("u", [("a", 1)]), 1)
+        self.assertEqual(self.db.dump("u"), [("a", 1)])
+
+    def test_a_rollback_undoes_an_index(self):
+        for kind in ("tree", "hash"):
+            with self.assertRaises(Stop), self.db.transaction():
+                self.db.execute("delete t where id = 1")
+                self.db.execute("update t set s = 'c' where id = 2")
+                self.db.execute(f"index t s {kind}")
+                self.db.execute("insert t (3, 'c')")
+                self.assertEqual(self.db.select("select id from t where s = 'c'"), [(2,), (3,)])
+                self.assertEqual([(index.kind, index.rows) for index in self.db.indexes("t")], [("tree", 2), (kind, 2)])
+                self.refused(39, self.db.execute, f"index t s {kind}")
+                raise Stop
+            self.check_declared()
+            self.assertEqual([index.rows for index in self.db.indexes("t")], [2])
+            self.assertEqual(self.db.select("select id from t where s = 'a'"), [(1,)])
+            self.assertEqual(self.db.select("select id from t where s = 'c'"), [])
+
+    def test_a_commit_keeps_both(self):
+        with self.db.transaction():
+            self.db.execute("delete t where id = 1")
+            self.db.execute("index t s tree")
+            with self.db.transaction():
+                self.db.execute("table u (id int, t ref t)")
+                self.db.load_csv("u", "t,id\n2,7\n", columns=["t", "id"])
+        self.check_declared("index t s tree", "table u (id int, t ref t)")
+        self.assertEqual(self.db.dump("u"), [(7, 2)])
+        self.refused(44, self.db.execute, "delete t where s = 'b'")
+        self.assertIsNone(self.db.execute("drop table u"))
+        self.assertEqual(self.db.execute("delete t where s = 'b'"), 1)
+
+    def test_statements_are_of_the_tables_as_they_are(self):
+        self.db.begin()
+        self.db.execute("table u (id int, s text)")
+        insert, select = self.db.prepare("insert u (?, ?)"), self.db.prepare("select * from u")
+        self.assertEqual(insert.execute(1, "a"), 1)
+        found = select.execute()
+        self.assertEqual((found, select.names), ([(1, "a")], ("u.id", "u.s")))
+        self.db.rollback()
+        self.assertEqual(found, [(1, "a")])
+        self.refused(30, insert.execute, 1, "a")
+        self.refused(30, select.execute)
+        self.refused(30, lambda: select.names)
+        self.db.begin()
+        self.db.execute("table u (s text, id int, more int)")
+        self.assertEqual(self.db.load("u", [("b", 2, 3)]), 1)
+        self.assertEqual((select.execute(), select.names), ([("b", 2, 3)], ("u.s", "u.id", "u.more")))
+        self.db.rollback()
+        self.db.execute("table u (s text, id int)")
+        self.refused(35, insert.execute, 1, "a")
+        self.assertEqual(insert.execute("a", 1), 1)
+        self.assertEqual(self.db.load("u", [("b", 2)]), 1)
+        self.assertEqual((select.execute()[1].id, self.db.select("select * from u").names), (2, ("u.s", "u.id")))
+
+    def test_what_is_refused_declares_nothing(self):
+        with self.db.transaction():
+            for number, line in ((31, "table t (id int)"), (30, "table u (id int, v ref v)"), (32, "index t n tree"), (20, "tablex u (id int)")):
+                self.refused(number, self.db.execute, line)
+            self.db.execute("table u (id int)")
+        self.check_declared("table u (id int)")
+
+    def test_each_order_is_as_of_plain_lists(self):
+        draw = random.Random(SEED + 2)
+        for _ in range(ORDERS):
+            with mmdb.Database() as db:
+                self.check_order(db, draw)
+
+    def check_order(self, db, draw):
+        """Tables, each of which refers to the one before it, with rows and an index."""
+        made, saved = [], []
+        for _ in range(STEPS):
+            step = draw.choice(("table", "table", "index", "insert", "insert", "begin", "begin", "commit", "rollback"))
+            last = len(made) - 1
+            if step == "table":
+                made = [*made, Made(f"table t{last + 1} (id int, c {f'ref t{last}' if made else 'int'})")]
+                db.execute(made[-1].line)
+            elif step == "index" and made and not made[-1].index:
+                made = [*made[:-1], made[-1]._replace(index=f"index t{last} c {draw.choice(('tree', 'hash'))}")]
+                db.execute(made[-1].index)
+            elif step == "insert" and made and (last == 0 or made[-2].rows):
+                made = [*made[:-1], made[-1]._replace(rows=[*made[-1].rows, (len(made[-1].rows), 0)])]
+                db.execute(f"insert t{last} (?, ?)", *made[-1].rows[-1])
+            elif step == "begin":
+                db.begin()
+                saved.append(made)
+            elif step == "commit" and saved:
+                db.commit()
+                saved.pop()
+            elif step == "rollback" and saved:
+                db.rollback()
+                made = saved.pop()
+            self.assertEqual(db.execute("tables").splitlines(), [line for table in made for line in table[:2] if line])
+            self.assertEqual([db.dump(f"t{number}") for number in range(len(made))], [table.rows for table in made])
