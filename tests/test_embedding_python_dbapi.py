@@ -353,16 +353,36 @@ class Transactions(WithRows):
         self.connection.rollback()
         self.check([(1, "a")], False)
 
-    def test_declarations_are_final_and_stand_in_none(self):
-        self.cursor.execute("insert t (2, 'b')")
-        for operation in ("table u (id int)", "index t s hash", "drop table t"):
+    def test_declarations_begin_none(self):
+        self.cursor.execute("table u (id int)").execute("index t s hash")
+        self.check([(1, "a")], False)
+        self.cursor.execute("insert u (1)")
+        self.connection.rollback()
+        self.assertEqual((self.database.dump("u"), self.database.in_transaction), ([], False))
+        self.cursor.execute("drop table u").execute("drop index t s hash")
+        self.assertEqual(self.database.execute("tables"), "table t (id int, s text)\n")
+
+    def test_declarations_are_part_of_one(self):
+        for end, declared in ((self.connection.rollback, ""), (self.connection.commit, "index t s hash\ntable u (id int, t ref t)\n")):
+            self.cursor.execute("insert t (2, 'b')")
+            self.cursor.execute("index t s hash").execute("table u (id int, t ref t)")
+            self.cursor.executemany("insert u (?, ?)", [(1, 2), (2, 1)])
+            self.assertEqual(self.cursor.execute("select id from u where t = ?", (2,)).fetchall(), [(1,)])
+            self.check([(1, "a"), (2, "b")], True)
+            end()
+            self.assertEqual(self.database.execute("tables"), f"table t (id int, s text)\n{declared}")
+        self.check([(1, "a"), (2, "b")], False)
+        self.assertEqual(self.database.dump("u"), [(1, 2), (2, 1)])
+
+    def test_drops_are_not_done_in_one(self):
+        self.cursor.execute("table u (id int)").execute("index t s hash").execute("insert t (2, 'b')")
+        for operation in ("drop table u", "drop index t s hash", "drop table nothing", "drop"):
             with self.assertRaisesRegex(mmdb.NotSupportedError, "this isn't done in a transaction: commit it or roll it back first"):
                 self.cursor.execute(operation)
             self.check([(1, "a"), (2, "b")], True)
         self.connection.commit()
-        self.cursor.execute("table u (id int)").execute("insert u (1)")
-        self.connection.rollback()
-        self.assertEqual((self.database.dump("u"), self.database.in_transaction), ([], False))
+        self.cursor.execute("drop table u").execute("drop index t s hash")
+        self.assertEqual(self.database.execute("tables"), "table t (id int, s text)\n")
 
     def test_a_block_commits_and_an_exception_rolls_back(self):
         with self.connection as given:
