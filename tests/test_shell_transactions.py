@@ -61,25 +61,56 @@ class ThroughAPipe(shells.Piped):
             *COMPANY,
             ".begin",
             "insert emp (3, 'Cy', 10)",
-            "table more (id int)",
-            "index emp name hash",
             "drop index emp dept tree",
             "drop table emp",
-            "table more (id int, s\ntext)",
+            " drop table nothing",
             ".parameter set 1 7",
             "delete emp where id > ?",
             "# a comment",
             "\t",
             "tabel emp",
             "drop table",
+            "dropp table emp",
             ".rollback",
             "drop index emp dept tree",
             "select id, name from emp",
         ]
-        refused = [f"line {at}: {word} {NOT_IN_ONE}" for at, word in enumerate(["table", "index", "drop", "drop", "table"], 9)]
-        refused.append("line 19: error 20 not a command: column 1: tabel is no command: is table meant?")
-        refused.append("line 20: error 20 not a command: column 11: wanted a table's name, found the end of the line")
+        refused = [f"line {at}: drop {NOT_IN_ONE}" for at in (9, 10, 11)]
+        refused.append("line 16: error 20 not a command: column 1: tabel is no command: is table meant?")
+        refused.append("line 17: error 20 not a command: column 11: wanted a table's name, found the end of the line")
+        refused.append("line 18: error 20 not a command: column 1: dropp is no command: is drop meant?")
         self.check(lines, ["emp.id,emp.name", "1,Ann", '2,""'], refused)
+
+    def test_declarations(self):
+        lines = [
+            *COMPANY,
+            ".begin",
+            "table more (id int, emp ref emp,\nname text)",
+            "insert more (1, 2, 'x')",
+            "delete emp where id = 2",
+            ".begin",
+            "update emp set name = 'Bo'",
+            "index emp name hash",
+            "select id from emp where name = 'Bo'",
+            "table less (id text)",
+            ".rollback",
+            "index more name tree",
+            "tables",
+            ".rollback",
+            "tables",
+            "select name from emp",
+            ".begin",
+            "table less (id int)",
+            ".commit",
+            "insert less (7)",
+            "drop table less",
+            "tables",
+        ]
+        front = [line for line in COMPANY if line.startswith(("table", "index"))]
+        made = ["table more (id int, emp ref emp, name text)", "index more name tree"]
+        out = ["emp.id", "1", "2", *front, *made, *front, "emp.name", "Ann", '""', *front]
+        why = "error 44 row is referenced: the row of emp with the key 2 is named in column emp of the row of more with the key 1"
+        self.check(lines, out, [f"line 11: {why}"])
 
     def test_updates(self):
         lines = [
@@ -143,10 +174,10 @@ class ThroughAPipe(shells.Piped):
     def test_commands_that_take_another_database(self):
         csv, dump = self.file("f.csv", "id\n7\n"), self.room / "dump"
         lines = ["table t (id int)", f".dump {dump}", "drop table t", ".begin", ".open", f".restore {dump}", ".policy tree", f".import {csv} u"]
-        lines += [".policy", ".rollback", f".restore {dump}", ".begin", f".load t {csv}", f".import {csv} t", f".dump {dump}", ".rollback", ".count t"]
+        lines += [".policy", ".count u", ".rollback", "tables", f".restore {dump}", ".begin", f".load t {csv}", f".import {csv} t", f".dump {dump}", ".rollback", ".count t"]
         refused = [f"line {at}: a transaction is open: end it by .commit or .rollback first" for at in (5, 6, 7)]
-        refused += [f"line 8: table {NOT_IN_ONE}", f"line 14: error 41 key exists (record 1); no row of {csv} went in: t has a row with the key 7"]
-        self.check(lines, ["auto", "0"], refused)
+        refused.append(f"line 16: error 41 key exists (record 1); no row of {csv} went in: t has a row with the key 7")
+        self.check(lines, ["auto", "1", "0"], refused)
         self.assertIn("load t 5\nid\n7\n", dump.read_text())
 
     def test_one_is_open_at_the_end(self):
@@ -217,14 +248,29 @@ class Undone(shells.InThisProcess):
         for line in ("table u (id int, t ref t)", "index t s tree", f".import {csv} u", " index\tt  id hash"):
             with self.subTest(line):
                 self.check([*front, line, ".undo", "tables"], front)
+                self.check([*front, "insert t (1, 'a')", line, ".undo", ".count t", "tables"], ["1", *front])
+                begun = [".begin", "insert t (1, 'a')", "delete t", "insert t (2, 'b')", line, ".undo"]
+                self.check([*front, *begun, "tables", ".count t", ".rollback", "tables", ".count t"], [*front, "1", *front, "0"])
         self.check([*front, f".load t {csv}", ".undo", "tables", ".count t"], [*front, "0"])
         self.check([*front, "table u (id int)", "insert u (1)", ".undo", "tables", ".count u"], [*front, "table u (id int)", "0"])
+        begun = [".begin", "table u (id int, t ref t null)", "insert u (1, null)", "index u t hash", ".undo", ".undo"]
+        nothing = "line 8: nothing more can be undone"
+        self.check([*front, *begun, "tables", ".rollback", "tables"], [*front, "table u (id int, t ref t null)", *front], [nothing])
+        self.check([*front, *begun, ".commit", "select * from u"], ["u.id,u.t", "1,"], [nothing])
+
+    def test_an_import_that_is_refused_leaves_no_table(self):
+        csv = self.file("f.csv", "id,s\n7,a\n7,b\n")
+        refused = f"error 41 key exists (record 2); no row of {csv} went in: record 1 has the key 7 too"
+        self.check([f".import {csv} u", "tables"], [], [f"line 1: {refused}"])
+        lines = ["table t (id int)", ".begin", "insert t (1)", f".import {csv} u", "tables", ".undo", ".count t"]
+        self.check(lines, ["table t (id int)", "0"], [f"line 4: {refused}"])
 
     def test_what_comes_after_it(self):
         csv = self.file("f.csv", "id\n7\n1\n")
         for after in (
             ["select * from u", "tabels", "delete t wher", "# a comment", "", ".mode csv", ".help undo", ".print", ".count t"],
             ["insert t (1)", "load t 5", "id", "1", "insert u (1)", "insert t ('a')", "delete u", "delete t where s = 1"],
+            ["table t (id int)", "table u (id int, v ref v)", "index t id tree", "index t s hash", "index u id tree"],
             [f".load t {csv}", f".import {csv} t", ".load u x", ".commit", "update t st id = 1"],
         ):
             with self.subTest(after):
@@ -238,7 +284,7 @@ class Undone(shells.InThisProcess):
             ([], "no change was done yet"),
             ([f"drop{' ' * 60}table t"], f"drop{' ' * 53}... can't be undone"),
             (["insert t (2, 'b')", "drop table t"], "drop table t can't be undone"),
-            (["insert t (2, 'b')", "table t (id int)"], no_more),
+            (["insert t (2, 'b')", "drop table nothing"], no_more),
             (["insert t (2, 'b')", ".undo"], "nothing more can be undone"),
             (["insert t (2, 'b')", "insert t (3, 'c')", ".undo"], "nothing more can be undone"),
             (["insert t (2, 'b')", ".begin"], "no change was done since .begin"),
@@ -252,8 +298,8 @@ class Undone(shells.InThisProcess):
                 self.assertEqual(err[-1], f"line {len(lines) + 4}: {why}")
 
     def test_in_a_transaction(self):
-        front = ["table t (id int)", "insert t (1)", ".begin", "insert t (2)", "insert t (3)", "table u (id int)", ".undo"]
-        refused = [f"line 6: table {NOT_IN_ONE}"]
+        front = ["table t (id int)", "insert t (1)", ".begin", "insert t (2)", "insert t (3)", "drop table t", ".undo"]
+        refused = [f"line 6: drop {NOT_IN_ONE}"]
         self.check([*front, "select * from t", ".rollback", "select * from t"], ["t.id", "1", "2", "t.id", "1"], refused)
         self.check([*front, ".commit", "select * from t"], ["t.id", "1", "2"], refused)
         nothing = "line 8: nothing more can be undone"
@@ -308,7 +354,9 @@ class Held(shells.InThisProcess):
             self.do(shell, f".load t {self.file('f', 'id')}", refused=f"error 90 no memory; no row of {self.room}/f went in")
         self.do(shell, ".begin", "insert t (4)")
         with unittest.mock.patch.object(shell.db, "begin", side_effect=mmdb.NoMemory(90, "no memory")):
-            self.do(shell, "table u (id int)", refused=f"table {NOT_IN_ONE}")
+            self.do(shell, "drop table t", refused=f"drop {NOT_IN_ONE}")
+            self.do(shell, "table u (id int)")
+            self.do(shell, ".undo", refused="no memory was found to undo table u (id int)")
             self.do(shell, "delete t", ".count t", said="0\n")
             self.do(shell, ".undo", refused="no memory was found to undo delete t")
         self.do(shell, ".rollback", ".count t", said="3\n")
@@ -319,7 +367,7 @@ class Held(shells.InThisProcess):
         answered = shell.db.answer
 
         def answer(line, block=None):
-            is_refused = line.startswith((b"insert", b"update", b"delete")) and shell.db.in_transaction
+            is_refused = line.startswith((b"insert", b"update", b"delete", b"index")) and shell.db.in_transaction
             return b"error 90 no memory\n" if is_refused else answered(line, block)
 
         with unittest.mock.patch.object(shell.db, "answer", answer):
@@ -329,6 +377,8 @@ class Held(shells.InThisProcess):
             self.do(shell, ".undo", refused="no memory was found to undo delete t where id = 1")
             self.do(shell, "update u set s = 'b'", "select s from u", said="u.s\nb\n")
             self.do(shell, ".undo", refused="no memory was found to undo update u set s = 'b'")
+            self.do(shell, "index u s hash", "tables", said="table t (id int)\ntable u (id int, s text)\nindex u s hash\n")
+            self.do(shell, ".undo", refused="no memory was found to undo index u s hash")
 
     def test_answers_are_those_without_it(self):
         for name, stream, _ in harness.rows():
@@ -385,6 +435,10 @@ class AtATerminal(shells.AtATerminal):
             (".undo", f"undone: .load t {self.room}/f.csv\n"),
             ("delete t", "ok 0\n"),
             (".undo", "undone: delete t\n"),
+            ("table u (id int)", "ok\n"),
+            (".undo", "undone: table u (id int)\n"),
+            ("index t id hash", "ok\n"),
+            (".undo", "undone: index t id hash\n"),
             ("index t id hash", "ok\n"),
             ("drop index t id hash", "ok\n"),
             (".undo", "drop index t id hash can't be undone\n"),
@@ -399,7 +453,8 @@ class AtATerminal(shells.AtATerminal):
         self.asked(shell, ".begin", "mmdb*> ")
         shell.type("table u (\n")
         shell.wait_for(" ...> ")
-        self.assertEqual(self.asked(shell, "id int)", "mmdb*> "), f"table {NOT_IN_ONE}\n")
+        self.assertEqual(self.asked(shell, "id int)", "mmdb*> "), "ok\n")
+        self.assertEqual(self.asked(shell, "drop table u", "mmdb*> "), f"drop {NOT_IN_ONE}\n")
         told = "  tabel u\n  ^\nerror 20 not a command: column 1: tabel is no command: is table meant?\n"
         self.assertEqual(self.asked(shell, "tabel u", "mmdb*> "), told)
         shell.type("ins\tt (7, 7)\n")
