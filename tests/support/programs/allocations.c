@@ -19,6 +19,7 @@ void __wrap_free(void *block);
 static long left_to_meet = 0;
 static long left_to_refuse = 0;
 static long refused_calls = 0;
+static long asking_calls = 0;
 static long given_blocks = 0;
 static long returned_blocks = 0;
 static long held_bytes = 0;
@@ -28,11 +29,17 @@ void allocations_refuse(long met, long refused)
     left_to_meet = met;
     left_to_refuse = refused;
     refused_calls = 0;
+    asking_calls = 0;
 }
 
 long allocations_refused(void)
 {
     return refused_calls;
+}
+
+long allocations_asked(void)
+{
+    return asking_calls;
 }
 
 long allocations_held(void)
@@ -74,8 +81,9 @@ static int takes(long *left)
     return 0;
 }
 
-static int is_refused(void)
+static int is_refused(int is_asking)
 {
+    add(&asking_calls, is_asking);
     if (takes(&left_to_meet) || !takes(&left_to_refuse))
         return 0;
     add(&refused_calls, 1);
@@ -91,18 +99,18 @@ static void *counted(void *block)
 
 void *__wrap_malloc(size_t size)
 {
-    return is_refused() ? NULL : counted(__real_malloc(size));
+    return is_refused(1) ? NULL : counted(__real_malloc(size));
 }
 
 void *__wrap_calloc(size_t count, size_t size)
 {
-    return is_refused() ? NULL : counted(__real_calloc(count, size));
+    return is_refused(1) ? NULL : counted(__real_calloc(count, size));
 }
 
 void *__wrap_realloc(void *block, size_t size)
 {
     const long held = (long)malloc_usable_size(block);
-    void *grown = is_refused() ? NULL : __real_realloc(block, size);
+    void *grown = is_refused(block == NULL || (long)size > held) ? NULL : __real_realloc(block, size);
     if (block == NULL)
         return counted(grown);
     if (grown != NULL)

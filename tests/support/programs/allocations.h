@@ -10,6 +10,9 @@ void allocations_refuse(long met, long refused);
 /* How many calls were refused since the last allocations_refuse. */
 long allocations_refused(void);
 
+/* How many calls asked for memory since then, met or refused. One that makes a block shorter asks for none. */
+long allocations_asked(void);
+
 /* The blocks that were asked for and not given back. */
 long allocations_held(void);
 

@@ -124,7 +124,7 @@ static inline void roll_back(mmdb *db)
 {
     allocations_refuse(0, 1);
     GIVES(mmdb_rollback(db), MMDB_DONE);
-    CHECK(allocations_refused() == 0);
+    CHECK(allocations_asked() == 0);
     allocations_refuse(0, 0);
 }
 

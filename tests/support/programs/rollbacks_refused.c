@@ -130,7 +130,7 @@ static void roll_back(mmdb *db)
     while (mmdb_transactions(db) != 0) {
         allocations_refuse(0, 1);
         GIVES(mmdb_rollback(db), MMDB_DONE);
-        CHECK(allocations_refused() == 0);
+        CHECK(allocations_asked() == 0);
         allocations_refuse(0, 0);
     }
 }
