@@ -1,5 +1,7 @@
-"""Transactions from C: each status, every order of begin, insert, update, delete, commit and rollback beside plain lists, declarations that
-are undone, and memory: each call for it refused, and the bytes that are held behind rounds of rollbacks and behind a commit.
+"""Transactions from C: each status, and every order of begin, insert, update, delete, commit and rollback beside plain lists.
+
+Declarations are undone too. Each call for memory is refused, and the bytes are counted that are held behind rounds of rollbacks and
+behind a commit.
 """
 
 import os
