@@ -352,6 +352,8 @@ class Transactions(WithRows):
         self.check([(1, "a"), (2, "b")], True)
         self.connection.rollback()
         self.check([(1, "a")], False)
+        self.assertRaises(mmdb.IntegrityError, self.cursor.executemany, "insert t (?, ?)", [(1, "c"), (2, "b")])
+        self.check([(1, "a")], True)
 
     def test_declarations_begin_none(self):
         self.cursor.execute("table u (id int)").execute("index t s hash")
