@@ -13,7 +13,7 @@ if TYPE_CHECKING:
 @dotted(
     ".begin",
     "begins a transaction, or a savepoint in one",
-    "Inserts, loads, updates and deletes are done in it, selects see them, and .rollback takes them back.\n"
+    "All changes but drops are done in it, selects see them, and .rollback takes them back.\n"
     "In a transaction it sets a savepoint: .commit and .rollback end the innermost.",
 )
 def _begin(shell: Shell) -> None:
