@@ -484,7 +484,7 @@ static PyMethodDef handle_methods[] = {
     { "_command", handle_command, METH_VARARGS, "What is answered to a line." },
     { "_load", handle_load, METH_VARARGS, "What is answered to a line with its block." },
     { "_indexes", handle_indexes, METH_VARARGS, "What is answered to who asks how the indexes of a table stand." },
-    { "_plan", handle_plan, METH_VARARGS, "What is answered to who asks how the select of a line goes." },
+    { "_plan", handle_plan, METH_VARARGS, "The plan of the select in a line, or the refusal of the line." },
     { "_reason", handle_reason, METH_VARARGS, "Why the line that was just answered was refused, with its block." },
     { "_begin", handle_begin, METH_NOARGS, "Begins a transaction." },
     { "_commit", handle_commit, METH_NOARGS, "Ends the innermost transaction, and keeps what was done in it." },

@@ -364,7 +364,7 @@ class Database(Handle):
             return self._indexes_of(table)
 
     def plan(self, line: str, /, *parameters: Any, **named: Any) -> List[str]:
-        """How a select goes, in words for people: a step in each line. The select is not done.
+        """The plan of a select, in words for people: a step in each line. The select is not done.
 
         Raises `Refused` if the line is refused, and with the number 20 if it is no select.
         """

@@ -269,7 +269,7 @@ class Handle:
         return self._unanswered(status) if status else self._told_bytes()
 
     def _plan(self, line: bytes) -> bytes:
-        """What is answered to who asks how the select of a line goes."""
+        """The plan of the select in a line, or the refusal of the line."""
         status = _PLAN(self._at, line, len(line), self._told_at)
         return self._unanswered(status) if status and status != _REFUSED else self._told_bytes()
 

@@ -282,7 +282,7 @@ impl Database {
         self.session.indexes(table, indexes_of)
     }
 
-    /// How a select goes, in words for people: a step in each line. The select isn't done.
+    /// The plan of a select, in words for people: a step in each line. The select isn't done.
     ///
     /// ```
     /// let db = mmdb::Database::open_in_memory()?;

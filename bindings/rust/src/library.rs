@@ -240,7 +240,7 @@ impl Handle {
         self.answered(|told| unsafe { mmdb_indexes(db, table.as_ptr(), table.len(), told) })
     }
 
-    /// Has it told how the select of a line goes. A refusal is an answer too.
+    /// Asks for the plan of the select in a line. A refusal is an answer too.
     pub(crate) fn plan(&self, line: &[u8]) -> Result<(), Error> {
         let db = self.inside.get();
         self.answered(|told| {

@@ -92,7 +92,7 @@ impl Reader<'_> {
         self.database.query_row(line, params, read)
     }
 
-    /// How a select goes, a step in each line.
+    /// The plan of a select, a step in each line.
     pub fn plan<P: Params>(&self, line: &str, params: P) -> Result<Vec<String>> {
         self.database.plan(line, params)
     }

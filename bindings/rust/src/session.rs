@@ -38,7 +38,7 @@ impl Session {
         self.ask_by(Handle::command, line, params, read)
     }
 
-    /// What a function makes of the plan of a select with parameters, where the line is no refusal.
+    /// What a function makes of the plan of a select with parameters, where the line isn't refused.
     pub(crate) fn plan<P: Params, T>(&self, line: &str, params: P, read: impl FnOnce(&str) -> T) -> Result<T> {
         self.ask_by(Handle::plan, line, params, read)
     }

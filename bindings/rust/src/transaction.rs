@@ -27,9 +27,9 @@ use crate::error::{Error, Result};
 /// # Ok::<(), mmdb::Error>(())
 /// ```
 ///
-/// Rows are inserted, loaded, updated, deleted and read in one, and tables and indexes declared. Only drops aren't done in one
-/// yet ([`Error::InTransaction`]). A refused line changes nothing, and leaves the transaction open. Transactions that were begun
-/// in this one, and are open still, end as it does.
+/// Rows are inserted, loaded, updated, deleted and read in one, and tables and indexes declared. Drops aren't done in one yet, and
+/// no reader is made ([`Error::InTransaction`]). A refused line changes nothing, and leaves the transaction open. Transactions that
+/// were begun in this one, and are open still, end as it does.
 ///
 /// The database is lent to the transaction, so there is one at a time, and another only in it, as a
 /// [`savepoint`](Transaction::savepoint):
