@@ -3,8 +3,8 @@
    closed, null or open. The words are the SEED and the number of CALLS.
 
    Each status must be one that the header names, and NOT_OPEN, NO_LINE, NO_SUCH_STATEMENT and NO_SUCH_PLACE come exactly where they
-   must. So do IN_TRANSACTION, and SHARED but for statements. Answers are read to their end. The rows of each statement stay until it is executed again, and those of a line until the next
-   query. */
+   must. So do IN_TRANSACTION, and SHARED but for statements. Answers are read to their end. The rows of each statement stay until it is
+   executed again, and those of a line until the next query. */
 #include "checking.h"
 
 #include <inttypes.h>

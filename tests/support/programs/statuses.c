@@ -311,15 +311,17 @@ static void plans_want_memory_for_their_words(mmdb *db)
     mmdb_bytes answer;
     static const char line[] = "select t.s from t join u on u.t = t.id where t.s = 'a'";
     mmdb_status status = MMDB_REFUSED;
+    int met = -1;
     GIVES(command(db, "table u (id int, t ref t)", NULL), MMDB_DONE);
-    for (int place = 0; status == MMDB_REFUSED && place < 1000; place++) {
-        allocations_refuse(place, 1);
+    while (status == MMDB_REFUSED && met < 1000) {
+        allocations_refuse(++met, 1);
         status = plan(db, line, &answer);
         CHECK(status == MMDB_DONE || reads(answer, "error 90 no memory\n"));
         CHECK(allocations_refused() == (status == MMDB_REFUSED));
         allocations_refuse(0, 0);
     }
     GIVES(status, MMDB_DONE);
+    CHECK(met > 0);
     GIVES(command(db, "drop table u", NULL), MMDB_DONE);
 }
 
