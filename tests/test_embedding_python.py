@@ -192,6 +192,17 @@ class Calls(binding.WithDatabase):
             for tree in (key, declared):
                 self.assertTrue(1000 // 32 < tree.nodes < 2**tree.height and tree.fill == 1000 // tree.nodes and tree[6:] == (None, None))
 
+    def test_the_plan_of_a_select(self):
+        self.db.execute("table t (id int, s text)")
+        self.db.load("t", [(1, "a"), (2, "b")])
+        plan = ["search of t by the key, 2 rows", "show the only row from where it lies"]
+        self.assertEqual(self.db.plan("select s from t where id = 1"), plan)
+        self.assertEqual(self.db.plan("select s from t where id = ?", 3), plan)
+        self.assertEqual(self.db.plan("select s from t where id = :id", id=3), plan)
+        self.refused(30, self.db.plan, "select * from u")
+        self.refused_without_reason(20, self.db.plan, "delete t")
+        self.assertEqual(len(self.db.dump("t")), 2)
+
     def test_refusals(self):
         self.db.execute("table t (id int)")
         self.db.execute("insert t (1)")
@@ -393,6 +404,7 @@ class Reasons(binding.WithDatabase):
             (30, nowhere, self.db.load_dicts, "emp", []),
             (30, nowhere, self.db.dump, "emp"),
             (30, nowhere, self.db.indexes, "emp"),
+            (30, nowhere, self.db.plan, "select * from emp"),
         ):
             self.db.execute("delete dept where id = 30")
             with self.subTest(call=call.__name__, number=number):

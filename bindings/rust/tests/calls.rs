@@ -61,6 +61,19 @@ fn how_indexes_stand() {
 }
 
 #[test]
+fn the_plan_of_a_select() {
+    let db = with_rows();
+    let plan = ["search of t by the key, 2 rows", "show the only row from where it lies"];
+    assert_eq!(db.plan("select s from t where id = 1", []).unwrap(), plan);
+    assert_eq!(db.plan("select s from t where id = ?", [3]).unwrap(), plan);
+    assert_eq!(number(db.plan("delete t", [])), Some(20));
+    assert_eq!(db.dump("t").unwrap().len(), 2);
+    let refused = db.plan("select * from u", []).unwrap_err();
+    let told = (refused.number(), refused.line(), refused.reason());
+    assert_eq!(told, (Some(30), Some("select * from u"), Some("u is no table")));
+}
+
+#[test]
 fn an_outcome_has_rows_or_a_count() {
     let db = with_rows();
     let selected = db.command("select * from t", []).unwrap();

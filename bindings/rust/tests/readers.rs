@@ -57,6 +57,10 @@ fn a_reader_has_the_calls_of_selects() {
         reader.indexes("t").unwrap()[0].shape,
         IndexShape::Tree { height: 1, .. }
     ));
+    assert_eq!(
+        reader.plan("select s from t where id = ?", [1]).unwrap()[0],
+        "search of t by the key, 2 rows"
+    );
     assert_eq!(reader.prepare("select nothing from t").unwrap_err().number(), Some(32));
     for line in [
         "insert t (3, 'c')",
