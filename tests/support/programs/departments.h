@@ -130,6 +130,48 @@ static inline void roll_back(mmdb *db)
 
 /* ---- memory */
 
+typedef void (*change)(mmdb *db);
+
+/* Makes changes in a transaction, and others in one that is committed in it, and rolls all back, round after round. Each holds at
+   most a hundredth more than the first, as a block is now and then longer than was asked for. */
+static inline void rounds_hold_what_the_first_held(int rounds, change outer, change inner)
+{
+    mmdb db = opened(EMPS);
+    picture before = taken_of(&db);
+    long first = 0;
+    for (int round = 0; round < rounds; round++) {
+        begin(&db);
+        outer(&db);
+        begin(&db);
+        inner(&db);
+        commit(&db);
+        roll_back(&db);
+        if (round == 0)
+            first = allocations_bytes();
+        CHECK(allocations_bytes() <= first + first / 100);
+    }
+    CHECK(is_as_in(&db, before));
+    mmdb_close(&db);
+    free(before.text);
+}
+
+/* Makes changes, and gives the bytes that are held then. */
+static inline long held_after(change changes, int in_transaction)
+{
+    const long before = allocations_bytes();
+    mmdb db = opened(EMPS);
+    long held;
+    if (in_transaction)
+        begin(&db);
+    changes(&db);
+    if (in_transaction)
+        commit(&db);
+    held = allocations_bytes() - before;
+    mmdb_close(&db);
+    CHECK(allocations_bytes() == before);
+    return held;
+}
+
 /* Whether a change was done, which is refused by no memory otherwise. */
 static inline int was_done(mmdb *db, const char *line)
 {

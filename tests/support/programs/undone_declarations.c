@@ -524,49 +524,15 @@ static void declare_much(mmdb *db)
     make_indexes(db);
 }
 
-/* At most a hundredth more, as a block is now and then longer than was asked for. */
-static void rounds_hold_what_the_first_held(void)
+static void delete_and_declare(mmdb *db)
 {
-    mmdb db = opened(EMPS);
-    picture before = taken_of(&db);
-    long first = 0;
-    for (int round = 0; round < ROUNDS; round++) {
-        begin(&db);
-        declare_much(&db);
-        begin(&db);
-        CHECK(changed_by(&db, "delete emp where id > 99") == EMPS - 100);
-        declare(&db, "table more (id int, task ref task)");
-        commit(&db);
-        roll_back(&db);
-        if (round == 0)
-            first = allocations_bytes();
-        CHECK(allocations_bytes() <= first + first / 100);
-    }
-    CHECK(is_as_in(&db, before));
-    mmdb_close(&db);
-    free(before.text);
-}
-
-/* Declares tables and indexes, and gives the bytes that are held then. */
-static long held_when_declared(int in_transaction)
-{
-    const long held = allocations_bytes();
-    mmdb db = opened(EMPS);
-    long declared;
-    if (in_transaction)
-        begin(&db);
-    declare_much(&db);
-    if (in_transaction)
-        commit(&db);
-    declared = allocations_bytes() - held;
-    mmdb_close(&db);
-    CHECK(allocations_bytes() == held);
-    return declared;
+    CHECK(changed_by(db, "delete emp where id > 99") == EMPS - 100);
+    declare(db, "table more (id int, task ref task)");
 }
 
 static void a_commit_gives_the_memory_back(void)
 {
-    const long outside = held_when_declared(0), inside = held_when_declared(1);
+    const long outside = held_after(declare_much, 0), inside = held_after(declare_much, 1);
     CHECK(inside <= outside + outside / 100);
 }
 
@@ -614,7 +580,7 @@ int main(void)
     a_statement_outlives_a_rollback();
     a_statement_means_another_table();
     a_statement_loses_its_index();
-    rounds_hold_what_the_first_held();
+    rounds_hold_what_the_first_held(ROUNDS, declare_much, delete_and_declare);
     a_commit_gives_the_memory_back();
     each_call_for_memory_is_refused(declarations_refused);
     CHECK(allocations_held() == 0);

@@ -119,49 +119,20 @@ static void rows_come_anew_under_their_keys(void)
 
 /* ---- memory */
 
-/* At most a hundredth more, as a block is now and then longer than was asked for. */
-static void rounds_hold_what_the_first_held(void)
+static void delete_emps(mmdb *db)
 {
-    mmdb db = opened(EMPS);
-    picture before = taken_of(&db);
-    long first = 0;
-    for (int round = 0; round < ROUNDS; round++) {
-        begin(&db);
-        come_anew(&db);
-        begin(&db);
-        CHECK(changed_by(&db, "delete emp") > 0);
-        commit(&db);
-        roll_back(&db);
-        if (round == 0)
-            first = allocations_bytes();
-        CHECK(allocations_bytes() <= first + first / 100);
-    }
-    CHECK(is_as_in(&db, before));
-    mmdb_close(&db);
-    free(before.text);
+    CHECK(changed_by(db, "delete emp") > 0);
 }
 
-/* Deletes all rows, and gives the bytes that are held then. */
-static long held_when_emptied(int in_transaction)
+static void delete_all(mmdb *db)
 {
-    const long held = allocations_bytes();
-    mmdb db = opened(EMPS);
-    long emptied;
-    if (in_transaction)
-        begin(&db);
-    CHECK(changed_by(&db, "delete emp") == EMPS);
-    CHECK(changed_by(&db, "delete dept") == DEPTS);
-    if (in_transaction)
-        commit(&db);
-    emptied = allocations_bytes() - held;
-    mmdb_close(&db);
-    CHECK(allocations_bytes() == held);
-    return emptied;
+    CHECK(changed_by(db, "delete emp") == EMPS);
+    CHECK(changed_by(db, "delete dept") == DEPTS);
 }
 
 static void a_commit_gives_the_memory_back(void)
 {
-    const long outside = held_when_emptied(0), inside = held_when_emptied(1);
+    const long outside = held_after(delete_all, 0), inside = held_after(delete_all, 1);
     CHECK(inside <= outside);
 }
 
@@ -190,7 +161,7 @@ int main(void)
     each_rollback_restores_its_referrers();
     a_commit_keeps_what_is_deleted();
     rows_come_anew_under_their_keys();
-    rounds_hold_what_the_first_held();
+    rounds_hold_what_the_first_held(ROUNDS, come_anew, delete_emps);
     a_commit_gives_the_memory_back();
     each_call_for_memory_is_refused(deletes_refused);
     CHECK(allocations_held() == 0);

@@ -215,50 +215,27 @@ static void updated_rows_come_and_go(void)
 
 /* ---- memory */
 
-/* At most a hundredth more, as a block is now and then longer than was asked for. */
-static void rounds_hold_what_the_first_held(void)
+static void do_all_updates(mmdb *db)
 {
-    mmdb db = opened(EMPS);
-    picture before = taken_of(&db);
-    long first = 0;
-    for (int round = 0; round < ROUNDS; round++) {
-        begin(&db);
-        for (size_t i = 0; i < MOST_UPDATES; i++)
-            CHECK(query(&db, UPDATES[i].line, NULL) == MMDB_DONE);
-        begin(&db);
-        CHECK(changed_by(&db, "update emp set name = '" LONG "', age = 1, dept = 1") == EMPS);
-        commit(&db);
-        roll_back(&db);
-        if (round == 0)
-            first = allocations_bytes();
-        CHECK(allocations_bytes() <= first + first / 100);
-    }
-    CHECK(is_as_in(&db, before));
-    mmdb_close(&db);
-    free(before.text);
+    for (size_t i = 0; i < MOST_UPDATES; i++)
+        CHECK(query(db, UPDATES[i].line, NULL) == MMDB_DONE);
 }
 
-/* Sets all values, long ones to short ones, and gives the bytes that are held then. */
-static long held_when_updated(int in_transaction)
+static void set_all(mmdb *db)
 {
-    const long held = allocations_bytes();
-    mmdb db = opened(EMPS);
-    long updated;
-    if (in_transaction)
-        begin(&db);
-    CHECK(changed_by(&db, "update emp set name = '" LONG "', age = 2, dept = null") == EMPS);
-    CHECK(changed_by(&db, "update emp set name = 'short', age = 1, dept = 1") == EMPS);
-    if (in_transaction)
-        commit(&db);
-    updated = allocations_bytes() - held;
-    mmdb_close(&db);
-    CHECK(allocations_bytes() == held);
-    return updated;
+    CHECK(changed_by(db, "update emp set name = '" LONG "', age = 1, dept = 1") == EMPS);
+}
+
+/* Sets all values, long ones to short ones. */
+static void shorten_all(mmdb *db)
+{
+    CHECK(changed_by(db, "update emp set name = '" LONG "', age = 2, dept = null") == EMPS);
+    CHECK(changed_by(db, "update emp set name = 'short', age = 1, dept = 1") == EMPS);
 }
 
 static void a_commit_gives_the_memory_back(void)
 {
-    const long outside = held_when_updated(0), inside = held_when_updated(1);
+    const long outside = held_after(shorten_all, 0), inside = held_after(shorten_all, 1);
     CHECK(inside <= outside + outside / 100);
 }
 
@@ -288,7 +265,7 @@ int main(void)
     links_are_set_and_set_back();
     a_commit_keeps_links();
     updated_rows_come_and_go();
-    rounds_hold_what_the_first_held();
+    rounds_hold_what_the_first_held(ROUNDS, do_all_updates, set_all);
     a_commit_gives_the_memory_back();
     each_call_for_memory_is_refused(updates_refused);
     CHECK(allocations_held() == 0);
