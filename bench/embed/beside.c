@@ -2,14 +2,15 @@
    the word `inserts` it times inserts into an empty one. Each figure is a line: what was done, the way of both, the
    microseconds of mmdb and those of SQLite. A statement's text is made within its time, and the rows of a select are read. */
 #define _POSIX_C_SOURCE 200809L
+#define PROGRAM "beside"
 #include "mmdb.h"
+#include "timing.h"
 
 #include <inttypes.h>
 #include <sqlite3.h>
 #include <stdio.h>
 #include <stdlib.h>
 #include <string.h>
-#include <time.h>
 
 enum { ROUNDS = 7, STATEMENTS = 10000, SELECTS = 100, MOST_NEW = 2000, LINE = 200 };
 enum { ROWS_OF_A_SELECT = 1000, ROWS_OF_A_BLOCK = 100000, INSERTS = 100000, LONGEST_ROW = 64 };
@@ -66,28 +67,10 @@ typedef struct values {
     char text[9];
 } values;
 
-static void insist(int holds, const char *what)
-{
-    if (holds)
-        return;
-    fprintf(stderr, "beside: %s fails\n", what);
-    exit(1);
-}
-
-static uint64_t draw(uint64_t most)
-{
-    static uint64_t state = 88172645463325252u;
-    state ^= state << 13;
-    state ^= state >> 7;
-    state ^= state << 17;
-    return state % most;
-}
-
 static values values_of(kind of, int64_t key)
 {
     values made = { key, of == RANGE ? key + 2 * ROWS_OF_A_SELECT : key / 2, "" };
-    for (int i = 0; i < 8; i++)
-        made.text[i] = (char)('a' + ((key >> (3 * i)) & 7));
+    letters(made.text, key);
     return made;
 }
 
@@ -191,29 +174,12 @@ static void do_one(way by, kind of, int64_t key)
     WAY[by](of, &with);
 }
 
-static double seconds(void)
-{
-    struct timespec now;
-    clock_gettime(CLOCK_PROCESS_CPUTIME_ID, &now);
-    return (double)now.tv_sec + (double)now.tv_nsec / 1e9;
-}
-
 static double batch(way by, kind of, const int64_t *keys, int64_t count)
 {
     double before = seconds();
     for (int64_t i = 0; i < count; i++)
         do_one(by, of, keys[i]);
     return seconds() - before;
-}
-
-/* Puts the numbers from 0 below `count`, times a factor and a number more, into an order that is drawn. */
-static void shuffle(int64_t *keys, int64_t count, int64_t factor, int64_t more)
-{
-    for (int64_t i = 0; i < count; i++) {
-        int64_t other = (int64_t)draw((uint64_t)i + 1);
-        keys[i] = keys[other];
-        keys[other] = factor * i + more;
-    }
 }
 
 /* Draws the keys of some statements, and gives their number. The keys in the table are even, and new ones are odd. */

@@ -2,16 +2,17 @@
    transaction, and SQLite over `:memory:` in a savepoint. Each figure is a line: what was done, the microseconds of mmdb
    outside and inside, those of SQLite, and 0 for what one of them doesn't do. */
 #define _POSIX_C_SOURCE 200809L
+#define PROGRAM "transactions"
 #include "mmdb.h"
+#include "timing.h"
 
 #include <inttypes.h>
 #include <sqlite3.h>
 #include <stdio.h>
 #include <stdlib.h>
 #include <string.h>
-#include <time.h>
 
-enum { ROUNDS = 7, MOST_CHANGES = 10000, FIXTURES = 1000, LONGEST_ROW = 64, ROWS_OF_A_BLOCK = 100000, LINE = 64 };
+enum { ROUNDS = 7, MOST_CHANGES = 10000, FIXTURES = 1000, LONGEST_ROW = 64, LINE = 64 };
 enum { BLOCK = 8 << 20, BLOCKS = 8 };
 
 typedef enum kind { INSERT, UPDATE, DELETE, KINDS } kind;
@@ -30,40 +31,9 @@ static mmdb_statement prepared[KINDS];
 static sqlite3 *theirs = NULL;
 static sqlite3_stmt *their_prepared[KINDS], *their_steps[STEPS];
 
-static void insist(int holds, const char *what)
-{
-    if (holds)
-        return;
-    fprintf(stderr, "transactions: %s fails\n", what);
-    exit(1);
-}
-
-static uint64_t draw(uint64_t most)
-{
-    static uint64_t state = 88172645463325252u;
-    state ^= state << 13;
-    state ^= state >> 7;
-    state ^= state << 17;
-    return state % most;
-}
-
-static double seconds(void)
-{
-    struct timespec now;
-    clock_gettime(CLOCK_PROCESS_CPUTIME_ID, &now);
-    return (double)now.tv_sec + (double)now.tv_nsec / 1e9;
-}
-
 static void command(const char *line)
 {
     insist(mmdb_command(&ours, line, strlen(line), NULL) == MMDB_DONE && mmdb_refusal(&ours) == 0, line);
-}
-
-static void letters(char text[9], int64_t key)
-{
-    for (int i = 0; i < 8; i++)
-        text[i] = (char)('a' + ((key >> (3 * i)) & 7));
-    text[8] = '\0';
 }
 
 static void change_ours(kind of, int64_t key)
@@ -141,16 +111,6 @@ static void tell(const char *what, double outside, double inside, double in_thei
 {
     printf("%s\t%f\t%f\t%f\n", what, outside * 1e6, inside * 1e6, in_theirs * 1e6);
     fflush(stdout);
-}
-
-/* Puts the numbers from 0 below `count`, times a factor and a number more, into an order that is drawn. */
-static void shuffle(int64_t *keys, int64_t count, int64_t factor, int64_t more)
-{
-    for (int64_t i = 0; i < count; i++) {
-        int64_t other = (int64_t)draw((uint64_t)i + 1);
-        keys[i] = keys[other];
-        keys[other] = factor * i + more;
-    }
 }
 
 /* The seconds of a change outside. What it put in or took out is taken out or put in again. */
