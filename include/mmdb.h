@@ -231,11 +231,11 @@ uint32_t mmdb_feed(mmdb *db, const void *piece, size_t length);
 uint32_t mmdb_indexes(mmdb *db, const void *table, size_t length, mmdb_bytes *answer);
 
 /* Tells the plan of the select that a line spells, beside the stream; the select is not done, and nothing changes. The
-   answer is for people, a line for each step, and the words may change from version to version: how the rows of the first
-   table are found, each join, and how rows are shown. One carriage return at the line's end is dropped.
+   answer has a line for each step: how the rows of the first table are found, each join, and how rows are shown. It is for
+   people, and its words may change from version to version. One carriage return at the line's end is dropped.
    Gives MMDB_DONE and the answer, which is good until the next call on this handle; or MMDB_NOT_OPEN or MMDB_NO_LINE; or
-   MMDB_REFUSED and the refusal: as mmdb_query would be refused, or by 20 where the line spells no select, or by 90 when
-   out of memory. */
+   MMDB_REFUSED and the refusal: as mmdb_query would be refused, or by 20 where the line spells an insert, an update or a
+   delete, or by 90 when out of memory. */
 uint32_t mmdb_plan(mmdb *db, const void *line, size_t length, mmdb_bytes *answer);
 
 /* The answers of the last call that was done or refused, one behind the other: of the piece that was fed, or of the

@@ -1,5 +1,5 @@
-//! The plan of a select in words, a line for each of its steps: how the rows of its first table are found, each join in turn, and how
-//! rows are shown.
+//! The plan of a select in words, a line for each of its steps: how the rows of its first table are found, each join in turn, and
+//! how rows are shown.
 
 use crate::tables::{Seen, column_at, table_at};
 use mm_catalog::Catalog;

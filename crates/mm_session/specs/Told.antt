@@ -63,7 +63,7 @@ IsWayOf policy c query way.Batches =
 
 -- ---- the joins from the rows so far
 
--- The policy chooses one plan for any number of rows of which there are twice as many in the inner table, and one for any greater number.
+-- The policy chooses one plan for all numbers of rows that are at most half of the inner table's, and one for all greater ones.
 pub record IsNextPlan (policy : Policy) (outer inner : JoinInput) (next : NextJoin) : Type 0 where
   pub few : (n : ℕ) → 2 * n ≤ rows_of inner → next_join_plan policy n outer inner ≡ next.few
   pub many : (n : ℕ) → rows_of inner < 2 * n → next_join_plan policy n outer inner ≡ next.many

@@ -14,7 +14,7 @@
 //!
 //! - Each open transaction can be rolled back to just the database that it began with, without memory.
 //! - Outside a transaction nothing is noted.
-//! - In a transaction rows are inserted, loaded, updated and deleted. All other changes are made outside.
+//! - In a transaction rows are inserted, loaded, updated and deleted, and tables and indexes declared. Drops are made outside.
 //! - A commit of the outermost transaction drops what is hidden, and the cells that rows had.
 #![tactic(auto)]
 
