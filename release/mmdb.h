@@ -118,16 +118,15 @@ typedef enum mmdb_status {
     MMDB_NO_SUCH_STATEMENT = 9,  /* the number names no statement, or one that was finalised */
     MMDB_NO_SUCH_PLACE = 10,     /* the statement has no place of that number */
     MMDB_NOT_UTF8 = 11,          /* mmdb_bind_text of bytes that are not UTF-8 */
-    MMDB_REFUSED = 12,           /* mmdb_prepare, mmdb_execute, mmdb_columns, mmdb_query: refused. mmdb_answer and
-                                    mmdb_refusal tell why, as `error 41 key exists` and a line feed; nothing changed */
+    MMDB_REFUSED = 12,           /* mmdb_prepare, mmdb_execute, mmdb_columns, mmdb_query, mmdb_plan: refused. mmdb_answer
+                                    and mmdb_refusal tell why, as `error 41 key exists` and a line feed; nothing changed */
     MMDB_TOO_LARGE = 13,         /* mmdb_execute, mmdb_query: the texts of the rows are more than 4 GiB together;
                                     mmdb_prepare: the database has 4294967296 statements. Nothing changed */
     MMDB_SHARED = 14,            /* mmdb_execute and mmdb_query of a change; mmdb_command, mmdb_load, mmdb_feed, mmdb_begin:
                                     another handle shares the tables. Nothing changed */
     MMDB_NO_TRANSACTION = 15,    /* mmdb_commit, mmdb_rollback: no transaction is open */
-    MMDB_IN_TRANSACTION = 16     /* what isn't done in a transaction yet: mmdb_execute and mmdb_query of an update;
-                                    mmdb_command and mmdb_load of a line that begins with table (and not tables), index,
-                                    drop or update; mmdb_feed, mmdb_share, mmdb_leave. Nothing changed */
+    MMDB_IN_TRANSACTION = 16     /* what isn't done in a transaction: mmdb_command and mmdb_load of a line that begins
+                                    with drop; mmdb_feed, mmdb_share, mmdb_leave. Nothing changed */
 } mmdb_status;
 
 /* How plans are chosen. No policy changes an answer, only what it costs. MMDB_AUTO is the one to take. */
@@ -154,8 +153,8 @@ uint32_t mmdb_open(mmdb *db, uint32_t policy, uint32_t rows, uint32_t block);
    before a line feed in any file. A line that asks for a block, as `load T 20` does, goes to mmdb_load.
    Gives MMDB_DONE and the answer, which is good until the next call on this handle: the bytes that the program mmdb
    writes for the line, none for blanks and comments. Or gives MMDB_NOT_OPEN or MMDB_NO_LINE; or MMDB_IN_TRANSACTION
-   where a transaction is open and the line begins with table (and not tables), index, drop or update; or MMDB_SHARED,
-   whatever line it is; or MMDB_NOT_ONE_REQUEST. */
+   where a transaction is open and the line begins with drop; or MMDB_SHARED, whatever line it is; or
+   MMDB_NOT_ONE_REQUEST. */
 uint32_t mmdb_command(mmdb *db, const void *line, size_t length, mmdb_bytes *answer);
 
 /* Answers one line with the block that it asks for: `load T 20` with 20 bytes. Answer and statuses are as those of
@@ -187,8 +186,7 @@ uint32_t mmdb_bind_null(mmdb *db, uint32_t statement, uint32_t place);
    Gives MMDB_DONE: and of a select its rows, which are good until this statement is executed again or finalised, or the
    handle is closed; of the others `changed`, and no rows. Or gives MMDB_REFUSED as the line with these values would be,
    in the same order, and by 90 when out of memory; MMDB_TOO_LARGE where the texts of its rows are more than 4 GiB
-   together; MMDB_SHARED where it is no select, its names and values are right, and another handle shares the tables;
-   MMDB_IN_TRANSACTION where it is an update whose names and values are right, and a transaction is open; or
+   together; MMDB_SHARED where it is no select, its names and values are right, and another handle shares the tables; or
    MMDB_NOT_OPEN or MMDB_NO_SUCH_STATEMENT. */
 uint32_t mmdb_execute(mmdb *db, uint32_t statement, mmdb_rows *rows);
 
@@ -211,8 +209,8 @@ uint32_t mmdb_finalize(mmdb *db, uint32_t statement);
    whatever other calls there are; of the others `changed`, and no rows. Or gives MMDB_NOT_OPEN or MMDB_NO_LINE; or
    MMDB_REFUSED as mmdb_command would be answered, in the same order, and by 90 when out of memory. A line feed, a ? in
    no text, blanks, comments and all other commands are 20, once the line is neither too long (10) nor other than UTF-8
-   (11). Or gives MMDB_TOO_LARGE where the texts of the rows are more than 4 GiB together; or MMDB_SHARED or
-   MMDB_IN_TRANSACTION as mmdb_execute does. */
+   (11). Or gives MMDB_TOO_LARGE where the texts of the rows are more than 4 GiB together; or MMDB_SHARED as mmdb_execute
+   does. */
 uint32_t mmdb_query(mmdb *db, const void *line, size_t length, mmdb_rows *rows);
 
 /* Takes the next bytes of a stream of lines and blocks, cut wherever it may be, and answers each request that ends in
@@ -232,6 +230,14 @@ uint32_t mmdb_feed(mmdb *db, const void *piece, size_t length);
    MMDB_NO_LINE where the name is null and has a length. */
 uint32_t mmdb_indexes(mmdb *db, const void *table, size_t length, mmdb_bytes *answer);
 
+/* Tells the plan of the select that a line spells, beside the stream; the select is not done, and nothing changes. The
+   answer has a line for each step: how the rows of the first table are found, each join, and how rows are shown. It is for
+   people, and its words may change from version to version. One carriage return at the line's end is dropped.
+   Gives MMDB_DONE and the answer, which is good until the next call on this handle; or MMDB_NOT_OPEN or MMDB_NO_LINE; or
+   MMDB_REFUSED and the refusal: as mmdb_query would be refused, or by 20 where the line spells an insert, an update or a
+   delete, or by 90 when out of memory. */
+uint32_t mmdb_plan(mmdb *db, const void *line, size_t length, mmdb_bytes *answer);
+
 /* The answers of the last call that was done or refused, one behind the other: of the piece that was fed, or of the
    line. Of a piece whose answers found no room it is a front of them. Where a statement was prepared, executed or asked
    for its columns, or a line queried, they are its refusal, or no bytes. Any other call leaves them as they are: one
@@ -245,9 +251,9 @@ uint32_t mmdb_answer(mmdb *db, mmdb_bytes *answer);
 uint32_t mmdb_refusal(mmdb *db);
 
 /* Why a line was refused, with the block that it asks for, in one line of English: for people, who are told what stands
-   at which column, or which name, column, value or row it was. It is asked right behind the mmdb_command, mmdb_load or
-   mmdb_query that was refused, while the tables are as they were, and changes neither them nor the answers. What the
-   words are may change from version to version; the number of the refusal doesn't.
+   at which column, or which name, column, value or row it was. It is asked right behind the mmdb_command, mmdb_load,
+   mmdb_query or mmdb_plan that was refused, while the tables are as they were, and changes neither them nor the answers.
+   What the words are may change from version to version; the number of the refusal doesn't.
    Gives MMDB_DONE and the words, which are good until the next call on this handle: no bytes where the last answers
    begin with no refusal, or it is none of this line. Or gives MMDB_NOT_OPEN, MMDB_NO_LINE, or MMDB_NO_MEMORY where none
    was found for the words. */
@@ -526,6 +532,15 @@ static inline mmdb_status mmdb_checked_indexes(mmdb *db, const void *table, size
     return mmdb_checked_status(mmdb_indexes(db, mmdb_checked_bytes(table), length, to));
 }
 
+static inline mmdb_status mmdb_checked_plan(mmdb *db, const void *line, size_t length, mmdb_bytes *answer)
+{
+    mmdb_bytes unwanted;
+    mmdb_bytes *to = mmdb_checked_answer_at(answer, &unwanted);
+    if (mmdb_checked_is_closed(db))
+        return MMDB_NOT_OPEN;
+    return line ? mmdb_checked_status(mmdb_plan(db, line, length, to)) : MMDB_NO_LINE;
+}
+
 static inline mmdb_status mmdb_checked_answer(mmdb *db, mmdb_bytes *answer)
 {
     mmdb_bytes unwanted;
@@ -621,6 +636,7 @@ static inline void mmdb_checked_close(mmdb *db)
 #define mmdb_query mmdb_checked_query
 #define mmdb_feed mmdb_checked_feed
 #define mmdb_indexes mmdb_checked_indexes
+#define mmdb_plan mmdb_checked_plan
 #define mmdb_answer mmdb_checked_answer
 #define mmdb_refusal mmdb_checked_refusal
 #define mmdb_reason mmdb_checked_reason
