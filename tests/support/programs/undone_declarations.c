@@ -530,10 +530,11 @@ static void delete_and_declare(mmdb *db)
     declare(db, "table more (id int, task ref task)");
 }
 
+/* What is noted of a transaction keeps its memory for the next one: 56 bytes a command and 4 a row, of 64 at most here. */
 static void a_commit_gives_the_memory_back(void)
 {
     const long outside = held_after(declare_much, 0), inside = held_after(declare_much, 1);
-    CHECK(inside <= outside + outside / 100);
+    CHECK(inside <= outside + 64 * (56 + 4));
 }
 
 /* Whether a declaration was done, which is refused by no memory otherwise. */
