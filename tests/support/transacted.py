@@ -302,11 +302,11 @@ class Run:
             self.make_for_a_while(name)
 
     def make_for_a_while(self, name):
-        for who in (self.handle, self.judge):
-            who.begin()
+        self.handle.begin()
+        self.judge.begin()
         self.ask(f"table {name} (id int)")
-        for who in (self.handle, self.judge):
-            who.roll_back()
+        self.handle.roll_back()
+        self.judge.roll_back()
 
     def look_through(self, table, indexes, rows):
         """Selects through these indexes what one of these rows has."""

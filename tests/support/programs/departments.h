@@ -119,13 +119,22 @@ static inline void commit(mmdb *db)
     GIVES(mmdb_commit(db), MMDB_DONE);
 }
 
-/* Rolls back, for which no memory is called. */
-static inline void roll_back(mmdb *db)
+/* Rolls back, for which no memory is asked. Gives whether a block was to get shorter, which is refused then. */
+static inline int shortens_a_block_as_rolled_back(mmdb *db)
 {
+    int shortens;
     allocations_refuse(0, 1);
     GIVES(mmdb_rollback(db), MMDB_DONE);
     CHECK(allocations_asked() == 0);
+    shortens = allocations_refused() > 0;
     allocations_refuse(0, 0);
+    return shortens;
+}
+
+/* Rolls back, for which no memory is called, not to make a block shorter either. */
+static inline void roll_back(mmdb *db)
+{
+    CHECK(!shortens_a_block_as_rolled_back(db));
 }
 
 /* ---- memory */

@@ -131,6 +131,7 @@ static void roll_back(mmdb *db)
         allocations_refuse(0, 1);
         GIVES(mmdb_rollback(db), MMDB_DONE);
         CHECK(allocations_asked() == 0);
+        CHECK(allocations_refused() == 0);
         allocations_refuse(0, 0);
     }
 }

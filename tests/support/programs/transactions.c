@@ -251,6 +251,7 @@ static void roll_back(pair *both)
     allocations_refuse(0, 1);
     GIVES(mmdb_rollback(&both->db), MMDB_DONE);
     CHECK(allocations_asked() == 0);
+    CHECK(allocations_refused() == 0);
     allocations_refuse(0, 0);
     both->now = both->saved[--both->open];
 }
