@@ -15,16 +15,10 @@ use Rattle.mm_relation.specs.declared.row.Cell.{Cell}
 use Rattle.std.specs.Option.{option_map}
 use Rattle.part_raw.proofs.Mapped.{get-mapped, mapped-insert, mapped-remove}
 use Rattle.mm_relation.specs.Rows.{row_of, rows_in, row_store, rows_of, aside_of, with_hidden, with_shown, has_slot, ChangesSlot, among, outside, IsParted}
+use Rattle.mm_relation.specs.Slots.{HasNoSlot}
+use Rattle.mm_relation.proofs.Slots.{no_slot}
 use Rattle.mm_relation.proofs.Stored.{held_alike, IsWhole, whole_with, whole_without, whole_none}
 use Rattle.mm_relation.proofs.Parted.{outside-held, get-outside, get-among, outside-slot, among-slot, outside-insert, among-insert, outside-remove, among-remove, outside-hidden, among-hidden, outside-shown, among-shown, outside-dropped, among-dropped, outside-same, among-same, get-retained, in_set, not_in, other_slot, not_both, retained-empty}
-
-no_word : (k : ℕ) → ◌≡◌ {A = ℕ} (get_or [] k 0) 0
-no_word zero = refl
-no_word (suc k) = refl
-
--- the set of no words has no slot
-pub no_slot : (slot : ℕ) → has_slot [] slot ≡ false
-no_slot slot = ap (λ word. bit_at word (slot % 64) == 1) (no_word (slot / 64)) ∙ ap (λ n. n == 1) (bit_at-zero (slot % 64))
 
 -- a slot that isn't found set is clear
 clear_slot : (words : List ℕ) (slot : ℕ) → (has_slot words slot ≡ true → ⊥) → has_slot words slot ≡ false
@@ -119,23 +113,15 @@ module _ (width : ℕ) (tuples : Tuples (List Cell)) (counts : Tuples ℕ) (hidd
   }
 
   -- where no row is hidden no slot is
-  pub none_hidden : hidden_count ≡ 0 → (slot : ℕ) → has_slot [] slot ≡ has_slot hidden slot
-  none_hidden is_none slot = no_slot slot ∙ sym (clear_slot hidden slot (λ is_in.
+  pub none_hidden : hidden_count ≡ 0 → HasNoSlot hidden
+  none_hidden is_none slot = clear_slot hidden slot (λ is_in.
       let r : TupleRef = record { number = slot } in
       let gone : among hidden tuples ≡ empty = empty_of_len (among hidden tuples) (parted.count ∙ is_none) in
-      none_some (sym (get-among hidden tuples r is_in) ∙ ap (λ m. get m r) gone ∙ held_at_first r) (parted.held r is_in)))
+      none_some (sym (get-among hidden tuples r is_in) ∙ ap (λ m. get m r) gone ∙ held_at_first r) (parted.held r is_in))
 
-  -- once the memory is given back where nothing is owed
-  module _ (after : List ℕ) (now_owed : ℕ) (within : hidden_count ≤ now_owed) (fewer : now_owed ≤ owed) (same : 0 < now_owed → after ≡ hidden) (cleared : now_owed ≡ 0 → after ≡ []) where
-    pub shed_slots : (slot : ℕ) → has_slot after slot ≡ has_slot hidden slot
-    shed_slots slot = elim (cases_eq now_owed 0) [
-      | inl is_none ↦ ap (λ words. has_slot words slot) (cleared is_none) ∙ none_hidden (omega (arith, within, is_none)) slot
-      | inr more ↦ ap (λ words. has_slot words slot) (same (omega (arith, more)))
-    ]
-
-    pub parted_shed : IsParted width tuples counts after hidden_count now_owed
-    parted_shed = parted_covered after now_owed shed_slots within (omega (arith, fewer, parted.few))
-        (λ owing r held. subst (λ (words : List ℕ). r.number / 64 < length words) (sym (same owing)) (parted.covered (omega (arith, owing, fewer)) r held))
+  -- nor where nothing is owed
+  pub none_owed : owed ≡ 0 → HasNoSlot hidden
+  none_owed nothing = none_hidden (omega (arith, nothing, parted.within))
 
   module _ (r : TupleRef) where
     -- a row comes

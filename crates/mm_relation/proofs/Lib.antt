@@ -26,3 +26,4 @@ pub mod SetColumns
 pub mod Sorted
 pub mod Firsts
 pub mod PutBack
+pub mod Settling

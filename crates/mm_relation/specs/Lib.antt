@@ -13,3 +13,5 @@ pub mod Searching
 pub mod Declaring
 pub mod Taken
 pub mod Sorting
+pub mod Slots
+pub mod Settling

@@ -2,8 +2,8 @@
 //! and one that is changed as its cells are set to what they were.
 //!
 //! ```text
-//!  owe(1)  ──▶  hide_row     ──▶  show_row, which owes one fewer       or drop_hidden_row, forgive(1)
-//!  owe(1)  ──▶  change_rows  ──▶  change_back, which owes one fewer    or forgive(1)
+//!  owe(1)  ──▶  hide_row     ──▶  show_row, which owes one fewer       or settle_all
+//!  owe(1)  ──▶  change_rows  ──▶  change_back, which owes one fewer    or forgive(1), settle_all
 //! ```
 //!
 //! As long as rows are owed each index keeps its memory, and what other calls take is beside that. Once nothing is owed,
@@ -107,12 +107,18 @@ impl Relation {
         settle(&mut self.rows, &mut self.by_key, &mut self.indexes);
     }
 
-    /// Drops a hidden row for good. As many rows are owed as before. It takes no memory.
-    pub fn drop_hidden_row(&mut self, r: TupleRef)
-        requires { IsSome (finite.get self.old.hidden r) }
-        ensures { self.new ≡ record self.old { hidden = finite.remove self.old.hidden r } }
+    /// Drops all hidden rows for good, and owes none. It takes no memory, and gives back what is spare. Where no row is owed
+    /// it does nothing.
+    pub fn settle_all(&mut self)
+        ensures { self.new ≡ record self.old { hidden = finite.empty; owed = 0 } }
     {
-        self.rows.drop_hidden(r);
+        let owed = self.rows.owed();
+        if owed == 0 {
+            return;
+        }
+        self.rows.clear_hidden();
+        self.rows.forgive(owed);
+        settle(&mut self.rows, &mut self.by_key, &mut self.indexes);
     }
 
     /// Sets cells in one row, to which the values are moved, where more rows are owed than are hidden. One row fewer is owed

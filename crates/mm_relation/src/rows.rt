@@ -2,15 +2,18 @@
 //! that name the row stands beside them.
 //!
 //! A row may be hidden: it keeps its slot and its reference, but is no row of the relation until it is shown again. How
-//! many rows may be hidden is owed first, with the memory that they need. Where nothing is owed no row is hidden, and what
-//! tells hidden rows apart takes no memory.
-ghost use Rattle.std.specs.Prelude.{◌≡◌, ℕ, ◌+◌, ◌-◌, ◌/◌, ◌<◌, ◌≤◌, [], true, false, Some, None, IsOk, IsSome, IsTrue, IfOk, OnErr, OnOk, length, slice_set};
+//! many rows may be hidden is owed first, with the memory that they need. Where nothing is owed no row is hidden. What tells
+//! hidden rows apart is a bit for each slot, made where rows are owed for the first time. It is kept from then on, until it is
+//! for far more slots than the store has, or the store has no row.
+ghost use Rattle.std.specs.Prelude.{◌≡◌, ℕ, ◌+◌, ◌-◌, ◌*◌, ◌/◌, ◌<◌, ◌≤◌, [], true, false, Some, None, IsOk, IsSome, IsTrue, IfOk, OnErr, OnOk, length, slice_set};
 ghost use Rattle.std.specs.FinMap as finite;
 ghost use Rattle.mm_relation.specs.Reading.{key_at};
 ghost use Rattle.part_raw.specs.declared.tuple_ref.TupleRef.{TupleRef};
-ghost use Rattle.mm_relation.specs.Rows.{HaveNoReferrers, Row, StartsWithKey, has_slot, referrers_at, row_of, row_store, with_hidden, with_number, with_shown, without_number};
+ghost use Rattle.mm_relation.specs.Rows.{ChangesSlot, HaveNoReferrers, Row, StartsWithKey, has_slot, referrers_at, row_of, row_store, with_hidden, with_number, with_shown, without_number};
+ghost use Rattle.mm_relation.specs.Settling.{DropsHidden, HasNoneBefore};
+ghost use Rattle.mm_relation.specs.Slots.{HasNoSlot};
 
-use crate::slot_set::SlotSet;
+use crate::slot_set::{SlotSet, WORD_BITS};
 use crate::stored_cell::{SeenCell, StoredCell};
 use no_memory::NoMemory;
 use part_raw::{MAX_TUPLES, MAX_WIDTH, Partitions, TupleRef};
@@ -37,16 +40,16 @@ impl Model for Rows {
 
     ghost coded = { row_store_code (row_code value_row.coded cell_row.coded) };
 
-    ghost view = { λ r. rows_of r.store r.hidden.words.items r.owed };
+    ghost view = { λ r. rows_of r.store r.hidden r.owed };
 
-    ghost invariant = { λ r. IsParted r.store.width r.store.tuples r.store.counts r.hidden.words.items r.hidden_count r.owed };
+    ghost invariant = { λ r. IsParted r.store.width r.store.tuples r.store.counts r.hidden r.hidden_count r.owed };
 }
 
 // Makes memory to hide each row of the store, where rows are owed.
 fn cover(hidden: &mut SlotSet, store: &Partitions<StoredCell>, owed: u64) -> Result<(), NoMemory>
-    ensures same { (slot : ℕ) → has_slot hidden.new.words.items slot ≡ has_slot hidden.old.words.items slot }
-    ensures grows { length hidden.old.words.items ≤ length hidden.new.words.items }
-    ensures covered { OnOk result (0 < owed → (r : TupleRef) → IsSome (finite.get store.now.tuples r) → r.number / 64 < length hidden.new.words.items) }
+    ensures same { (slot : ℕ) → has_slot hidden.new slot ≡ has_slot hidden.old slot }
+    ensures grows { length hidden.old ≤ length hidden.new }
+    ensures covered { OnOk result (0 < owed → (r : TupleRef) → IsSome (finite.get store.now.tuples r) → r.number / 64 < length hidden.new) }
     ensures sure { owed ≡ 0 → IsOk result }
 {
     if owed > 0 {
@@ -55,14 +58,37 @@ fn cover(hidden: &mut SlotSet, store: &Partitions<StoredCell>, owed: u64) -> Res
     Ok(())
 }
 
-// Gives that memory back where nothing is owed.
-fn shed(hidden: &mut SlotSet, owed: u64)
+// Gives that memory back where nothing is owed, and it is for far more slots than the store has, or the store has no row.
+fn shed(hidden: &mut SlotSet, store: &Partitions<StoredCell>, owed: u64)
+    requires { owed ≡ 0 → HasNoSlot hidden.old }
+    ensures same { (slot : ℕ) → has_slot hidden.new slot ≡ has_slot hidden.old slot }
     ensures kept { 0 < owed → hidden.new ≡ hidden.old }
-    ensures none { owed ≡ 0 → hidden.new.words.items ≡ [] }
 {
     if owed == 0 {
-        hidden.clear();
+        hidden.shed(if store.len() == 0 { 0 } else { store.slots() });
     }
+}
+
+// Whether the row in a slot is hidden, where so many are.
+#[inline]
+fn hides(hidden: &SlotSet, count: u64, slot: u32) -> bool
+    requires { count ≡ 0 → HasNoSlot hidden.now }
+    ensures { result ≡ has_slot hidden.now slot }
+{
+    count > 0 && hidden.has(slot)
+}
+
+// Puts a slot to those of the hidden rows, where so many are.
+fn put_slot(hidden: &mut SlotSet, count: u64, slot: u32)
+    requires none { count ≡ 0 → HasNoSlot hidden.old }
+    requires room { slot / 64 < length hidden.old }
+    ensures changes { ChangesSlot hidden.old hidden.new slot true }
+    ensures covers { length hidden.new ≡ length hidden.old }
+{
+    if count == 0 {
+        hidden.forget_bounds();
+    }
+    hidden.insert(slot);
 }
 
 impl Rows {
@@ -122,7 +148,8 @@ impl Rows {
     }
 
     // Gives the memory of the partitions with no row back where it is that of more than so many rows, and of more than a
-    // quarter as many as there are. No row moves. It takes no memory.
+    // quarter as many as there are. No row moves. It takes no memory. Where nothing is owed what tells hidden rows apart goes
+    // too, if it is for far more slots than are left.
     pub fn shed_spares(&mut self, few: u64)
         ensures tuples { self.new.tuples ≡ self.old.tuples }
         ensures width { self.new.width ≡ self.old.width }
@@ -130,6 +157,7 @@ impl Rows {
         ensures kept { self.old.free ≤ few → self.new ≡ self.old }
     {
         self.store.shed_spares(few);
+        shed(&mut self.hidden, &self.store, self.owed);
     }
 
     // How many cells a row has.
@@ -171,7 +199,7 @@ impl Rows {
     pub fn holds(&self, r: TupleRef) -> bool
         ensures { result ≡ finite.contains_key self.now.tuples r }
     {
-        self.store.holds(r) && !self.hidden.has(r.number)
+        self.store.holds(r) && !hides(&self.hidden, self.hidden_count, r.number)
     }
 
     // The number of slots, free or not. The number of each row's reference is below it.
@@ -284,7 +312,6 @@ impl Rows {
         ensures { self.new ≡ record self.old { aside = record self.old.aside { owed = self.old.aside.owed - n } } }
     {
         self.owed -= n;
-        shed(&mut self.hidden, self.owed);
     }
 
     // Hides a row that no link names, where more are owed than are hidden. It takes no memory.
@@ -294,7 +321,7 @@ impl Rows {
         requires owed { finite.len self.old.aside.hidden < self.old.aside.owed }
         ensures { (row : Row) → finite.get self.old.tuples r ≡ Some row → self.new ≡ with_hidden self.old r row }
     {
-        self.hidden.insert(r.number);
+        put_slot(&mut self.hidden, self.hidden_count, r.number);
         self.hidden_count += 1;
     }
 
@@ -317,5 +344,55 @@ impl Rows {
         self.hidden.remove(r.number);
         self.hidden_count -= 1;
         self.store.remove(r);
+    }
+
+    // Drops the hidden row in this slot, if there is one, where none is before it.
+    fn clear_slot(&mut self, slot: u32)
+        requires { HasNoneBefore slot self.old.aside.hidden }
+        ensures drops { DropsHidden self.old self.new }
+        ensures none { HasNoneBefore (slot + 1) self.new.aside.hidden }
+    {
+        if self.hidden.has(slot) {
+            self.drop_hidden(TupleRef { number: slot });
+        }
+    }
+
+    // Drops the hidden rows in the slots of this word, where none is before them.
+    fn clear_word(&mut self, place: u32)
+        requires few { place < 67108864 }
+        requires none { HasNoneBefore (place * 64) self.old.aside.hidden }
+        ensures drops { DropsHidden self.old self.new }
+        ensures none { HasNoneBefore (place * 64 + 64) self.new.aside.hidden }
+    {
+        if self.hidden.lacks_word(place) {
+            return;
+        }
+        for bit in 0..WORD_BITS {
+            self.clear_slot(place * WORD_BITS + bit);
+        }
+    }
+
+    // The words that have the slots of hidden rows: from the first up to the second.
+    fn hidden_words(&self) -> (u32, u32)
+        ensures first { HasNoneBefore (result.0 * 64) self.now.aside.hidden }
+        ensures last { (r : TupleRef) → IsSome (finite.get self.now.aside.hidden r) → r.number < result.1 * 64 }
+        ensures most { result.1 ≤ 67108864 }
+    {
+        self.hidden.bounds()
+    }
+
+    // Drops all hidden rows. It takes no memory.
+    pub fn clear_hidden(&mut self)
+        ensures tuples { self.new.tuples ≡ self.old.tuples }
+        ensures width { self.new.width ≡ self.old.width }
+        ensures aside { self.new.aside ≡ record self.old.aside { hidden = finite.empty } }
+    {
+        if self.hidden_count == 0 {
+            return;
+        }
+        let (start, end) = self.hidden_words();
+        for place in start..end {
+            self.clear_word(place);
+        }
     }
 }
