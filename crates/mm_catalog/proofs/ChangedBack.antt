@@ -181,8 +181,9 @@ module _ (c d : CatalogState) (ok : IsConsistent c) (fine : IsConsistent d) (n :
       let schema = h.changed.keeps.schema in
       let targets = h.changed.keeps.targets in
       let declared = h.changed.keeps.declared in
+      let counted = h.changed.keeps.counted in
       let rows = cells_are b.rows width refs cells a.rows once h.changed.changed h.changed.others in
-      λ i. record { schema = schema i; targets = targets i; declared = declared i; rows = sym rows i; hidden = h.changed.hidden i; owed = h.changed.owed i }
+      λ i. record { schema = schema i; targets = targets i; declared = declared i; counted = counted i; rows = sym rows i; hidden = h.changed.hidden i; owed = h.changed.owed i }
 
   pub outline_changed_back : outline_of e ≡ with_changed_back n refs width cells (outline_of c)
   outline_changed_back =

@@ -123,7 +123,7 @@ module _ (c : CatalogState) (ok : IsConsistent c) (n : TableNumber) (column : Co
 
 -- ---- an index less
 
-dropped_alike : (k : IndexKind) (column : ℕ) (s : RelationState) (others : List DeclaredIndex) → IsAlike s (without_of k column (record s { declared = others })) × ((without_of k column (record s { declared = others })).declared ≡ others)
+pub dropped_alike : (k : IndexKind) (column : ℕ) (s : RelationState) (others : List DeclaredIndex) → IsAlike s (without_of k column (record s { declared = others })) × ((without_of k column (record s { declared = others })).declared ≡ others)
 dropped_alike Tree column s others = (record { schema = refl; outline = refl; referrers = refl; counted = λ counted. counted }, refl)
 dropped_alike Hash column s others = (record { schema = refl; outline = refl; referrers = refl; counted = λ counted. counted }, refl)
 

@@ -25,11 +25,11 @@ use Rattle.mm_catalog.specs.Seen.{database_of, table_of, rows_of, plain_index}
 use Rattle.mm_catalog.specs.Linked.{target_of, target_at, relation_links, links, links_to, is_link_to, HasLinksOrNulls}
 use Rattle.mm_catalog.specs.Consistent.{IsAmong, IsConsistent, AreCounted}
 use Rattle.mm_catalog.specs.Recounted.{IsRecounted, AreRecounted}
-use Rattle.mm_catalog.specs.Dropped.{moved_up, renumbered}
+use Rattle.mm_catalog.specs.Dropped.{moved_down, moved_up, renumbered}
 use Rattle.mm_catalog.proofs.Tables.{database-get}
 use Rattle.mm_catalog.proofs.Recounting.{current_recounted, rows_recounted, links_recounted}
 use Rattle.mm_catalog.proofs.Removing.{recounted_keys}
-use Rattle.mm_catalog.proofs.Gone.{moved_back, moved_back-other, moved_up-back, moved_up-injective, get-removed, position-remove}
+use Rattle.mm_catalog.proofs.Gone.{moved_down-other, moved_up-back, moved_up-injective, get-removed, position-remove}
 use Rattle.mm_catalog.proofs.Renumbered.{less_one, LeadElsewhere, target_at-map, keys_renumbered, kept_renumbered, current_renumbered, links_less_one, database-dropped}
 use Rattle.mm_catalog.proofs.Among.{among_at}
 use Rattle.mm_catalog.proofs.Lists.{flat_map_alike, map-zip-all}
@@ -101,7 +101,7 @@ module _ (c : CatalogState) (ok : IsConsistent c) (n : ℕ) (gone : List ℕ) (c
       All-at (λ (t : Table). list_any (refers_to gone) t.columns ≡ false) (database_of c) k (table_of c.relations name.0 s)
       (fails_where_none (λ (t : Table). list_any (refers_to gone) t.columns) (database_of c) unreferred) (database-get c ok.named k name.0 s name.1 there)
 
-  elsewhere : (k : ℕ) (s : RelationState) → slice_get c.relations k ≡ Some s → LeadElsewhere s.targets n
+  pub elsewhere : (k : ℕ) (s : RelationState) → slice_get c.relations k ≡ Some s → LeadElsewhere s.targets n
   elsewhere k s there column t e =
       let col = target_there c.names s.schema.columns column t (subst (λ targets. target_at targets column ≡ Some t) (among_at c ok k s there).targets e) in
       found_elsewhere c.names n gone (referred col.0.kind) called (All-at (λ x. refers_to gone x ≡ false) s.schema.columns column col.0 (fails_where_none (refers_to gone) s.schema.columns (none_refer k s there)) col.1) t col.2
@@ -131,7 +131,7 @@ module _ (c : CatalogState) (ok : IsConsistent c) (n : ℕ) (gone : List ℕ) (c
         (among_at c ok k u.0 u.1).linked r row (ap (λ (w : RelationState). finite.get w.rows r) (sym u.2) ∙ e) column value behind
         (subst (λ targets. IsSome (target_at targets column)) (ap (λ (r : RelationState). r.targets) u.2) some) held
 
-    among_left : (k : ℕ) (t : RelationState) → slice_get counted k ≡ Some t → IsAmong (remove c.names n) less (renumbered n t)
+    among_left : (k : ℕ) (t : RelationState) → slice_get counted k ≡ Some t → IsAmong (remove c.names n) less (renumbered (moved_up n) t)
     among_left k t at =
         let u = before k t at in
         let a = among_at c ok k u.0 u.1 in
@@ -140,34 +140,34 @@ module _ (c : CatalogState) (ok : IsConsistent c) (n : ℕ) (gone : List ℕ) (c
         let keys : linked_keys (map (option_map (moved_up n)) t.targets) less ≡ linked_keys u.0.targets c.relations =
         keys_renumbered counted n t.targets (elsewhere_still k t at) ∙ recounted_keys t.targets c.relations counted h ∙ ap (λ ts. linked_keys ts c.relations) targets in
         record {
-          kept = kept_renumbered n t (All-at IsKept counted k t kept at);
+          kept = kept_renumbered (moved_up n) t (All-at IsKept counted k t kept at);
           targets = ap (map (option_map (moved_up n))) (targets ∙ a.targets)
               ∙ sym (targets_less c.names n gone u.0.schema.columns called (none_refer k u.0 u.1))
               ∙ ap (map (target_of (remove c.names n))) (sym columns);
           counted = λ column table v e here.
               let old = option_map_some (moved_up n) (target_at t.targets column) table (sym (target_at-map (moved_up n) t.targets column) ∙ e) in
-              let from = option_map_some (renumbered n) (slice_get counted (moved_back n table)) v
-              (sym (slice_get-map (renumbered n) (remove counted n) table ∙ ap (option_map (renumbered n)) (get-removed counted n table)) ∙ here) in
-              let same : moved_back n table ≡ old.0 = moved_up-injective n (moved_back n table) old.0 (moved_back-other n table) (elsewhere_still k t at column old.0 old.1) (moved_up-back n table ∙ sym old.2) in
+              let from = option_map_some (renumbered (moved_up n)) (slice_get counted (moved_down n table)) v
+              (sym (slice_get-map (renumbered (moved_up n)) (remove counted n) table ∙ ap (option_map (renumbered (moved_up n))) (get-removed counted n table)) ∙ here) in
+              let same : moved_down n table ≡ old.0 = moved_up-injective n (moved_down n table) old.0 (moved_down-other n table) (elsewhere_still k t at column old.0 old.1) (moved_up-back n table ∙ sym old.2) in
               let was = before old.0 from.0 (ap (slice_get counted) (sym same) ∙ from.1) in
               ap (λ (r : RelationState). r.counted) (sym from.2) ∙ ap (λ (r : RelationState). r.counted) was.2
               ∙ a.counted column old.0 was.0 (ap (λ ts. target_at ts column) (sym targets) ∙ old.1) was.1;
           linked = linked_left k t at;
-          current = current_renumbered n (linked_keys (map (option_map (moved_up n)) t.targets) less) t
+          current = current_renumbered (moved_up n) (linked_keys (map (option_map (moved_up n)) t.targets) less) t
               (subst (λ ks. IsCurrent ks t) (sym keys) (current_recounted u.0 t u.2 (linked_keys u.0.targets c.relations) a.current));
         }
 
     counted_left : AreCounted less
     counted_left k v r at held =
-        let j = moved_back n k in
+        let j = moved_down n k in
         let t = slice_get-inside counted n (omega (arith, h.count, slice_get_within c.relations n s there)) in
-        let from = option_map_some (renumbered n) (slice_get counted j) v
-        (sym (slice_get-map (renumbered n) (remove counted n) k ∙ ap (option_map (renumbered n)) (get-removed counted n k)) ∙ at) in
+        let from = option_map_some (renumbered (moved_up n)) (slice_get counted j) v
+        (sym (slice_get-map (renumbered (moved_up n)) (remove counted n) k ∙ ap (option_map (renumbered (moved_up n))) (get-removed counted n k)) ∙ at) in
         let same_number : referrers_at from.0.referrers r ≡ referrers_at v.referrers r = ap (λ (w : RelationState). referrers_at w.referrers r) from.2 in
         let had : referrers_at from.0.referrers r ≡ links_to c.relations j r - count_by (is_link_to j r) (relation_links s) =
-        fewer j from.0 r (moved_back-other n k) from.1 (ap (λ (w : RelationState). is_some (finite.get w.rows r)) from.2 ∙ held) in
+        fewer j from.0 r (moved_down-other n k) from.1 (ap (λ (w : RelationState). is_some (finite.get w.rows r)) from.2 ∙ held) in
         let all : links_to counted j r ≡ links_to less (moved_up n j) r + count_by (is_link_to j r) (relation_links t.0) =
-        links_less_one n j r (moved_back-other n k) counted t.0 t.1 elsewhere_still in
+        links_less_one n j r (moved_down-other n k) counted t.0 t.1 elsewhere_still in
         let same : links_to counted j r ≡ links_to c.relations j r = count-recounted c counted h j r in
         let its : count_by (is_link_to j r) (relation_links t.0) ≡ count_by (is_link_to j r) (relation_links s) =
         ap (count_by (is_link_to j r)) (links_recounted s t.0 (h.each n s t.0 there t.1)) in
@@ -183,10 +183,10 @@ module _ (c : CatalogState) (ok : IsConsistent c) (n : ℕ) (gone : List ℕ) (c
     consistent_left sound =
         let within : n < length c.relations = slice_get_within c.relations n s there in
         record {
-          named = omega (arith, length-remove c.names n (omega (arith, within, ok.named)), length-remove counted n (omega (arith, within, h.count)), length-map (remove counted n) (renumbered n), ok.named, h.count);
+          named = omega (arith, length-remove c.names n (omega (arith, within, ok.named)), length-remove counted n (omega (arith, within, h.count)), length-map (remove counted n) (renumbered (moved_up n)), ok.named, h.count);
           rows = ok.rows;
           sound = sound;
-          each = All-map (IsAmong (remove c.names n) less) (renumbered n) (remove counted n)
-              (λ k d l. among_left (moved_back n k) (get_or (remove counted n) k d) (sym (get-removed counted n k) ∙ slice_get-get_or (remove counted n) k d l));
+          each = All-map (IsAmong (remove c.names n) less) (renumbered (moved_up n)) (remove counted n)
+              (λ k d l. among_left (moved_down n k) (get_or (remove counted n) k d) (sym (get-removed counted n k) ∙ slice_get-get_or (remove counted n) k d l));
           counted = counted_left;
         }

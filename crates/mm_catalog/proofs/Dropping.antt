@@ -7,7 +7,7 @@ use Rattle.std.proofs.lemmas.Bool.{cases_lt}
 use Rattle.std.proofs.lemmas.List.{map-append, length-take, length-drop, take-append-drop}
 use Rattle.std.proofs.lemmas.List.Elements.{All-append, All-take, All-drop}
 use Rattle.std.proofs.lemmas.List.Folds.{map_fixed}
-use Rattle.std.proofs.lemmas.Option.{same_Some, slice_get_past, slice_get_within, slice_get-get_or}
+use Rattle.std.proofs.lemmas.Option.{same_Some, slice_get_within, slice_get-get_or}
 use Rattle.common_lemmas.proofs.Places.{slice_get-inside, slice_get-front}
 use Rattle.part_raw.specs.declared.tuple_ref.TupleRef.{TupleRef}
 use Rattle.plain_tables.specs.Tables.{Table}
@@ -25,37 +25,23 @@ use Rattle.mm_catalog.specs.Consistent.{IsConsistent}
 use Rattle.mm_catalog.specs.Changes.{IsDone}
 use Rattle.mm_catalog.specs.Recounted.{IsRecounted, AreRecounted}
 use Rattle.mm_catalog.specs.Counted.{naming}
-use Rattle.mm_catalog.specs.Dropped.{moved_up, renumbered, IsUnlinked}
-use Rattle.mm_catalog.proofs.Lists.{get-take}
-use Rattle.mm_catalog.proofs.Outlines.{LeadBack}
+use Rattle.mm_catalog.specs.Dropped.{CanBeRenumbered, moved_up, renumbered, IsUnlinked}
+use Rattle.mm_catalog.proofs.Lists.{get-past, get-take, get-taken}
 use Rattle.mm_catalog.proofs.Back.{lead_back}
-use Rattle.mm_catalog.proofs.Among.{there_at, table_at}
+use Rattle.mm_catalog.proofs.Among.{among_at, there_at, table_at}
 use Rattle.mm_catalog.proofs.Elsewhere.{relation_leads}
 use Rattle.mm_catalog.proofs.Counted.{IsRecounted-refl, counted_down}
-use Rattle.mm_catalog.proofs.Gone.{moved_up-before, moved_back-before, get-removed}
-use Rattle.mm_catalog.proofs.Renumbered.{less_one}
-use Rattle.mm_catalog.proofs.Dropped.{database_left, consistent_left}
+use Rattle.mm_catalog.proofs.Gone.{moved_up-before, moved_down-before, get-removed}
+use Rattle.mm_catalog.proofs.Renumbered.{LeadElsewhere, less_one, renumbered_same, told_whole}
+use Rattle.mm_catalog.proofs.Dropped.{database_left, consistent_left, elsewhere}
+use Rattle.mm_catalog.proofs.Tables.{database-length}
 
--- what stands behind a list of as many elements as are left out
-get-past : {A : Type 0} (xs ys : List A) (n k : ℕ) → length xs ≡ n → n ≤ k → slice_get (xs ++ drop n ys) k ≡ slice_get ys k
-get-past [] ys zero k e h = refl
-get-past (x ∷ xs) [] (suc n) (suc k) e h = slice_get_past (xs ++ []) k (omega (arith, length-append xs []))
-get-past (x ∷ xs) (y ∷ ys) (suc n) (suc k) e h = get-past xs ys n k (omega arith) (omega arith)
-get-past xs ys n k e h = absurd (omega arith)
-
-get-taken : {A : Type 0} (xs : List A) (n k : ℕ) (x : A) → slice_get (take n xs) k ≡ Some x → (k < n) × (slice_get xs k ≡ Some x)
-get-taken xs n k x at =
-    let within : k < n = omega (arith, slice_get_within (take n xs) k x at, length-take n xs) in
-    (within, sym (get-take xs n k within) ∙ at)
-
--- links that lead before the one that goes lead where they led
-stays : (n : ℕ) (target : Option ℕ) → ((t : ℕ) → target ≡ Some t → t ≤ n) → option_map (moved_up n) target ≡ target
-stays n None back = refl
-stays n (Some t) back = ap (λ m. Some m) (moved_up-before n t (back t refl))
-
-targets_stay : (n : ℕ) (targets : List (Option ℕ)) → LeadBack targets n → map (option_map (moved_up n)) targets ≡ targets
-targets_stay n targets back = map_fixed (option_map (moved_up n)) targets (λ k d l.
-    stays n (get_or targets k d) (λ t e. omega (arith, back k t (ap (option_and_then (λ (o : Option ℕ). o)) (slice_get-get_or targets k d l) ∙ e))))
+-- as there are few tables, no number is too large
+pub can_be_renumbered : (c : CatalogState) → IsConsistent c → (k : ℕ) (s : RelationState) → slice_get c.relations k ≡ Some s → CanBeRenumbered s
+can_be_renumbered c ok k s there = record {
+  wide = (among_at c ok k s there).kept.width;
+  small = λ column table e. omega (arith, lead_back c ok k s there column table e, slice_get_within c.relations k s there, database-length c ok.named, ok.sound.few);
+}
 
 module _ (c : CatalogState) (ok : IsConsistent c) (number : TableNumber) (meant : IsMeant c.limits (database_of c) (resolved.DropTable number)) where
   abbrev n : ℕ
@@ -67,12 +53,17 @@ module _ (c : CatalogState) (ok : IsConsistent c) (number : TableNumber) (meant 
   pub all_kept : All IsKept c.relations
   all_kept = λ k d l. (ok.each k d l).kept
 
-  unreferred : (name : List ℕ) → slice_get c.names n ≡ Some name → is_table_referenced (database_of c) name ≡ false
+  pub unreferred : (name : List ℕ) → slice_get c.names n ≡ Some name → is_table_referenced (database_of c) name ≡ false
   unfolding table_of
   unreferred name called =
       let s = slice_get-inside c.relations n within in
       let same : meant.0.name ≡ name = ap (λ (t : Table). t.name) (table_at c ok n name s.0 meant.0 called s.1 meant.1) in
       subst (λ other. is_table_referenced (database_of c) other ≡ false) same meant.2
+
+  pub leads_elsewhere : (k : ℕ) (s : RelationState) → slice_get c.relations k ≡ Some s → LeadElsewhere s.targets n
+  leads_elsewhere =
+      let name = slice_get-inside c.names n (omega (arith, within, ok.named)) in
+      elsewhere c ok n name.0 name.1 (unreferred name.0 name.1)
 
   module _ (unlinked : List RelationState) (h : IsUnlinked c.relations unlinked n) where
     front_length : length h.front ≡ n
@@ -101,6 +92,14 @@ module _ (c : CatalogState) (ok : IsConsistent c) (number : TableNumber) (meant 
     kept_unlinked : All IsKept unlinked
     kept_unlinked = subst (All IsKept) (sym h.list) (All-append IsKept h.front (drop n c.relations) h.counted.kept (All-drop IsKept n c.relations all_kept))
 
+    can_unlinked : All CanBeRenumbered unlinked
+    can_unlinked k d l =
+        let at = slice_get-get_or unlinked k d l in
+        let old = slice_get-inside c.relations k (omega (arith, length-unlinked, l)) in
+        let targets : (get_or unlinked k d).targets ≡ old.0.targets = ap (λ (r : RelationState). r.targets) (recounted.each k old.0 (get_or unlinked k d) old.1 at) in
+        let can = can_be_renumbered c ok k old.0 old.1 in
+        record { wide = (kept_unlinked k d l).width; small = λ column table e. can.small column table (ap (λ ts. target_at ts column) (sym targets) ∙ e) }
+
     fewer : (k : ℕ) (t : RelationState) (r : TupleRef) → k ≢ n → slice_get unlinked k ≡ Some t → IsSome (finite.get t.rows r) → referrers_at t.referrers r ≡ links_to c.relations k r - count_by (is_link_to k r) (relation_links h.relation)
     fewer k t r other at held = elim (cases_lt k n) [
       | inl below ↦
@@ -117,34 +116,27 @@ module _ (c : CatalogState) (ok : IsConsistent c) (number : TableNumber) (meant 
     abbrev others : List RelationState
     others = remove unlinked n
 
-    pub wide_others : All (λ (s : RelationState). length s.targets ≡ length s.schema.columns) others
-    wide_others =
-        let kept : All IsKept others =
-        All-append IsKept (take n unlinked) (drop (suc n) unlinked) (All-take IsKept n unlinked kept_unlinked) (All-drop IsKept (suc n) unlinked kept_unlinked) in
-        λ k d l. (kept k d l).width
+    pub told_others : All CanBeRenumbered others
+    told_others =
+        All-append CanBeRenumbered (take n unlinked) (drop (suc n) unlinked) (All-take CanBeRenumbered n unlinked can_unlinked) (All-drop CanBeRenumbered (suc n) unlinked can_unlinked)
 
-    before_stays : (k : ℕ) (s : RelationState) → slice_get (take n others) k ≡ Some s → renumbered n s ≡ s
-    before_stays k s at =
-        let there = get-taken others n k s at in
-        let here : slice_get unlinked k ≡ Some s = ap (slice_get unlinked) (sym (moved_back-before n k there.0)) ∙ sym (get-removed unlinked n k) ∙ there.1 in
-        let old = slice_get-inside c.relations k (omega (arith, there.0, within)) in
+    before_stays : (k : ℕ) (s : RelationState) → k < n → slice_get others k ≡ Some s → renumbered (moved_up n) s ≡ s
+    before_stays k s below at =
+        let here : slice_get unlinked k ≡ Some s = ap (slice_get unlinked) (sym (moved_down-before n k below)) ∙ sym (get-removed unlinked n k) ∙ at in
+        let old = slice_get-inside c.relations k (omega (arith, below, within)) in
         let targets : s.targets ≡ old.0.targets = ap (λ (r : RelationState). r.targets) (recounted.each k old.0 s old.1 here) in
-        let back : LeadBack s.targets n = λ column t e.
-        omega (arith, there.0, lead_back c ok k old.0 old.1 column t (subst (λ ts. target_at ts column ≡ Some t) targets e)) in
-        ap (λ ts. record s { targets = ts }) (targets_stay n s.targets back)
+        renumbered_same (moved_up n) s (λ column t e.
+        moved_up-before n t (omega (arith, below, lead_back c ok k old.0 old.1 column t (ap (λ ts. target_at ts column) (sym targets) ∙ e))))
 
-    all_told : take n others ++ map (renumbered n) (drop n others) ≡ less_one unlinked n
-    all_told =
-        ap (λ front. front ++ map (renumbered n) (drop n others))
-        (sym (map_fixed (renumbered n) (take n others) (λ k d l. before_stays k (get_or (take n others) k d) (slice_get-get_or (take n others) k d l))))
-        ∙ sym (map-append (renumbered n) (take n others) (drop n others)) ∙ ap (map (renumbered n)) (take-append-drop n others)
+    pub all_told : take n others ++ map (renumbered (moved_up n)) (drop n others) ≡ less_one unlinked n
+    all_told = told_whole (moved_up n) n others before_stays
 
     -- what is done, and that it stays consistent
     pub record IsDropped (new : CatalogState) : Type 0 where
       pub done : IsDone c new (resolved.DropTable number)
       pub consistent : IsConsistent new
 
-    pub table_dropped : (names : List (List ℕ)) (relations : List RelationState) → names ≡ remove c.names n → relations ≡ take n others ++ map (renumbered n) (drop n others) → IsDropped (record c { names = names; relations = relations })
+    pub table_dropped : (names : List (List ℕ)) (relations : List RelationState) → names ≡ remove c.names n → relations ≡ take n others ++ map (renumbered (moved_up n)) (drop n others) → IsDropped (record c { names = names; relations = relations })
     table_dropped names relations less told =
         let name = slice_get-inside c.names n (omega (arith, within, ok.named)) in
         let database = database_left c ok n name.0 name.1 (unreferred name.0 name.1) unlinked h.relation h.there recounted kept_unlinked fewer in

@@ -77,10 +77,10 @@ undone old mid n d e f kept new within uncounted is_kept is_mid is_new =
 
 -- ---- a catalog of such relations
 
-kept_with : (s : RelationState) (b : Bool) → IsKept s → IsKept (record s { counted = b })
+pub kept_with : (s : RelationState) (b : Bool) → IsKept s → IsKept (record s { counted = b })
 kept_with s b kept = record { keyed = kept.keyed; few = kept.few; width = kept.width; trees = kept.trees; hashes = kept.hashes; within = kept.within }
 
-current_with : (keys : Keys) (s : RelationState) (b : Bool) → IsCurrent keys s → IsCurrent keys (record s { counted = b })
+pub current_with : (keys : Keys) (s : RelationState) (b : Bool) → IsCurrent keys s → IsCurrent keys (record s { counted = b })
 current_with keys s b current = record { readable = current.readable; trees = current.trees; hashes = current.hashes }
 
 module _ (c : CatalogState) (ok : IsConsistent c) (mid : List RelationState) (h : GainCounts c.relations mid) where

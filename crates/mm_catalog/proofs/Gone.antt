@@ -1,24 +1,21 @@
--- Lists of which the element at one place goes, and the numbers of those behind it, which move up.
-use Rattle.std.proofs.Common.{◌≡◌, ◌≢◌, ℕ, zero, suc, ◌+◌, ◌-◌, ◌<◌, ◌≤◌, Bool, true, false, not, cond, eqb, List, [], ◌∷◌, Option, Some, None, refl, sym, ap, ◌∙◌, arith, length, inl, inr}
-use Rattle.std.specs.List.{slice_get, remove, position, position_or_len}
+-- Lists of which the element at one place goes or comes back, and the numbers of those behind it, which move up or down.
+use Rattle.std.proofs.Common.{◌≡◌, ◌≢◌, ℕ, zero, suc, ◌+◌, ◌-◌, ◌<◌, ◌≤◌, Bool, true, false, not, cond, eqb, List, [], ◌∷◌, Option, Some, None, refl, sym, ap, ◌∙◌, subst, arith, length, take, drop, inl, inr}
+use Rattle.std.specs.List.{All, AllPairs, slice_get, insert, remove, position, position_or_len}
 use Rattle.std.specs.Prelude.{nat_lt}
 use Rattle.std.specs.Option.{option_map}
 use Rattle.std.proofs.lemmas.Bool.{cases_lt, cases_eq, cond-true, cond-false, lt-ltb, le-ltb, eq-eqb, ne_eqb}
+use Rattle.std.proofs.lemmas.List.{take-append-drop}
+use Rattle.std.proofs.lemmas.List.Elements.{All-append}
 use Rattle.std.proofs.lemmas.Option.{none-some, same_Some}
-use Rattle.mm_catalog.specs.Dropped.{moved_up}
+use Rattle.common_lemmas.proofs.Pairs.{AllPairs-back, AllPairs-behind, AllPairs-head}
+use Rattle.mm_catalog.specs.Dropped.{moved_down, moved_up}
 
--- the number that what has this number had before that one went
-abbrev pub moved_back : ℕ → ℕ → ℕ
-moved_back zero n = suc n
-moved_back (suc gone) zero = zero
-moved_back (suc gone) (suc n) = suc (moved_back gone n)
+pub moved_down-other : (gone n : ℕ) → moved_down gone n ≢ gone
+moved_down-other zero n e = omega arith
+moved_down-other (suc gone) zero e = omega arith
+moved_down-other (suc gone) (suc n) e = moved_down-other gone n (omega (arith, e))
 
-pub moved_back-other : (gone n : ℕ) → moved_back gone n ≢ gone
-moved_back-other zero n e = omega arith
-moved_back-other (suc gone) zero e = omega arith
-moved_back-other (suc gone) (suc n) e = moved_back-other gone n (omega (arith, e))
-
-pub moved_up-back : (gone n : ℕ) → moved_up gone (moved_back gone n) ≡ n
+pub moved_up-back : (gone n : ℕ) → moved_up gone (moved_down gone n) ≡ n
 moved_up-back zero n = refl
 moved_up-back (suc gone) zero = refl
 moved_up-back (suc gone) (suc n) = ap suc (moved_up-back gone n)
@@ -34,10 +31,21 @@ moved_up-behind zero (suc n) h = omega arith
 moved_up-behind (suc gone) (suc n) h = let rest = moved_up-behind gone n (omega arith) in omega (arith, rest)
 moved_up-behind gone n h = absurd (omega arith)
 
-pub moved_back-before : (gone n : ℕ) → n < gone → moved_back gone n ≡ n
-moved_back-before zero n h = absurd (omega arith)
-moved_back-before (suc gone) zero h = refl
-moved_back-before (suc gone) (suc n) h = ap suc (moved_back-before gone n (omega arith))
+pub moved_down-before : (gone n : ℕ) → n < gone → moved_down gone n ≡ n
+moved_down-before zero n h = absurd (omega arith)
+moved_down-before (suc gone) zero h = refl
+moved_down-before (suc gone) (suc n) h = ap suc (moved_down-before gone n (omega arith))
+
+pub moved_down-behind : (place n : ℕ) → place ≤ n → moved_down place n ≡ n + 1
+moved_down-behind zero n h = omega arith
+moved_down-behind (suc place) zero h = absurd (omega arith)
+moved_down-behind (suc place) (suc n) h = let rest = moved_down-behind place n (omega arith) in omega (arith, rest)
+
+pub moved_down-up : (gone n : ℕ) → n ≢ gone → moved_down gone (moved_up gone n) ≡ n
+moved_down-up zero zero other = absurd (other refl)
+moved_down-up zero (suc n) other = refl
+moved_down-up (suc gone) zero other = refl
+moved_down-up (suc gone) (suc n) other = ap suc (moved_down-up gone n (λ e. other (ap suc e)))
 
 pub moved_up-injective : (gone a b : ℕ) → a ≢ gone → b ≢ gone → moved_up gone a ≡ moved_up gone b → a ≡ b
 moved_up-injective zero zero b p q e = absurd (p refl)
@@ -65,10 +73,37 @@ get-remove (x ∷ xs) zero zero h = absurd (h refl)
 get-remove (x ∷ xs) (suc n) (suc k) h = get-remove xs n k (λ e. h (ap suc e))
 get-remove xs n k h = refl
 
-pub get-removed : {A : Type 0} (xs : List A) (n k : ℕ) → slice_get (remove xs n) k ≡ slice_get xs (moved_back n k)
+pub get-removed : {A : Type 0} (xs : List A) (n k : ℕ) → slice_get (remove xs n) k ≡ slice_get xs (moved_down n k)
 get-removed [] zero k = refl
 get-removed (x ∷ xs) (suc n) (suc k) = get-removed xs n k
 get-removed xs n k = refl
+
+-- ---- what comes back
+
+pub insert-removed : {A : Type 0} (xs : List A) (n : ℕ) (x : A) → slice_get xs n ≡ Some x → insert (remove xs n) n x ≡ xs
+insert-removed [] n x at = absurd (none-some x at)
+insert-removed (y ∷ ys) zero x at = ap (λ z. z ∷ ys) (sym (same_Some y x at))
+insert-removed (y ∷ ys) (suc n) x at = ap (λ zs. y ∷ zs) (insert-removed ys n x at)
+
+pub remove-inserted : {A : Type 0} (xs : List A) (n : ℕ) (x : A) → n ≤ length xs → remove (insert xs n x) n ≡ xs
+remove-inserted [] zero x h = refl
+remove-inserted [] (suc n) x h = absurd (omega arith)
+remove-inserted (y ∷ ys) zero x h = refl
+remove-inserted (y ∷ ys) (suc n) x h = ap (λ zs. y ∷ zs) (remove-inserted ys n x (omega arith))
+
+pub get-inserted : {A : Type 0} (xs : List A) (n : ℕ) (x : A) → n ≤ length xs → slice_get (insert xs n x) n ≡ Some x
+get-inserted [] zero x h = refl
+get-inserted [] (suc n) x h = absurd (omega arith)
+get-inserted (y ∷ ys) zero x h = refl
+get-inserted (y ∷ ys) (suc n) x h = get-inserted ys n x (omega arith)
+
+-- what comes among elements that stay apart from it is none of them
+pub inserted_apart : {A : Type 0} (xs : List A) (n : ℕ) (x : A) → AllPairs (λ a b. a ≢ b) (insert xs n x) → All (λ y. y ≢ x) xs
+inserted_apart {A} xs n x apart =
+    let differ : A → A → Type 0 = λ a b. a ≢ b in
+    let behind = AllPairs-head differ x (drop n xs) (AllPairs-back differ (take n xs) (x ∷ drop n xs) apart) in
+    subst (All (λ y. y ≢ x)) (take-append-drop n xs)
+    (All-append (λ y. y ≢ x) (take n xs) (drop n xs) (AllPairs-behind differ (take n xs) x (drop n xs) apart) (λ k d l same. behind k d l (sym same)))
 
 -- ---- the first that passes a test
 

@@ -118,7 +118,8 @@ module _ (c d : CatalogState) (n : ℕ) (refs : List TupleRef) (h : AreHiddenAt 
       let schema = h.deleted.removed.keeps.schema in
       let targets = h.deleted.removed.keeps.targets in
       let declared = h.deleted.removed.keeps.declared in
-      λ i. record { schema = schema i; targets = targets i; declared = declared i; rows = rows_again i; hidden = hidden_again i; owed = owed_again i }
+      let counted = h.deleted.removed.keeps.counted in
+      λ i. record { schema = schema i; targets = targets i; declared = declared i; counted = counted i; rows = rows_again i; hidden = hidden_again i; owed = owed_again i }
 
   rewritten : IsRewritten c.relations d.relations n b a
   rewritten = deleted_rewritten c.relations d.relations n refs h.deleted free
@@ -154,9 +155,10 @@ module _ (old new : List RelationState) (n : ℕ) (refs : List TupleRef) (h : Ar
       let schema = h.shown.keeps.schema in
       let targets = h.shown.keeps.targets in
       let declared = h.shown.keeps.declared in
+      let counted = h.shown.keeps.counted in
       let rows = with_is h.before.hidden h.before.rows refs h.after.rows hidden h.shown.shown h.shown.others in
       let gone = without_is refs h.before.hidden h.after.hidden h.shown.gone h.shown.hidden in
-      λ i. record { schema = schema i; targets = targets i; declared = declared i; rows = sym rows i; hidden = sym gone i; owed = h.owed i }
+      λ i. record { schema = schema i; targets = targets i; declared = declared i; counted = counted i; rows = sym rows i; hidden = sym gone i; owed = h.owed i }
 
   pub shown_relations : All (λ r. IsSome (get h.before.hidden r)) refs → map relation_outline new ≡ changed_at (shown refs) n (map relation_outline old)
   shown_relations hidden = changed_forth old new n h.before h.after shown_rewritten (shown refs) (shown_outline hidden)

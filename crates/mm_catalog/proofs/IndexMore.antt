@@ -30,6 +30,7 @@ use Rattle.mm_catalog.specs.State.{CatalogState}
 use Rattle.mm_catalog.proofs.Among.{named_at, table_at}
 use Rattle.mm_catalog.proofs.Declared.{same_tests}
 use Rattle.mm_catalog.proofs.Outlined.{changed_here}
+use Rattle.mm_catalog.proofs.ShownAgain.{with_other}
 
 -- ---- the declared indexes
 
@@ -90,9 +91,10 @@ module _ (c : CatalogState) (relations : List RelationState) (n : ℕ) (s t : Re
           ∙ ap (set (map relation_outline c.relations) n) less
           ∙ set_itself (map relation_outline c.relations) n (relation_outline s) outline_there
 
-  index_less : (index : DeclaredIndex) → relation_outline t ≡ undeclared index (relation_outline s) → outline_of now ≡ without_declared n index (outline_of c)
-  index_less index is =
-      let relations = outlines ∙ ap (set (map relation_outline c.relations) n) is ∙ sym (changed_here (undeclared index) n (map relation_outline c.relations) (relation_outline s) outline_there) in
+  -- the outline is changed alike
+  pub changed_outline : (change : RelationOutline → RelationOutline) → relation_outline t ≡ change (relation_outline s) → outline_of now ≡ with_other n change (outline_of c)
+  changed_outline change is =
+      let relations = outlines ∙ ap (set (map relation_outline c.relations) n) is ∙ sym (changed_here change n (map relation_outline c.relations) (relation_outline s) outline_there) in
       λ i. record { limits = c.limits; names = c.names; relations = relations i }
 
 -- ---- what the calls answer
@@ -123,4 +125,4 @@ module _ (c : CatalogState) (relations : List RelationState) (n : TableNumber) (
         index_more c relations n.0 h.before h.after h.there h.list index (index_itself column k) (new_index h.before h.there) (declared_outline k column h.before h.after h.changed)) changed
 
   pub unindexed_outline : IsChangedAt c.relations relations n.0 (λ old new. new ≡ without_index old index) → outline_of (record c { relations = relations }) ≡ without_declared n.0 index (outline_of c)
-  unindexed_outline h = index_less c relations n.0 h.before h.after h.there h.list index (ap relation_outline h.changed ∙ undeclared_outline k column h.before)
+  unindexed_outline h = changed_outline c relations n.0 h.before h.after h.there h.list (undeclared index) (ap relation_outline h.changed ∙ undeclared_outline k column h.before)

@@ -1,11 +1,11 @@
 -- A catalog with and without the table that stands last.
-use Rattle.std.proofs.Common.{◌≡◌, ℕ, ◌-◌, List, [], ◌∷◌, ◌++◌, Some, refl, sym, ap, ◌∙◌, subst, arith, length, map, take, get_or, append-nil, length-append}
-use Rattle.std.specs.List.{count_by, flat_map, slice_get}
+use Rattle.std.proofs.Common.{◌≡◌, ℕ, ◌-◌, List, [], ◌∷◌, ◌++◌, Some, refl, sym, ap, ◌∙◌, subst, arith, ◌<◌, length, map, take, get_or, append-nil, length-append}
+use Rattle.std.specs.List.{All, count_by, flat_map, slice_get}
 use Rattle.std.specs.Option.{option_map}
 use Rattle.std.specs.FinMap as finite
 use Rattle.std.specs.FinMap.{len-empty}
 use Rattle.std.proofs.lemmas.Grind.{flat_map-append}
-use Rattle.std.proofs.lemmas.List.{map-append, take-append-le}
+use Rattle.std.proofs.lemmas.List.{length-map, map-append, take-append-le}
 use Rattle.std.proofs.lemmas.Option.{same_Some, slice_get-map, slice_get-get_or, slice_get_within}
 use Rattle.common_lemmas.proofs.Options.{option_map_some}
 use Rattle.common_lemmas.proofs.Places.{slice_get-front, slice_get_behind}
@@ -17,15 +17,17 @@ use Rattle.mm_relation.specs.State.{IsCurrent, RelationState, linked_keys, tree_
 use Rattle.mm_catalog.specs.State.{CatalogState}
 use Rattle.mm_catalog.specs.Seen.{database_of}
 use Rattle.mm_catalog.specs.Consistent.{AreCounted, IsAmong, IsConsistent}
-use Rattle.mm_catalog.specs.Created.{GainCounts, aimed_relation}
-use Rattle.mm_catalog.specs.Declarations.{EndsInEmpty, HasTableMore, but_last, without_last}
+use Rattle.mm_catalog.specs.Created.{aimed_relation, without_counts}
+use Rattle.mm_catalog.specs.Declarations.{EndsInEmpty, HasTableMore, but_last, uncounted, without_last}
 use Rattle.mm_catalog.specs.Linked.{is_link_to, links, links_to, relation_links, target_of}
-use Rattle.mm_catalog.specs.Outline.{IsOutline, Outline, RelationOutline, outline_of, relation_outline}
+use Rattle.mm_catalog.specs.Outline.{IsOutline, Outline, RelationOutline, changed_each, outline_of, relation_outline}
 use Rattle.mm_catalog.proofs.Among.{among_at}
 use Rattle.mm_catalog.proofs.Back.{lead_back}
-use Rattle.mm_catalog.proofs.Lists.{map_alike, whole}
+use Rattle.mm_catalog.proofs.NoRows.{no_links}
+use Rattle.mm_catalog.proofs.Lists.{whole}
 use Rattle.mm_catalog.proofs.Outlines.{LeadBack, keys_before}
 use Rattle.mm_catalog.proofs.ShownAgain.{database_alike}
+use Rattle.mm_catalog.proofs.Uncounting.{outlines_less}
 
 but_last-push : {A : Type 0} (xs : List A) (x : A) → but_last (xs ++ x ∷ []) ≡ xs
 but_last-push xs x = whole xs (x ∷ []) (length (xs ++ x ∷ []) - 1) (omega (arith, length-append xs (x ∷ [])))
@@ -35,10 +37,6 @@ last-push xs x =
     let count : length (xs ++ x ∷ []) - 1 ≡ length xs = omega (arith, length-append xs (x ∷ [])) in
     ap (slice_get (xs ++ x ∷ [])) count ∙ slice_get_behind xs [] x
 
-none_listed : {A : Type 0} (xs : List A) → length xs ≡ 0 → xs ≡ []
-none_listed [] e = refl
-none_listed (x ∷ xs) e = absurd (omega (arith, e))
-
 module _ (c : CatalogState) (names : List (List ℕ)) (name : List ℕ) (front : List RelationState) (s : RelationState) (called : c.names ≡ names ++ name ∷ []) (list : c.relations ≡ front ++ s ∷ []) where
   -- the catalog without the table that stands last
   abbrev pub less : CatalogState
@@ -47,11 +45,11 @@ module _ (c : CatalogState) (names : List (List ℕ)) (name : List ℕ) (front :
   outlines : map relation_outline c.relations ≡ map relation_outline front ++ relation_outline s ∷ []
   outlines = ap (map relation_outline) list ∙ map-append relation_outline front (s ∷ [])
 
-  pub outline_less : without_last (outline_of c) ≡ outline_of less
-  outline_less =
+  pub outline_less : (gained : List ℕ) → without_last gained (outline_of c) ≡ record (outline_of less) { relations = changed_each uncounted gained (map relation_outline front) }
+  outline_less gained =
       let fewer = ap but_last called ∙ but_last-push names name in
       let relations = ap but_last outlines ∙ but_last-push (map relation_outline front) (relation_outline s) in
-      λ i. record { limits = c.limits; names = fewer i; relations = relations i }
+      λ i. record { limits = c.limits; names = fewer i; relations = changed_each uncounted gained (relations i) }
 
   pub last_outline : slice_get (map relation_outline c.relations) (length (map relation_outline c.relations) - 1) ≡ Some (relation_outline s)
   last_outline = ap (λ (os : List RelationOutline). slice_get os (length os - 1)) outlines ∙ last-push (map relation_outline front) (relation_outline s)
@@ -93,17 +91,13 @@ module _ (c : CatalogState) (names : List (List ℕ)) (name : List ℕ) (front :
           current = subst (λ keys. IsCurrent keys t) (sym (keys_front k t at)) a.current;
         }
 
-    no_links : relation_links s ≡ []
-    unfolding relation_links
-    no_links =
-        let lists = (among_at c ok (length front) s (ap (λ rs. slice_get rs (length front)) list ∙ slice_get_behind front [] s)).kept.keyed.lists in
-        let none : tree_list s.by_key ≡ [] = none_listed (tree_list s.by_key) (lists.count ∙ ap finite.len no_rows ∙ len-empty ref_cmp Row) in
-        rw none refl
+    its_links : relation_links s ≡ []
+    its_links = no_links s no_rows (among_at c ok (length front) s (ap (λ rs. slice_get rs (length front)) list ∙ slice_get_behind front [] s)).kept
 
     same_links : links c.relations ≡ links front
     unfolding links
     same_links =
-        ap (flat_map relation_links) list ∙ flat_map-append relation_links front (s ∷ []) ∙ ap (λ ls. flat_map relation_links front ++ (ls ++ [])) no_links
+        ap (flat_map relation_links) list ∙ flat_map-append relation_links front (s ∷ []) ∙ ap (λ ls. flat_map relation_links front ++ (ls ++ [])) its_links
         ∙ append-nil (flat_map relation_links front)
 
     counted : AreCounted front
@@ -127,17 +121,19 @@ module _ (c : CatalogState) (names : List (List ℕ)) (name : List ℕ) (front :
 
 -- ---- a new table
 
-module _ (c : CatalogState) (mid : List RelationState) (gains : GainCounts c.relations mid) (name : List ℕ) (schema : Schema) where
+module _ (c : CatalogState) (mid : List RelationState) (gained : List ℕ) (within : All (λ n. n < length mid) gained) (others : changed_each without_counts gained mid ≡ c.relations) (name : List ℕ) (schema : Schema) where
   abbrev new : RelationState
   new = aimed_relation c.names schema
 
   abbrev grown : CatalogState
   grown = record c { names = c.names ++ name ∷ []; relations = mid ++ new ∷ [] }
 
-  pub table_more : HasTableMore (outline_of c) (outline_of grown)
+  pub table_more : HasTableMore (outline_of c) (outline_of grown) gained
   table_more =
-      let relations = map_alike relation_outline c.relations mid gains.count (λ k s t was now. ap relation_outline (gains.each k s t was now).same) in
+      let relations = sym (outlines_less gained mid) ∙ ap (map relation_outline) others in
+      let count = length-map (mid ++ new ∷ []) relation_outline ∙ length-append mid (new ∷ []) in
       record {
         last = record { last = relation_outline new; there = last_outline grown c.names name mid new refl refl; rows = refl; hidden = refl; owed = refl };
-        others = outline_less grown c.names name mid new refl refl ∙ (λ i. record { limits = c.limits; names = c.names; relations = relations i });
+        before_last = λ k d l. omega (arith, within k d l, count);
+        others = outline_less grown c.names name mid new refl refl gained ∙ (λ i. record { limits = c.limits; names = c.names; relations = relations i });
       }

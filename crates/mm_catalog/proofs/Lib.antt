@@ -27,11 +27,13 @@ pub mod Shrunk
 pub mod Deleting
 pub mod DoneLoads
 pub mod Gone
-pub mod Renumbering
+pub mod ColumnsMoved
 pub mod Renumbered
 pub mod Unlinking
 pub mod Dropped
 pub mod Dropping
+pub mod NoRows
+pub mod TableOut
 pub mod CellRows
 pub mod SetLinks
 pub mod SetCells
@@ -52,9 +54,13 @@ pub mod HiddenRows
 pub mod HideSteps
 pub mod Owing
 pub mod ShownAgain
+pub mod Uncounting
 pub mod LastTable
+pub mod TableBack
 pub mod IndexMore
+pub mod IndexBack
 pub mod HideDone
+pub mod Emptied
 pub mod LoadSteps
 pub mod NamedTables
 pub mod UpdateNeeds
@@ -70,3 +76,4 @@ pub mod IndexShapes
 pub mod Standing
 pub mod AnyOrder
 pub mod ComeIn
+pub mod Settled

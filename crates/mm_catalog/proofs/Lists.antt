@@ -1,10 +1,10 @@
 -- Lists, by what they have at each place.
-use Rattle.std.proofs.Common.{◌≡◌, ◌≢◌, ℕ, zero, suc, ◌+◌, ◌-◌, ◌<◌, List, [], ◌∷◌, Some, refl, sym, ap, ◌∙◌, subst, arith, length, map, set, take, drop, get_or, add-one, ◌++◌}
+use Rattle.std.proofs.Common.{◌≡◌, ◌≢◌, ℕ, zero, suc, ◌+◌, ◌-◌, ◌<◌, List, [], ◌∷◌, Some, refl, sym, ap, ◌∙◌, subst, arith, length, length-append, map, set, take, drop, get_or, add-one, ◌++◌, ◌≤◌}
 use Rattle.std.specs.List.{slice_get, zip, All, flat_map}
 use Rattle.std.proofs.lemmas.List.Folds.{flat_map-map}
 use Rattle.std.proofs.Math.Seq.{take-append_seam}
-use Rattle.std.proofs.lemmas.List.{length-drop, take_all}
-use Rattle.std.proofs.lemmas.Option.{none-some, same_Some}
+use Rattle.std.proofs.lemmas.List.{length-drop, length-take, take_all}
+use Rattle.std.proofs.lemmas.Option.{none-some, same_Some, slice_get_past, slice_get_within}
 use Rattle.std.proofs.lemmas.List.Elements.{All-head, All-tail}
 
 -- lists that have the same at each place are one
@@ -32,6 +32,18 @@ get-take [] (suc n) i h = refl
 get-take (x ∷ xs) zero i h = absurd (omega arith)
 get-take (x ∷ xs) (suc n) zero h = refl
 get-take (x ∷ xs) (suc n) (suc i) h = get-take xs n i (omega arith)
+
+pub get-taken : {A : Type 0} (xs : List A) (n k : ℕ) (x : A) → slice_get (take n xs) k ≡ Some x → (k < n) × (slice_get xs k ≡ Some x)
+get-taken xs n k x at =
+    let within : k < n = omega (arith, slice_get_within (take n xs) k x at, length-take n xs) in
+    (within, sym (get-take xs n k within) ∙ at)
+
+-- what stands behind a list of as many elements as are left out
+pub get-past : {A : Type 0} (xs ys : List A) (n k : ℕ) → length xs ≡ n → n ≤ k → slice_get (xs ++ drop n ys) k ≡ slice_get ys k
+get-past [] ys zero k e h = refl
+get-past (x ∷ xs) [] (suc n) (suc k) e h = slice_get_past (xs ++ []) k (omega (arith, length-append xs []))
+get-past (x ∷ xs) (y ∷ ys) (suc n) (suc k) e h = get-past xs ys n k (omega arith) (omega arith)
+get-past xs ys n k e h = absurd (omega arith)
 
 -- two lists, side by side, under tests that tell each place alike
 pub map-zip : {A B C : Type 0} (f g : A × B → C) (xs : List A) (ys : List B) → ((i : ℕ) (a : A) (b : B) → slice_get xs i ≡ Some a → slice_get ys i ≡ Some b → g (a, b) ≡ f (a, b)) → map g (zip xs ys) ≡ map f (zip xs ys)

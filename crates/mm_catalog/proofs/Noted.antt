@@ -1,11 +1,12 @@
 -- What stands in the cells of rows, one after another.
-use Rattle.std.proofs.Common.{◌≡◌, ◌≢◌, ℕ, zero, suc, ◌+◌, ◌-◌, ◌*◌, ◌<◌, ◌≤◌, List, [], ◌∷◌, ◌++◌, Option, Some, None, IsSome, refl, sym, ap, ◌∙◌, arith, length, length-append, length-set, map, set, take, drop, get_or, inl, inr}
+use Rattle.std.proofs.Common.{◌≡◌, ◌≢◌, ℕ, zero, suc, ◌+◌, ◌-◌, ◌*◌, ◌<◌, ◌≤◌, List, [], ◌∷◌, ◌++◌, Option, Some, None, IsSome, refl, sym, ap, ◌∙◌, append_assoc, arith, length, length-append, length-set, map, set, take, drop, get_or, inl, inr}
+use Rattle.std.specs.Prelude.{Result, Ok, Err, OnErr, OnOk}
 use Rattle.std.specs.List.{All, Contains, cons_option, filter_map, flat_map, slice_get}
 use Rattle.std.specs.Option.{option_map, option_map_or}
 use Rattle.std.specs.FinMap.{get}
 use Rattle.std.proofs.Math.Seq.{drop-append_seam, take-append_seam}
 use Rattle.std.proofs.lemmas.Bool.{cases_eq}
-use Rattle.std.proofs.lemmas.List.{drop-drop}
+use Rattle.std.proofs.lemmas.List.{drop-drop, take-append-drop}
 use Rattle.std.proofs.lemmas.List.Elements.{All-cons}
 use Rattle.std.proofs.lemmas.Option.{none-some, same_Some}
 use Rattle.common_lemmas.proofs.Elements.{All-flat_map}
@@ -43,6 +44,32 @@ unfolding cells_at
 at_more s assignments rs i d row l e =
     flat_map_more (λ r. option_map_or (cells_to assignments) (get s.rows r) []) rs i d l
     ∙ ap (λ o. flat_map (λ r. option_map_or (cells_to assignments) (get s.rows r) []) (take i rs) ++ option_map_or (cells_to assignments) o []) e
+
+-- ---- the list that they are noted in
+
+-- what holds anyway holds where there is an error
+pub on_err : {B E P : Type 0} (r : Result B E) → P → OnErr r P
+on_err (Ok x) holds = tt
+on_err (Err e) holds = holds
+
+module _ {A : Type 0} (xs : List A) where
+  -- what stood first stays so
+  pub still_first : (more ys : List A) → take (length (xs ++ more)) ys ≡ xs ++ more → take (length xs) ys ≡ xs
+  still_first more ys same =
+      let rest = drop (length (xs ++ more)) ys in
+      ap (take (length xs)) (sym (take-append-drop (length (xs ++ more)) ys) ∙ ap (λ zs. zs ++ rest) same ∙ append_assoc xs more rest) ∙ take-append_seam xs (more ++ rest)
+
+  pub first_of : (more ys : List A) → ys ≡ xs ++ more → take (length xs) ys ≡ xs
+  first_of more ys same = ap (take (length xs)) same ∙ take-append_seam xs more
+
+  -- the list is as it was where there is a refusal, else what came stands behind
+  pub list_more : {B E : Type 0} (r : Result B E) (mid ys : List A) → take (length xs) mid ≡ xs → OnOk r (ys ≡ mid) → OnOk r (ys ≡ xs ++ drop (length xs) mid)
+  list_more (Ok x) mid ys first same = same ∙ sym (take-append-drop (length xs) mid) ∙ ap (λ zs. zs ++ drop (length xs) mid) first
+  list_more (Err e) mid ys first same = tt
+
+  pub list_kept : {B E : Type 0} (r : Result B E) (mid ys : List A) (start : ℕ) → start ≡ length xs → take (length xs) mid ≡ xs → OnErr r (ys ≡ take start mid) → OnErr r (ys ≡ xs)
+  list_kept (Ok x) mid ys start is first cut = tt
+  list_kept (Err e) mid ys start is first cut = cut ∙ ap (λ n. take n mid) is ∙ first
 
 -- ---- the cells of one row
 

@@ -1,5 +1,5 @@
 -- A catalog of which rows were updated while what stood in their cells was noted: the outline it had is that of its rows with those cells.
-use Rattle.std.proofs.Common.{◌≡◌, ◌≢◌, ℕ, ◌+◌, ◌-◌, ◌<◌, ◌≤◌, Bool, List, Some, IsSome, is_some, refl, sym, ap, ◌∙◌, subst, arith, length, map, set, take, get_or, inl, inr}
+use Rattle.std.proofs.Common.{◌≡◌, ◌≢◌, ℕ, ◌+◌, ◌-◌, ◌<◌, ◌≤◌, ◌++◌, Bool, List, Some, IsSome, is_some, refl, sym, ap, ◌∙◌, subst, arith, length, map, set, take, get_or, inl, inr}
 use Rattle.std.specs.Prelude.{◌⊎◌, IsTrue, Result, Ok, Err, IfErr, IfOk, OnErr, OnOk}
 use Rattle.std.specs.List.{All, AllPairs, Contains, slice_get}
 use Rattle.std.specs.Option.{option_map}
@@ -31,7 +31,7 @@ use Rattle.mm_catalog.specs.ChangedBack.{cells_of_row}
 use Rattle.mm_catalog.specs.Changes.{HasEffect}
 use Rattle.mm_catalog.specs.Consistent.{IsConsistent}
 use Rattle.mm_catalog.specs.Noted.{IsNoted, cells_to, owing}
-use Rattle.mm_catalog.specs.Outline.{HasCellsChanged, RelationOutline, changed_at, changed_back, outline_of, relation_outline, with_row_cells}
+use Rattle.mm_catalog.specs.Outline.{HasCellsChanged, HaveChanged, RelationOutline, changed_at, changed_back, outline_of, relation_outline, with_row_cells}
 use Rattle.mm_catalog.specs.Picked.{ArePicked, HoldsRows, seen_values}
 use Rattle.mm_catalog.specs.Seen.{database_of, values_of}
 use Rattle.mm_catalog.specs.State.{CatalogState}
@@ -166,8 +166,9 @@ module _ (c : CatalogState) (ok : IsConsistent c) (n : TableNumber) (assignments
     again =
         let schema = u.changed.keeps.schema ∙ ap (λ (x : RelationState). x.schema) was in
         let declared = u.changed.keeps.declared ∙ ap (λ (x : RelationState). x.declared) was in
+        let counted = u.changed.keeps.counted ∙ ap (λ (x : RelationState). x.counted) was in
         let fewer : a.owed - length refs ≡ b.owed = omega (arith, owed_now) in
-        λ i. record { schema = schema i; targets = targets_now i; declared = declared i; rows = rows_back i; hidden = hidden_now i; owed = fewer i }
+        λ i. record { schema = schema i; targets = targets_now i; declared = declared i; counted = counted i; rows = rows_back i; hidden = hidden_now i; owed = fewer i }
 
     abbrev before : List RelationOutline
     before = map relation_outline c.relations
@@ -245,16 +246,16 @@ module _ (c : CatalogState) (ok : IsConsistent c) (n : TableNumber) (assignments
   -- ---- what a call answers
 
   module _ (refs : List TupleRef) (held : HoldsRows c n.0 refs) (once : AllPairs (λ q r. q ≢ r) refs) (relations : List RelationState) where
-    pub note_consistent : {A E : Type 0} (r : Result A E) (items : A → List CellSet) → IfOk r (λ x. IsNoted c.relations relations n.0 refs assignments (items x)) → OnErr r (relations ≡ c.relations) → IsConsistent (record c { relations = relations })
-    note_consistent (Ok x) items noted same = noted_consistent refs held once relations (items x) noted
-    note_consistent (Err why) items noted same = subst (λ rs. IsConsistent (record c { relations = rs })) (sym same) ok
+    pub note_consistent : {A E : Type 0} (r : Result A E) (cells : List CellSet) → OnOk r (IsNoted c.relations relations n.0 refs assignments cells) → OnErr r (relations ≡ c.relations) → IsConsistent (record c { relations = relations })
+    note_consistent (Ok x) cells noted same = noted_consistent refs held once relations cells noted
+    note_consistent (Err why) cells noted same = subst (λ rs. IsConsistent (record c { relations = rs })) (sym same) ok
 
-    pub note_effect : {A E : Type 0} (r : Result A E) (items : A → List CellSet) → IfOk r (λ x. IsNoted c.relations relations n.0 refs assignments (items x))
+    pub note_effect : {A E : Type 0} (r : Result A E) (cells : List CellSet) → OnOk r (IsNoted c.relations relations n.0 refs assignments cells)
         → OnOk r ((picks : PlainRow → Bool) → ArePicked c n.0 refs picks → HasEffect c (record c { relations = relations }) (update (database_of c) n assignments picks) (length refs))
-    note_effect (Ok x) items noted = noted_effect refs held once relations (items x) noted
-    note_effect (Err why) items noted = tt
+    note_effect (Ok x) cells noted = noted_effect refs held once relations cells noted
+    note_effect (Err why) cells noted = tt
 
-    pub note_outline : {A E : Type 0} (r : Result A E) (items : A → List CellSet) → IfOk r (λ x. IsNoted c.relations relations n.0 refs assignments (items x))
-        → IfOk r (λ x. HasCellsChanged (outline_of c) (outline_of (record c { relations = relations })) n.0 refs (length assignments) (items x))
-    note_outline (Ok x) items noted = noted_outlined refs held once relations (items x) noted
-    note_outline (Err why) items noted = noted
+    pub note_outline : {A E : Type 0} (r : Result A E) (cells : List CellSet) → OnOk r (IsNoted c.relations relations n.0 refs assignments cells)
+        → (first all : List CellSet) → OnOk r (all ≡ first ++ cells) → OnOk r (HaveChanged c (record c { relations = relations }) n.0 refs (length assignments) first all)
+    note_outline (Ok x) cells noted first all list = record { cells = cells; changed = noted_outlined refs held once relations cells noted; list = list }
+    note_outline (Err why) cells noted first all list = tt

@@ -119,9 +119,10 @@ outline_without refs b a keeps aside rows =
     let schema = sym keeps.schema in
     let targets = sym keeps.targets in
     let declared = sym keeps.declared in
+    let counted = sym keeps.counted in
     let hidden = sym aside.hidden in
     let owed = sym aside.owed in
-    λ i. record { schema = schema i; targets = targets i; declared = declared i; rows = rows i; hidden = hidden i; owed = owed i }
+    λ i. record { schema = schema i; targets = targets i; declared = declared i; counted = counted i; rows = rows i; hidden = hidden i; owed = owed i }
 
 -- ---- rows that came
 

@@ -1,4 +1,4 @@
--- A relation that owes more rows is otherwise as it was, and one of which hidden rows are dropped.
+-- A relation that owes more or fewer rows, or hides others, is otherwise as it was.
 use Rattle.std.proofs.Common.{◌≡◌, ℕ, ◌+◌, ◌-◌, ◌≤◌, ◌++◌, List, Some, None, IsSome, refl, sym, ap, ◌∙◌, subst, arith, length, map, set}
 use Rattle.std.specs.List.{slice_get}
 use Rattle.std.specs.FinMap.{get, len}
@@ -16,9 +16,9 @@ use Rattle.mm_catalog.specs.State.{CatalogState}
 use Rattle.mm_catalog.specs.Seen.{database_of, plain_index, table_of}
 use Rattle.mm_catalog.specs.Consistent.{IsConsistent}
 use Rattle.mm_catalog.specs.Deleted.{AreRemoved, AreUnlinked}
-use Rattle.mm_catalog.specs.Hidden.{AreHidden, AreHiddenAt, without_hidden}
+use Rattle.mm_catalog.specs.Hidden.{AreHidden, AreHiddenAt}
 use Rattle.mm_catalog.specs.Linked.{relation_links}
-use Rattle.mm_catalog.specs.Outline.{RelationOutline, changed_at, dropped, outline_of, relation_outline, with_dropped, without}
+use Rattle.mm_catalog.specs.Outline.{RelationOutline, changed_at, outline_of, relation_outline}
 use Rattle.mm_catalog.specs.Standing.{StandsBeside}
 use Rattle.mm_catalog.proofs.Alike.{AreAlike, AreAlike-set, consistent_alike, table_alike}
 use Rattle.mm_catalog.proofs.Among.{among_at}
@@ -29,7 +29,7 @@ use Rattle.mm_catalog.proofs.Taking.{IsSplit}
 pub kept_aside : (s : RelationState) (hidden : Tuples Row) (k : ℕ) → IsKept s → IsKept (record s { hidden = hidden; owed = k })
 kept_aside s hidden k kept = record { keyed = kept.keyed; few = kept.few; width = kept.width; trees = kept.trees; hashes = kept.hashes; within = kept.within }
 
-current_aside : (keys : Keys) (s : RelationState) (hidden : Tuples Row) (k : ℕ) → IsCurrent keys s → IsCurrent keys (record s { hidden = hidden; owed = k })
+pub current_aside : (keys : Keys) (s : RelationState) (hidden : Tuples Row) (k : ℕ) → IsCurrent keys s → IsCurrent keys (record s { hidden = hidden; owed = k })
 current_aside keys s hidden k current = record { readable = current.readable; trees = current.trees; hashes = current.hashes }
 
 pub stands_owing : (before : List RelationState) (s : RelationState) (k : ℕ) → StandsBeside before s → StandsBeside before (record s { owed = k })
@@ -121,18 +121,3 @@ module _ (c : CatalogState) (ok : IsConsistent c) (n : ℕ) (hidden : Tuples Row
       map-set relation_outline c.relations n t ∙ ap (set (map relation_outline c.relations) n) is
       ∙ sym (changed_here change n (map relation_outline c.relations) (relation_outline s) (slice_get-map relation_outline c.relations n ∙ ap (option_map relation_outline) there)) in
       λ i. record { limits = c.limits; names = c.names; relations = relations i }
-
--- ---- hidden rows that are dropped
-
-module _ (c : CatalogState) (ok : IsConsistent c) (n : ℕ) (refs : List TupleRef) (s : RelationState) (there : slice_get c.relations n ≡ Some s) where
-  pub dropped_relations : set c.relations n (without_hidden refs s) ≡ changed_at (without_hidden refs) n c.relations
-  dropped_relations = sym (changed_here (without_hidden refs) n c.relations s there)
-
-  pub database_dropped : database_of (record c { relations = set c.relations n (without_hidden refs s) }) ≡ database_of c
-  database_dropped = database_aside c ok n (without refs s.hidden) (s.owed - length refs) s there
-
-  pub consistent_dropped : IsConsistent (record c { relations = set c.relations n (without_hidden refs s) })
-  consistent_dropped = consistent_aside c ok n (without refs s.hidden) (s.owed - length refs) s there
-
-  pub outline_dropped : outline_of (record c { relations = set c.relations n (without_hidden refs s) }) ≡ with_dropped n refs (outline_of c)
-  outline_dropped = outline_aside c ok n (without refs s.hidden) (s.owed - length refs) s there (dropped refs) refl

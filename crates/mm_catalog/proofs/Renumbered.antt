@@ -1,13 +1,13 @@
 -- The relations once one of them goes, to which no links lead: links lead to the same rows, by the numbers that those have then.
-use Rattle.std.proofs.Common.{◌≡◌, ◌≢◌, ℕ, zero, suc, ◌+◌, ◌&&◌, Bool, cond, List, [], ◌∷◌, Option, Some, None, refl, sym, ap, ◌∙◌, arith, length, map}
+use Rattle.std.proofs.Common.{◌≡◌, ◌≢◌, ℕ, zero, suc, ◌+◌, ◌<◌, ◌&&◌, Bool, cond, List, [], ◌∷◌, ◌++◌, Option, Some, None, refl, sym, ap, ◌∙◌, arith, length, map, take, drop, get_or}
 use Rattle.std.specs.List.{slice_get, remove, zip, filter_map, cons_option, flat_map, count_by, range_with_len}
 use Rattle.std.specs.Option.{option_and_then, option_map, option_map_or}
 use Rattle.std.specs.Ordering.{is_eq}
 use Rattle.std.specs.FinMap as finite
-use Rattle.std.proofs.lemmas.List.{length-map}
-use Rattle.std.proofs.lemmas.List.Folds.{flat_map-map}
+use Rattle.std.proofs.lemmas.List.{length-map, map-append, take-append-drop}
+use Rattle.std.proofs.lemmas.List.Folds.{flat_map-map, map_fixed}
 use Rattle.std.proofs.lemmas.List.Sums.{sum_by-append}
-use Rattle.std.proofs.lemmas.Option.{none-some, same_Some, slice_get-map}
+use Rattle.std.proofs.lemmas.Option.{none-some, same_Some, slice_get-map, slice_get-get_or}
 use Rattle.part_raw.specs.TupleRefs.{ref_cmp}
 use Rattle.part_raw.specs.declared.tuple_ref.TupleRef.{TupleRef}
 use Rattle.plain_tables.specs.Tables.{Table}
@@ -17,13 +17,13 @@ use Rattle.mm_relation.specs.State.{tree_list, RelationState, IsKept, IsCurrent,
 use Rattle.mm_catalog.specs.State.{CatalogState}
 use Rattle.mm_catalog.specs.Seen.{database_of, table_of, rows_of, plain_index}
 use Rattle.mm_catalog.specs.Linked.{Linked, target_at, link_at, row_links, relation_links, links, is_link_to, links_to}
-use Rattle.mm_catalog.specs.Dropped.{moved_up, renumbered}
-use Rattle.mm_catalog.proofs.Lists.{same_by_get}
-use Rattle.mm_catalog.proofs.Gone.{moved_back, moved_up-same, get-remove, get-removed}
+use Rattle.mm_catalog.specs.Dropped.{moved_down, moved_up, renumbered}
+use Rattle.mm_catalog.proofs.Lists.{get-taken, same_by_get}
+use Rattle.mm_catalog.proofs.Gone.{moved_up-same, get-remove, get-removed}
 
 -- the relations without that one
 abbrev pub less_one : List RelationState → ℕ → List RelationState
-less_one relations gone = map (renumbered gone) (remove relations gone)
+less_one relations gone = map (renumbered (moved_up gone)) (remove relations gone)
 
 -- no links lead into it
 abbrev pub LeadElsewhere : List (Option ℕ) → ℕ → Type 0
@@ -39,9 +39,30 @@ pub target_at-map : (f : ℕ → ℕ) (targets : List (Option ℕ)) (column : �
 target_at-map f targets column =
     ap (option_and_then (λ (t : Option ℕ). t)) (slice_get-map (option_map f) targets column) ∙ flattened f (slice_get targets column)
 
+-- ---- links that lead where they led
+
+stays : (moved : ℕ → ℕ) (target : Option ℕ) → ((t : ℕ) → target ≡ Some t → moved t ≡ t) → option_map moved target ≡ target
+stays moved None still = refl
+stays moved (Some t) still = ap (λ n. Some n) (still t refl)
+
+pub renumbered_same : (moved : ℕ → ℕ) (s : RelationState) → ((column t : ℕ) → target_at s.targets column ≡ Some t → moved t ≡ t) → renumbered moved s ≡ s
+renumbered_same moved s still =
+    ap (λ ts. record s { targets = ts }) (map_fixed (option_map moved) s.targets (λ k d l.
+    stays moved (get_or s.targets k d) (λ t e. still k t (ap (option_and_then (λ (o : Option ℕ). o)) (slice_get-get_or s.targets k d l) ∙ e))))
+
+-- where those before a number lead where they led, those from there on are all that is told
+pub told_whole : (moved : ℕ → ℕ) (n : ℕ) (relations : List RelationState) → ((k : ℕ) (s : RelationState) → k < n → slice_get relations k ≡ Some s → renumbered moved s ≡ s)
+    → take n relations ++ map (renumbered moved) (drop n relations) ≡ map (renumbered moved) relations
+told_whole moved n relations still =
+    ap (λ front. front ++ map (renumbered moved) (drop n relations))
+    (sym (map_fixed (renumbered moved) (take n relations) (λ k d l.
+    let there = get-taken relations n k (get_or (take n relations) k d) (slice_get-get_or (take n relations) k d l) in
+    still k (get_or (take n relations) k d) there.0 there.1)))
+    ∙ sym (map-append (renumbered moved) (take n relations) (drop n relations)) ∙ ap (map (renumbered moved)) (take-append-drop n relations)
+
 -- ---- keys
 
-key_of_renumbered : (gone : ℕ) (to : TupleRef) (found : Option RelationState) → option_and_then (λ s. key_at s.rows to) (option_map (renumbered gone) found) ≡ option_and_then (λ s. key_at s.rows to) found
+key_of_renumbered : (gone : ℕ) (to : TupleRef) (found : Option RelationState) → option_and_then (λ s. key_at s.rows to) (option_map (renumbered (moved_up gone)) found) ≡ option_and_then (λ s. key_at s.rows to) found
 key_of_renumbered gone to None = refl
 key_of_renumbered gone to (Some s) = refl
 
@@ -49,7 +70,7 @@ key_moved : (relations : List RelationState) (gone : ℕ) (to : TupleRef) (targe
 key_moved relations gone to None elsewhere = refl
 key_moved relations gone to (Some t) elsewhere =
     ap (option_and_then (λ (s : RelationState). key_at s.rows to))
-    (slice_get-map (renumbered gone) (remove relations gone) (moved_up gone t) ∙ ap (option_map (renumbered gone)) (get-remove relations gone t (elsewhere t refl)))
+    (slice_get-map (renumbered (moved_up gone)) (remove relations gone) (moved_up gone t) ∙ ap (option_map (renumbered (moved_up gone))) (get-remove relations gone t (elsewhere t refl)))
     ∙ key_of_renumbered gone to (slice_get relations t)
 
 pub keys_renumbered : (relations : List RelationState) (gone : ℕ) (targets : List (Option ℕ)) → LeadElsewhere targets gone → linked_keys (map (option_map (moved_up gone)) targets) (less_one relations gone) ≡ linked_keys targets relations
@@ -59,9 +80,9 @@ keys_renumbered relations gone targets elsewhere = λ i column to.
 
 -- ---- what a relation keeps
 
-pub kept_renumbered : (gone : ℕ) (s : RelationState) → IsKept s → IsKept (renumbered gone s)
-kept_renumbered gone s kept =
-    let wide : length (map (option_map (moved_up gone)) s.targets) ≡ length s.targets = length-map s.targets (option_map (moved_up gone)) in
+pub kept_renumbered : (moved : ℕ → ℕ) (s : RelationState) → IsKept s → IsKept (renumbered moved s)
+kept_renumbered moved s kept =
+    let wide : length (map (option_map moved) s.targets) ≡ length s.targets = length-map s.targets (option_map moved) in
     record {
       keyed = kept.keyed;
       few = kept.few;
@@ -71,9 +92,9 @@ kept_renumbered gone s kept =
       within = λ k d l. omega (arith, kept.within k d l, wide);
     }
 
-pub current_renumbered : (gone : ℕ) (keys : Keys) (s : RelationState) → IsCurrent keys s → IsCurrent keys (renumbered gone s)
-current_renumbered gone keys s current = record {
-  readable = λ r t e column within. current.readable r t e column (omega (arith, within, length-map s.targets (option_map (moved_up gone))));
+pub current_renumbered : (moved : ℕ → ℕ) (keys : Keys) (s : RelationState) → IsCurrent keys s → IsCurrent keys (renumbered moved s)
+current_renumbered moved keys s current = record {
+  readable = λ r t e column within. current.readable r t e column (omega (arith, within, length-map s.targets (option_map moved)));
   trees = current.trees;
   hashes = current.hashes;
 }
@@ -143,7 +164,7 @@ module _ (gone table : ℕ) (r : TupleRef) (stays : table ≢ gone) where
   found_moved targets None elsewhere = refl
   found_moved targets (Some row) elsewhere = row_moved targets row elsewhere
 
-  relation_moved : (s : RelationState) → LeadElsewhere s.targets gone → count_by now (relation_links (renumbered gone s)) ≡ count_by before (relation_links s)
+  relation_moved : (s : RelationState) → LeadElsewhere s.targets gone → count_by now (relation_links (renumbered (moved_up gone) s)) ≡ count_by before (relation_links s)
   unfolding relation_links
   relation_moved s elsewhere =
       count-flat_map (λ q. option_map_or (row_links (map (option_map (moved_up gone)) s.targets)) (finite.get s.rows q) []) (λ q. option_map_or (row_links s.targets) (finite.get s.rows q) []) now before (tree_list s.by_key)
@@ -155,9 +176,9 @@ module _ (gone table : ℕ) (r : TupleRef) (stays : table ≢ gone) where
   links_less_one relations s there elsewhere =
       let all = count-less_one relation_links before relations gone s there in
       let moved : count_by now (flat_map relation_links (less_one relations gone)) ≡ count_by before (flat_map relation_links (remove relations gone)) =
-      ap (count_by now) (flat_map-map relation_links (renumbered gone) (remove relations gone))
-      ∙ count-flat_map (λ t. relation_links (renumbered gone t)) relation_links now before (remove relations gone)
-      (λ k t at. relation_moved t (elsewhere (moved_back gone k) t (sym (get-removed relations gone k) ∙ at))) in
+      ap (count_by now) (flat_map-map relation_links (renumbered (moved_up gone)) (remove relations gone))
+      ∙ count-flat_map (λ t. relation_links (renumbered (moved_up gone) t)) relation_links now before (remove relations gone)
+      (λ k t at. relation_moved t (elsewhere (moved_down gone k) t (sym (get-removed relations gone k) ∙ at))) in
       omega (arith, all, moved)
 
 -- ---- the tables
@@ -179,14 +200,14 @@ module _ (c : CatalogState) (gone : ℕ) (elsewhere : (k : ℕ) (t : RelationSta
   abbrev pub dropped : CatalogState
   dropped = record c { names = remove c.names gone; relations = less_one c.relations gone }
 
-  table_moved : (k : ℕ) (name : List ℕ) (s : RelationState) → slice_get c.relations k ≡ Some s → table_of dropped.relations name (renumbered gone s) ≡ table_of c.relations name s
+  table_moved : (k : ℕ) (name : List ℕ) (s : RelationState) → slice_get c.relations k ≡ Some s → table_of dropped.relations name (renumbered (moved_up gone) s) ≡ table_of c.relations name s
   unfolding table_of rows_of
   table_moved k name s at = λ j. record { name = name; columns = s.schema.columns; indexes = map plain_index s.declared; rows = rows_of (keys_renumbered c.relations gone s.targets (elsewhere k s at) j) s }
 
   abbrev tabled : List RelationState → List ℕ × RelationState → Table
   tabled relations t = table_of relations t.0 t.1
 
-  tables_moved : (k : ℕ) (name : Option (List ℕ)) (found : Option RelationState) → slice_get c.relations k ≡ found → option_map (tabled dropped.relations) (both name (option_map (renumbered gone) found)) ≡ option_map (tabled c.relations) (both name found)
+  tables_moved : (k : ℕ) (name : Option (List ℕ)) (found : Option RelationState) → slice_get c.relations k ≡ found → option_map (tabled dropped.relations) (both name (option_map (renumbered (moved_up gone)) found)) ≡ option_map (tabled c.relations) (both name found)
   tables_moved k None found at = refl
   tables_moved k (Some name) None at = refl
   tables_moved k (Some name) (Some s) at = ap (λ t. Some t) (table_moved k name s at)
@@ -199,7 +220,7 @@ module _ (c : CatalogState) (gone : ℕ) (elsewhere : (k : ℕ) (t : RelationSta
       ∙ ap (option_map (tabled dropped.relations))
       (get-zip-both dropped.names dropped.relations k
       ∙ ap (λ n. both n (slice_get dropped.relations k)) (get-removed c.names gone k)
-      ∙ ap (both (slice_get c.names (moved_back gone k))) (slice_get-map (renumbered gone) (remove c.relations gone) k ∙ ap (option_map (renumbered gone)) (get-removed c.relations gone k)))
-      ∙ tables_moved (moved_back gone k) (slice_get c.names (moved_back gone k)) (slice_get c.relations (moved_back gone k)) refl
-      ∙ sym (get-removed (database_of c) gone k ∙ slice_get-map (tabled c.relations) (zip c.names c.relations) (moved_back gone k)
-      ∙ ap (option_map (tabled c.relations)) (get-zip-both c.names c.relations (moved_back gone k))))
+      ∙ ap (both (slice_get c.names (moved_down gone k))) (slice_get-map (renumbered (moved_up gone)) (remove c.relations gone) k ∙ ap (option_map (renumbered (moved_up gone))) (get-removed c.relations gone k)))
+      ∙ tables_moved (moved_down gone k) (slice_get c.names (moved_down gone k)) (slice_get c.relations (moved_down gone k)) refl
+      ∙ sym (get-removed (database_of c) gone k ∙ slice_get-map (tabled c.relations) (zip c.names c.relations) (moved_down gone k)
+      ∙ ap (option_map (tabled c.relations)) (get-zip-both c.names c.relations (moved_down gone k))))

@@ -27,6 +27,18 @@ use Rattle.mm_catalog.proofs.LinksHeld.{link_held}
 use Rattle.mm_catalog.proofs.Outlined.{changed_here, gone_without}
 use Rattle.mm_catalog.proofs.RowLinks.{each_link, link_parts}
 
+-- where each link names none, no links are counted to a row
+pub none_named : (relations : List RelationState) (n : ℕ) (r : TupleRef)
+    → ((k : ℕ) (t : RelationState) → slice_get relations k ≡ Some t → (q : TupleRef) (row : Row) (column : ℕ) (link : Linked) → get t.rows q ≡ Some row → link_at t.targets row column ≡ Some link → is_link_to n r link ≡ true → ⊥)
+    → links_to relations n r ≡ 0
+unfolding links_to links
+none_named relations n r no_link =
+    none_counted (is_link_to n r) (flat_map relation_links relations)
+    (All-flat_map (λ link. is_link_to n r link ≡ false) relation_links relations (λ k w l.
+    let t = get_or relations k w in
+    each_link (λ link. is_link_to n r link ≡ false) t (λ q row column link held e.
+    false_from_ne_true (is_link_to n r link) (no_link k t (slice_get-get_or relations k w l) q row column link held e))))
+
 module _ (c d : CatalogState) (ok : IsConsistent c) (fine : IsConsistent d) (n : ℕ) (refs : List TupleRef) (left : outline_of d ≡ without_rows n refs (outline_of c)) where
   module _ (s : RelationState) (there : slice_get c.relations n ≡ Some s) where
     abbrev rest : RelationOutline
@@ -63,13 +75,7 @@ module _ (c d : CatalogState) (ok : IsConsistent c) (fine : IsConsistent d) (n :
         none-some found.1 (sym gone ∙ found.3)
 
     none_to : (r : TupleRef) → Contains refs r → links_to c.relations n r ≡ 0
-    unfolding links_to links
-    none_to r among =
-        none_counted (is_link_to n r) (flat_map relation_links c.relations)
-        (All-flat_map (λ link. is_link_to n r link ≡ false) relation_links c.relations (λ k w l.
-        let t = get_or c.relations k w in
-        each_link (λ link. is_link_to n r link ≡ false) t (λ q row column link held e.
-        false_from_ne_true (is_link_to n r link) (no_link r among k t (slice_get-get_or c.relations k w l) q row column link held e))))
+    none_to r among = none_named c.relations n r (no_link r among)
 
   pub free_without : HoldsRows c n refs → AreFreeRows c n refs
   free_without holds s there i w l =

@@ -1,11 +1,13 @@
 -- A relation as it is made for a new table, and what becomes of those that its links lead into.
-use Rattle.std.specs.Prelude.{◌≡◌, ℕ, ◌<◌, ◌≤◌, List, Option, Some, None, IsTrue, length, map, slice_get}
+use Rattle.std.specs.Prelude.{◌≡◌, ℕ, ◌<◌, ◌≤◌, ◌++◌, false, List, Option, Some, None, All, IsTrue, length, map, slice_get}
 use Rattle.std.specs.Option.{option_and_then}
+use Rattle.plain_tables.specs.declared.numbers.TableNumber.{TableNumber}
 use Rattle.plain_tables.specs.declared.schema.Schema.{Schema}
 use Rattle.plain_tables.specs.declared.schema.Column.{Column}
 use Rattle.mm_relation.specs.Declaring.{new_relation, with_target}
 use Rattle.mm_relation.specs.State.{RelationState}
 use Rattle.mm_catalog.specs.Linked.{target_at, target_of}
+use Rattle.mm_catalog.specs.Outline.{changed_each}
 
 -- these columns and nothing else, with links that lead into the tables of these names that the columns refer to
 abbrev pub aimed_relation : List (List ℕ) → Schema → RelationState
@@ -36,6 +38,17 @@ pub record GainsCounts (old new : RelationState) : Type 0 where
 pub record GainCounts (old new : List RelationState) : Type 0 where
   pub count : length new ≡ length old
   pub each : (k : ℕ) (s t : RelationState) → slice_get old k ≡ Some s → slice_get new k ≡ Some t → GainsCounts s t
+
+-- the relation keeps the numbers of its rows' referrers no longer
+abbrev pub without_counts : RelationState → RelationState
+without_counts s = record s { counted = false }
+
+-- Relations keep them now that kept none; their numbers stand behind those of a list. Nothing else differs.
+pub record HaveGained (old new : List RelationState) (before after : List TableNumber) : Type 0 where
+  pub gained : List TableNumber
+  pub list : after ≡ before ++ gained
+  pub within : All (λ n. n.0 < length new) gained
+  pub others : changed_each without_counts (map (λ n. n.0) gained) new ≡ old
 
 -- the tables that the links of the columns from this one on lead into keep them
 abbrev pub LeadIntoCountedFrom : ℕ → List RelationState → List (Option ℕ) → Type 0

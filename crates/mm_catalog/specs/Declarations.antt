@@ -1,9 +1,9 @@
 -- What it is to declare a table or an index, and to take that back, by the outlines before and after.
-use Rattle.std.specs.Prelude.{◌≡◌, ℕ, ◌-◌, List, Some, Contains, length, slice_get, take}
+use Rattle.std.specs.Prelude.{◌≡◌, ℕ, ◌+◌, ◌-◌, ◌<◌, false, List, Some, All, Contains, length, slice_get, take}
 use Rattle.std.specs.FinMap as finite
 use Rattle.mm_relation.specs.Declaring.{is_index, without_first}
 use Rattle.mm_relation.specs.declared.numbers.DeclaredIndex.{DeclaredIndex}
-use Rattle.mm_catalog.specs.Outline.{Outline, RelationOutline, changed_at}
+use Rattle.mm_catalog.specs.Outline.{Outline, RelationOutline, changed_at, changed_each}
 
 -- ---- tables
 
@@ -11,9 +11,13 @@ use Rattle.mm_catalog.specs.Outline.{Outline, RelationOutline, changed_at}
 abbrev pub but_last : {A : Type 0} → List A → List A
 but_last xs = take (length xs - 1) xs
 
--- the outline without its last table
-abbrev pub without_last : Outline → Outline
-without_last o = record o { names = but_last o.names; relations = but_last o.relations }
+-- the links to its rows are counted no longer
+abbrev pub uncounted : RelationOutline → RelationOutline
+uncounted s = record s { counted = false }
+
+-- the outline without its last table, where the tables of these numbers count links no longer
+abbrev pub without_last : List ℕ → Outline → Outline
+without_last gained o = record o { names = but_last o.names; relations = changed_each uncounted gained (but_last o.relations) }
 
 -- the last table has no rows, and it neither hides nor owes any
 pub record EndsInEmpty (o : Outline) : Type 0 where
@@ -23,10 +27,16 @@ pub record EndsInEmpty (o : Outline) : Type 0 where
   pub hidden : last.hidden ≡ finite.empty
   pub owed : last.owed ≡ 0
 
--- there is one table more, which is empty and stands last, and nothing else differs
-pub record HasTableMore (old new : Outline) : Type 0 where
+-- these are numbers of tables before the last
+abbrev pub AreBeforeLast : List ℕ → Outline → Type 0
+AreBeforeLast numbers o = All (λ n. n + 1 < length o.relations) numbers
+
+-- There is one table more, which is empty and stands last. Those of these numbers count the links to their rows now, and nothing else
+-- differs.
+pub record HasTableMore (old new : Outline) (gained : List ℕ) : Type 0 where
   pub last : EndsInEmpty new
-  pub others : without_last new ≡ old
+  pub before_last : AreBeforeLast gained new
+  pub others : without_last gained new ≡ old
 
 -- ---- indexes
 

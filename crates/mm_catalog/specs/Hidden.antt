@@ -78,7 +78,3 @@ pub record AreShownAt (old new : List RelationState) (n : ℕ) (refs : List Tupl
   pub owed : after.owed ≡ before.owed - length refs
   pub kept : IsKept after
   pub current : IsCurrent (linked_keys before.targets (take n old)) after
-
--- the relation without these hidden rows, which are owed no longer
-abbrev pub without_hidden : List TupleRef → RelationState → RelationState
-without_hidden refs s = record s { hidden = without refs s.hidden; owed = s.owed - length refs }

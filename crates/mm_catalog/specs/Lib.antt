@@ -5,8 +5,10 @@ pub mod ChangedBack
 pub mod Consistent
 pub mod Created
 pub mod Declarations
+pub mod Unindexed
 pub mod Deleted
 pub mod Dropped
+pub mod DroppedTables
 pub mod Inserted
 pub mod Hidden
 pub mod Linked
@@ -22,3 +24,5 @@ pub mod Trees
 pub mod LoadOrder
 pub mod Standing
 pub mod Indexes
+pub mod Settled
+pub mod Emptied

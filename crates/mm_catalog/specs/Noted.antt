@@ -24,10 +24,6 @@ cells_at s assignments rs = flat_map (λ r. option_map_or (cells_to assignments)
 abbrev pub owing : ℕ → RelationState → RelationState
 owing count s = record s { owed = s.owed + count }
 
--- the relation that owes so many rows fewer
-abbrev pub forgiving : ℕ → RelationState → RelationState
-forgiving count s = record s { owed = s.owed - count }
-
 -- rows of the relation of a number, which owes them then, have the cells that these assignments set; those before are noted
 pub record IsNoted (old new : List RelationState) (n : ℕ) (rs : List TupleRef) (assignments : List Assignment) (cells : List CellSet) : Type 0 where
   pub before : RelationState

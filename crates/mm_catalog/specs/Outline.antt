@@ -18,11 +18,13 @@ use Rattle.mm_catalog.specs.ChangedBack.{cells_of_row}
 use Rattle.mm_catalog.specs.Consistent.{IsConsistent}
 use Rattle.mm_catalog.specs.State.{CatalogState}
 
--- the schema; the table that each column's links lead into; the declared indexes; the rows; the hidden rows; how many rows are owed
+-- the schema; the table that each column's links lead into; the declared indexes; whether links to its rows are counted; the rows; the hidden
+-- rows; how many rows are owed
 pub record RelationOutline : Type 0 where
   pub schema : Schema
   pub targets : List (Option ℕ)
   pub declared : List DeclaredIndex
+  pub counted : Bool
   pub rows : Tuples Row
   pub hidden : Tuples Row
   pub owed : ℕ
@@ -34,7 +36,7 @@ pub record Outline : Type 0 where
   pub relations : List RelationOutline
 
 abbrev pub relation_outline : RelationState → RelationOutline
-relation_outline s = record { schema = s.schema; targets = s.targets; declared = s.declared; rows = s.rows; hidden = s.hidden; owed = s.owed }
+relation_outline s = record { schema = s.schema; targets = s.targets; declared = s.declared; counted = s.counted; rows = s.rows; hidden = s.hidden; owed = s.owed }
 
 abbrev pub outline_of : CatalogState → Outline
 outline_of c = record { limits = c.limits; names = c.names; relations = map relation_outline c.relations }
@@ -66,23 +68,22 @@ with_row_cells (r ∷ refs) width cells rows =
 abbrev pub changed_at : {A : Type 0} → (A → A) → ℕ → List A → List A
 changed_at change n xs = option_map_or (λ x. slice_set xs n (change x)) (slice_get xs n) xs
 
+-- the list with others in the places of these numbers
+abbrev pub changed_each : {A : Type 0} → (A → A) → List ℕ → List A → List A
+changed_each change [] xs = xs
+changed_each change (n ∷ numbers) xs = changed_at change n (changed_each change numbers xs)
+
 -- the outline without the rows of these references of the table of a number
 abbrev pub without_rows : ℕ → List TupleRef → Outline → Outline
 without_rows n refs o = record o { relations = changed_at (λ s. record s { rows = without refs s.rows }) n o.relations }
 
--- the hidden rows of these references are rows again, or are dropped; either way they are owed no longer
+-- the hidden rows of these references are rows again, and are owed no longer
 abbrev pub shown : List TupleRef → RelationOutline → RelationOutline
 shown refs s = record s { rows = with_those refs s.hidden s.rows; hidden = without refs s.hidden; owed = s.owed - length refs }
 
-abbrev pub dropped : List TupleRef → RelationOutline → RelationOutline
-dropped refs s = record s { hidden = without refs s.hidden; owed = s.owed - length refs }
-
--- the outline where the hidden rows of these references of the table of a number are shown, or dropped
+-- the outline where the hidden rows of these references of the table of a number are shown
 abbrev pub with_shown : ℕ → List TupleRef → Outline → Outline
 with_shown n refs o = record o { relations = changed_at (shown refs) n o.relations }
-
-abbrev pub with_dropped : ℕ → List TupleRef → Outline → Outline
-with_dropped n refs o = record o { relations = changed_at (dropped refs) n o.relations }
 
 -- these rows have so many cells each again, and are owed no longer
 abbrev pub changed_back : List TupleRef → ℕ → List CellSet → RelationOutline → RelationOutline
@@ -90,19 +91,6 @@ changed_back refs width cells s = record s { rows = with_row_cells refs width ce
 
 abbrev pub with_changed_back : ℕ → List TupleRef → ℕ → List CellSet → Outline → Outline
 with_changed_back n refs width cells o = record o { relations = changed_at (changed_back refs width cells) n o.relations }
-
--- so many rows are owed no longer
-abbrev pub forgiven : ℕ → RelationOutline → RelationOutline
-forgiven count s = record s { owed = s.owed - count }
-
-abbrev pub with_forgiven : ℕ → ℕ → Outline → Outline
-with_forgiven n count o = record o { relations = changed_at (forgiven count) n o.relations }
-
--- the table of a number owes so many rows beside its hidden rows
-pub record OwesRows (o : Outline) (n count : ℕ) : Type 0 where
-  pub relation : RelationOutline
-  pub there : slice_get o.relations n ≡ Some relation
-  pub owed : count + finite.len relation.hidden ≤ relation.owed
 
 -- the table of a number has a row under each of these references, each given once
 pub record HoldsOnce (o : Outline) (n : ℕ) (refs : List TupleRef) : Type 0 where
@@ -153,3 +141,9 @@ pub record OwesCells (o : Outline) (n : ℕ) (refs : List TupleRef) (width : ℕ
 pub record HasCellsChanged (old new : Outline) (n : ℕ) (refs : List TupleRef) (width : ℕ) (cells : List CellSet) : Type 0 where
   pub owes : OwesCells new n refs width cells
   pub others : with_changed_back n refs width cells new ≡ old
+
+-- cells of rows of the table of a number are others now, and those before stand behind the cells of a list
+pub record HaveChanged (old new : CatalogState) (n : ℕ) (refs : List TupleRef) (width : ℕ) (before after : List CellSet) : Type 0 where
+  pub cells : List CellSet
+  pub changed : HasCellsChanged (outline_of old) (outline_of new) n refs width cells
+  pub list : after ≡ before ++ cells

@@ -11,7 +11,8 @@ use crate::insert::insert;
 use crate::laws::a_catalog_is_consistent;
 use crate::load::{LoadedRows, MovedRows, PlacedRows, in_record, make_room};
 use crate::references::link::Link;
-use crate::removal::{renumber_behind, unlink};
+use crate::removal::unlink;
+use crate::renumbering::{Renumbering, renumber_from};
 use crate::row_values::{LentValues, RowValues};
 use crate::updating::{set_rows, shed_links};
 use indexmap::IndexSet;
@@ -166,7 +167,17 @@ impl Catalog {
     pub fn create(&mut self, name: Text, schema: Schema) -> Result<(), NoMemory>
         requires { IsMeant self.old.limits (database_of self.old) (resolved.Table name schema) }
         ensures done { OnOk result (IsDone self.old self.new (resolved.Table name schema)) }
-        ensures made { OnOk result (HasTableMore (outline_of self.old) (outline_of self.new)) }
+        ensures unchanged { OnErr result (self.new ≡ self.old) }
+    {
+        self.create_noted(name, schema)?;
+        Ok(())
+    }
+
+    /// Declares a table as `create` does, and gives the numbers of the tables that counted no links before.
+    pub fn create_noted(&mut self, name: Text, schema: Schema) -> Result<Vec<TableNumber>, NoMemory>
+        requires { IsMeant self.old.limits (database_of self.old) (resolved.Table name schema) }
+        ensures done { OnOk result (IsDone self.old self.new (resolved.Table name schema)) }
+        ensures made { IfOk result (λ gained. HasTableMore (outline_of self.old) (outline_of self.new) (map (λ n. n.0) gained.items)) }
         ensures unchanged { OnErr result (self.new ≡ self.old) }
     {
         self.relations.reserve(1)?;
@@ -174,12 +185,14 @@ impl Catalog {
         let relation = aimed(alloc, schema, &self.names)?;
         let name = String::from_str(alloc, name.as_str())?;
         self.names.reserve(1)?;
-        count_targets(self.relations.as_mut_slice(), &relation, ColumnNumber(0))?;
+        let mut gained = Vec::new(alloc);
+        let relations = self.relations.as_mut_slice();
+        count_targets(relations, &relation, ColumnNumber(0), &mut gained)?;
         let Ok(_) = self.names.insert(name) else {
             unreachable!();
         };
         self.relations.push_reserved(relation);
-        Ok(())
+        Ok(gained)
     }
 
     /// Declares an index of a table over the rows that are there.
@@ -226,7 +239,11 @@ impl Catalog {
         unlink(self.relations.as_mut_slice(), table);
         self.relations.remove(table.0);
         self.names.shift_remove_index(table.0);
-        renumber_behind(self.relations.as_mut_slice(), table);
+        renumber_from(
+            self.relations.as_mut_slice(),
+            table,
+            Renumbering::Gone(table),
+        );
     }
 
     /// Puts a row into a table. The answer is 41 where a row with its key is there, else 42 where a reference of it names

@@ -5,7 +5,7 @@ ghost use Rattle.std.specs.String.{string_bytes};
 ghost use Rattle.plain_tables.specs.References as plain;
 ghost use Rattle.mm_relation.specs.State.{IsKept};
 ghost use Rattle.mm_catalog.specs.Linked.{target_at, target_of};
-ghost use Rattle.mm_catalog.specs.Created.{aimed_relation, with_leads, leads_at, GainCounts, LeadIntoCountedFrom};
+ghost use Rattle.mm_catalog.specs.Created.{aimed_relation, with_leads, leads_at, GainCounts, HaveGained, LeadIntoCountedFrom};
 
 use crate::references::link::target_number;
 use indexmap::IndexSet;
@@ -68,15 +68,17 @@ pub fn aimed(alloc: Global, schema: Schema, names: &IndexSet<String>) -> Result<
     Ok(relation)
 }
 
-/// Makes memory for the numbers of referrers in the tables that the links of a relation lead into, from this column on. Where
-/// there is none, each relation is as it was.
+/// Makes memory for the numbers of referrers in the tables that the links of a relation lead into, from this column on, and lists
+/// the tables that kept none. Where no memory is found, each relation is as it was.
 pub fn count_targets(
     relations: &mut [Relation],
     relation: &Relation,
     column: ColumnNumber,
+    gained: &mut Vec<TableNumber>,
 ) -> Result<(), NoMemory>
     requires within { (k table : ℕ) → target_at relation.now.targets k ≡ Some table → table < length relations.old }
     ensures gained { OnOk result (GainCounts relations.old relations.new) }
+    ensures listed { OnOk result (HaveGained relations.old relations.new gained.old.items gained.new.items) }
     ensures counted { OnOk result (LeadIntoCountedFrom column.0 relations.new relation.now.targets) }
     ensures unchanged { OnErr result (relations.new ≡ relations.old) }
 {
@@ -86,12 +88,15 @@ pub fn count_targets(
     }
     let next = ColumnNumber(column.0 + 1);
     let Some(table) = target_number(relation, column) else {
-        return count_targets(relations, relation, next);
+        return count_targets(relations, relation, next, gained);
     };
-    let was_counted = relations[table].is_counted();
+    if relations[table].is_counted() {
+        return count_targets(relations, relation, next, gained);
+    }
+    gained.push(TableNumber(table))?;
     relations[table].keep_counts()?;
-    let counted = count_targets(relations, relation, next);
-    if counted.is_err() && !was_counted {
+    let counted = count_targets(relations, relation, next, gained);
+    if counted.is_err() {
         relations[table].forget_counts();
     }
     counted

@@ -8,8 +8,7 @@ ghost use Rattle.std.specs.FinMap as finite;
 ghost use Rattle.part_raw.specs.declared.tuple_ref.TupleRef.{TupleRef};
 ghost use Rattle.mm_relation.specs.State.{RelationState, IsKept, IsCurrent, linked_keys};
 ghost use Rattle.mm_catalog.specs.Deleted.{AllFree, AnyReferenced, AreRemoved, AreUnlinked, IsFree};
-ghost use Rattle.mm_catalog.specs.Hidden.{AreHidden, AreHiddenAt, AreLinked, AreShown, AreShownAt, CanBeShown, CanShow, without_hidden};
-ghost use Rattle.mm_catalog.specs.Outline.{without};
+ghost use Rattle.mm_catalog.specs.Hidden.{AreHidden, AreHiddenAt, AreLinked, AreShown, AreShownAt, CanBeShown, CanShow};
 ghost use Rattle.mm_catalog.specs.Standing.{StandsBeside, Stands};
 
 use crate::before::Before;
@@ -18,26 +17,34 @@ use crate::references::counting::{count_down_links, count_up_links};
 use crate::references::named::any_referenced;
 use mm_relation::Relation;
 use mm_relation::laws::{a_relation_is_kept, hidden_rows_are_apart};
+use no_memory::{NoMemory, check_size};
 use part_raw::TupleRef;
 use plain_tables::{MOST_ROWS, Refusal, TableNumber};
 
 // ---- rows that are hidden
 
+// Whether so many rows more can be owed. For more there is no memory, as there is none for a list that no block holds.
+fn check_owed(owed: u64, count: u64) -> Result<(), NoMemory>
+    requires { owed ≤ 16777216 }
+    ensures { OnOk result (owed + count ≤ 16777216) }
+{
+    if count > u64::from(MOST_ROWS) - owed {
+        return check_size::<TupleRef>(usize::MAX);
+    }
+    Ok(())
+}
+
 /// Owes so many rows of a relation more. It finds no memory where too many are owed then.
-pub fn owe_rows(relation: &mut Relation, count: usize) -> Result<(), Refusal>
+pub fn owe_rows(relation: &mut Relation, count: usize) -> Result<(), NoMemory>
     ensures owed { OnOk result (relation.new ≡ record relation.old { owed = relation.old.owed + count }) }
-    ensures refused { IfErr result (λ refusal. refusal ≡ Refusal.NoMemory) }
     ensures unchanged { OnErr result (relation.new ≡ relation.old) }
     ensures few { finite.len relation.old.hidden ≤ relation.old.owed }
     ensures apart { (r : TupleRef) → IsSome (finite.get relation.old.hidden r) → finite.get relation.old.rows r ≡ None }
 {
     hidden_rows_are_apart(relation);
     let count = count as u64;
-    if count > u64::from(MOST_ROWS) - relation.owed() {
-        return Err(Refusal::NoMemory);
-    }
-    relation.owe(count)?;
-    Ok(())
+    check_owed(relation.owed(), count)?;
+    relation.owe(count)
 }
 
 // Hides rows of a relation that no link names, and takes their links out of the relations before it.
@@ -62,6 +69,27 @@ fn hide_each(before: &mut [Relation], relation: &mut Relation, rows: &[TupleRef]
     }
 }
 
+/// Hides rows of the relation of this number, none of which a link names. Its links lead into those before it.
+pub fn hide_free(
+    relations: &mut [Relation],
+    table: TableNumber,
+    rows: &[TupleRef],
+) -> Result<(), NoMemory>
+    requires there { table.0 < length relations.old }
+    requires stands { Stands relations.old table.0 }
+    requires held { (s : RelationState) → slice_get relations.old table.0 ≡ Some s → All (λ r. IsSome (finite.get s.rows r)) rows.now }
+    requires once { AllPairs (λ q r. q ≢ r) rows.now }
+    requires free { AllFree relations.old table.0 rows.now }
+    ensures hidden { OnOk result (AreHiddenAt relations.old relations.new table.0 rows.now) }
+    ensures unchanged { OnErr result (relations.new ≡ relations.old) }
+{
+    let (before, rest) = relations.split_at_mut(table.0);
+    let relation = &mut rest[0];
+    owe_rows(relation, rows.len())?;
+    hide_each(before, relation, rows);
+    Ok(())
+}
+
 // Hides rows of the relation of this number, where no link names any of them. Its links lead into those before it.
 fn hide_rows(
     relations: &mut [Relation],
@@ -77,13 +105,10 @@ fn hide_rows(
     ensures refused { IfErr result (λ refusal. (refusal ≡ Refusal.NoMemory) ⊎ ((refusal ≡ Refusal.RowIsReferenced) × AnyReferenced relations.old table.0 rows.now)) }
     ensures unchanged { OnErr result (relations.new ≡ relations.old) }
 {
-    let (before, rest) = relations.split_at_mut(table.0);
-    let relation = &mut rest[0];
-    if any_referenced(relation, rows) {
+    if any_referenced(&relations[table.0], rows) {
         return Err(Refusal::RowIsReferenced);
     }
-    owe_rows(relation, rows.len())?;
-    hide_each(before, relation, rows);
+    hide_free(relations, table, rows)?;
     Ok(())
 }
 
@@ -117,27 +142,12 @@ fn show_rows(relations: &mut [Relation], table: TableNumber, rows: &[TupleRef])
     show_each(before, &mut rest[0], rows);
 }
 
-// ---- rows that are dropped
-
-// Drops hidden rows of a relation, which are owed no longer. It takes no memory.
-fn drop_rows(relation: &mut Relation, rows: &[TupleRef])
-    requires hidden { All (λ r. IsSome (finite.get relation.old.hidden r)) rows.now }
-    requires once { AllPairs (λ q r. q ≢ r) rows.now }
-    requires owed { length rows.now + finite.len (without rows.now relation.old.hidden) ≤ relation.old.owed }
-    ensures { relation.new ≡ without_hidden rows.now relation.old }
-{
-    for r in rows {
-        relation.drop_hidden_row(*r);
-    }
-    relation.forgive(rows.len() as u64);
-}
-
 impl Catalog {
     ghost use Rattle.plain_tables.specs.Doing as doing;
     ghost use Rattle.plain_tables.specs.Effects.{Refused};
     ghost use Rattle.plain_tables.specs.Tables.{Row};
-    ghost use Rattle.mm_catalog.specs.Changes.{HasEffect, KeepsDatabase};
-    ghost use Rattle.mm_catalog.specs.Outline.{HasRowsHidden, HidesOnce, IsOutline, changed_at, outline_of, with_dropped, with_shown};
+    ghost use Rattle.mm_catalog.specs.Changes.{HasEffect};
+    ghost use Rattle.mm_catalog.specs.Outline.{HasRowsHidden, HidesOnce, IsOutline, outline_of, with_shown};
     ghost use Rattle.mm_catalog.specs.Picked.{ArePicked, HoldsRows};
     ghost use Rattle.mm_catalog.specs.Seen.{database_of};
 
@@ -163,15 +173,5 @@ impl Catalog {
     {
         hidden_rows_are_apart(&self.relations[table.0]);
         show_rows(self.relations.as_mut_slice(), table, rows)
-    }
-
-    /// Drops hidden rows of a table for good. It takes no memory, and never fails.
-    pub fn drop_hidden(&mut self, table: TableNumber, rows: &[TupleRef])
-        requires hides { HidesOnce (outline_of self.old) table.0 rows.now }
-        ensures relations { self.new ≡ record self.old { relations = changed_at (without_hidden rows.now) table.0 self.old.relations } }
-        ensures outline { outline_of self.new ≡ with_dropped table.0 rows.now (outline_of self.old) }
-        ensures database { KeepsDatabase self.old self.new }
-    {
-        drop_rows(&mut self.relations[table.0], rows)
     }
 }

@@ -1,13 +1,13 @@
 //! Values that are assigned to rows, where what stood in their cells is noted.
 //!
 //! As many rows are owed then, so setting the cells back takes no memory.
-ghost use Rattle.std.specs.Prelude.{◌≡◌, ◌≢◌, ◌<◌, ◌⊎◌, ◌++◌, Some, IsSome, IfOk, IfErr, OnOk, OnErr, All, length, slice_get};
+ghost use Rattle.std.specs.Prelude.{◌≡◌, ◌≢◌, ◌<◌, ◌⊎◌, ◌++◌, Some, IsSome, IfErr, OnOk, OnErr, All, drop, length, slice_get, take};
 ghost use Rattle.std.specs.List.{AllPairs};
 ghost use Rattle.std.specs.FinMap as finite;
 ghost use Rattle.mm_relation.specs.Rows.{Row};
 ghost use Rattle.mm_relation.specs.State.{RelationState};
 ghost use Rattle.mm_catalog.specs.Assigned.{AreConsistent, AreToColumns, IsNotUpdated};
-ghost use Rattle.mm_catalog.specs.Noted.{IsNoted, cells_at, cells_to, forgiving};
+ghost use Rattle.mm_catalog.specs.Noted.{IsNoted, cells_at, cells_to};
 
 use crate::catalog::Catalog;
 use crate::hiding::owe_rows;
@@ -19,7 +19,7 @@ use part_raw::TupleRef;
 use plain_tables::{Assignment, ColumnNumber, Refusal, TableNumber};
 use std::alloc::Global;
 
-// Puts copies of a row's cells in the columns of these assignments behind the others.
+// Puts copies of a row's cells in the columns of these assignments behind the others. Where it finds no memory some of them are there.
 fn copy_row(
     alloc: Global,
     relation: &Relation,
@@ -29,7 +29,8 @@ fn copy_row(
 ) -> Result<(), NoMemory>
     requires held { IsSome (finite.get relation.now.rows r) }
     requires columns { AreToColumns (length relation.now.targets) assignments.now }
-    ensures { OnOk result ((row : Row) → finite.get relation.now.rows r ≡ Some row → cells.new.items ≡ cells.old.items ++ cells_to assignments.now row) }
+    ensures copied { OnOk result ((row : Row) → finite.get relation.now.rows r ≡ Some row → cells.new.items ≡ cells.old.items ++ cells_to assignments.now row) }
+    ensures others { OnErr result (take (length cells.old.items) cells.new.items ≡ cells.old.items) }
 {
     for assignment in assignments {
         let cell = relation.cell_copy(alloc, r, assignment.column)?;
@@ -38,25 +39,28 @@ fn copy_row(
     Ok(())
 }
 
-// Copies of the cells of these rows in the columns of these assignments, one row's behind the other's.
+// Puts copies of the cells of these rows in the columns of these assignments behind the others, one row's behind the other's. Where it
+// finds no memory some of them are there.
 fn copy_rows(
     alloc: Global,
     relation: &Relation,
     rows: &[TupleRef],
     assignments: &[Assignment],
-) -> Result<Vec<(ColumnNumber, StoredCell)>, NoMemory>
+    cells: &mut Vec<(ColumnNumber, StoredCell)>,
+) -> Result<(), NoMemory>
     requires held { All (λ r. IsSome (finite.get relation.now.rows r)) rows.now }
     requires columns { AreToColumns (length relation.now.targets) assignments.now }
-    ensures { IfOk result (λ cells. cells.items ≡ cells_at relation.now assignments.now rows.now) }
+    ensures copied { OnOk result (cells.new.items ≡ cells.old.items ++ cells_at relation.now assignments.now rows.now) }
+    ensures others { OnErr result (take (length cells.old.items) cells.new.items ≡ cells.old.items) }
 {
-    let mut cells = Vec::new(alloc);
     for r in rows {
-        copy_row(alloc, relation, *r, assignments, &mut cells)?;
+        copy_row(alloc, relation, *r, assignments, cells)?;
     }
-    Ok(cells)
+    Ok(())
 }
 
-// Assigns values to these rows of the relation of this number, which owes them then, and gives what stood in their cells.
+// Assigns values to these rows of the relation of this number, which owes them then, and puts what stood in their cells behind the
+// others. Where it is refused some of them are there.
 fn set_and_note(
     alloc: Global,
     relations: &mut [Relation],
@@ -65,25 +69,41 @@ fn set_and_note(
     assignments: &[Assignment],
     sets: &mut Vec<(ColumnNumber, StoredCell)>,
     lost: &mut Vec<Link>,
-) -> Result<Vec<(ColumnNumber, StoredCell)>, Refusal>
+    cells: &mut Vec<(ColumnNumber, StoredCell)>,
+) -> Result<(), Refusal>
     requires there { table.0 < length relations.old }
     requires consistent { AreConsistent relations.old }
     requires columns { (s : RelationState) → slice_get relations.old table.0 ≡ Some s → AreToColumns (length s.targets) assignments.now }
     requires held { (s : RelationState) → slice_get relations.old table.0 ≡ Some s → All (λ r. IsSome (finite.get s.rows r)) rows.now }
     requires once { AllPairs (λ q r. q ≢ r) rows.now }
-    ensures noted { IfOk result (λ cells. IsNoted relations.old relations.new table.0 rows.now assignments.now cells.items) }
+    ensures noted { OnOk result (IsNoted relations.old relations.new table.0 rows.now assignments.now (drop (length cells.old.items) cells.new.items)) }
+    ensures others { take (length cells.old.items) cells.new.items ≡ cells.old.items }
     ensures unchanged { OnErr result (relations.new ≡ relations.old) }
     ensures refused { IfErr result (λ refusal. (refusal ≡ Refusal.NoMemory) ⊎ IsNotUpdated relations.old table.0 assignments.now refusal) }
 {
-    let cells = copy_rows(alloc, &relations[table.0], rows, assignments)?;
+    copy_rows(alloc, &relations[table.0], rows, assignments, cells)?;
     owe_rows(&mut relations[table.0], rows.len())?;
     let answer = set_rows(alloc, relations, table, rows, assignments, sets, lost);
     match answer {
-        Ok(()) => Ok(cells),
+        Ok(()) => Ok(()),
         Err(refusal) => {
             relations[table.0].forgive(rows.len() as u64);
             Err(refusal)
         }
+    }
+}
+
+// Where there is a refusal, takes the cells behind the first ones out again.
+fn keep_if_done(
+    cells: &mut Vec<(ColumnNumber, StoredCell)>,
+    start: usize,
+    answer: &Result<(), Refusal>,
+)
+    ensures done { OnOk answer.now (cells.new.items ≡ cells.old.items) }
+    ensures refused { OnErr answer.now (cells.new.items ≡ take start cells.old.items) }
+{
+    if answer.is_err() {
+        cells.truncate(start);
     }
 }
 
@@ -93,29 +113,32 @@ impl Catalog {
     ghost use Rattle.plain_tables.specs.Effects.{Refused};
     ghost use Rattle.plain_tables.specs.ResolvedLaws.{AreAssignable, OfTable};
     ghost use Rattle.plain_tables.specs.Tables.{Row as PlainRow};
-    ghost use Rattle.mm_catalog.specs.Changes.{HasEffect, KeepsDatabase};
-    ghost use Rattle.mm_catalog.specs.Outline.{HasCellsChanged, OwesRows, changed_at, outline_of, with_forgiven};
+    ghost use Rattle.mm_catalog.specs.Changes.{HasEffect};
+    ghost use Rattle.mm_catalog.specs.Outline.{HaveChanged};
     ghost use Rattle.mm_catalog.specs.Picked.{ArePicked, HoldsRows};
     ghost use Rattle.mm_catalog.specs.Seen.{database_of};
 
-    /// Assigns values to rows of a table as `update` does, and gives what stood in their cells, one row's cells behind the other's.
-    /// The rows are owed then, so that the cells can be set back. It finds no memory also where more than 16,777,216 rows of the
-    /// table are owed then.
+    /// Assigns values to rows of a table as `update` does, and puts what stood in their cells behind those of a list, one row's cells
+    /// behind the other's. The rows are owed then, so that the cells can be set back. It finds no memory also where more than 16,777,216
+    /// rows of the table are owed then.
     pub fn update_noted(
         &mut self,
         table: TableNumber,
         rows: &[TupleRef],
         assignments: &[Assignment],
-    ) -> Result<Vec<(ColumnNumber, StoredCell)>, Refusal>
+        cells: &mut Vec<(ColumnNumber, StoredCell)>,
+    ) -> Result<(), Refusal>
         requires meant { OfTable table (database_of self.old) (AreAssignable (database_of self.old) assignments.now) }
         requires held { HoldsRows self.old table.0 rows.now }
         requires once { AllPairs (λ q r. q ≢ r) rows.now }
         ensures updated { OnOk result ((picks : PlainRow → Bool) → ArePicked self.old table.0 rows.now picks → HasEffect self.old self.new (doing.update (database_of self.old) table assignments.now picks) (length rows.now)) }
-        ensures noted { IfOk result (λ cells. HasCellsChanged (outline_of self.old) (outline_of self.new) table.0 rows.now (length assignments.now) cells.items) }
+        ensures noted { OnOk result (HaveChanged self.old self.new table.0 rows.now (length assignments.now) cells.old.items cells.new.items) }
         ensures refused { IfErr result (λ refusal. (refusal ≡ Refusal.NoMemory) ⊎ ((picks : PlainRow → Bool) → (doing.update (database_of self.old) table assignments.now picks).outcome ≡ Refused refusal)) }
         ensures unchanged { OnErr result (self.new ≡ self.old) }
+        ensures list { OnErr result (cells.new.items ≡ cells.old.items) }
     {
         let alloc = *self.relations.allocator();
+        let start = cells.len();
         let answer = set_and_note(
             alloc,
             self.relations.as_mut_slice(),
@@ -124,18 +147,10 @@ impl Catalog {
             assignments,
             &mut self.sets,
             &mut self.lost,
+            cells,
         );
+        keep_if_done(cells, start, &answer);
         shed_links(alloc, &mut self.lost, rows.len());
         answer
-    }
-
-    /// So many rows of a table are owed no longer, and none of them is hidden. It takes no memory, and never fails.
-    pub fn forgive(&mut self, table: TableNumber, count: usize)
-        requires owes { OwesRows (outline_of self.old) table.0 count }
-        ensures relations { self.new ≡ record self.old { relations = changed_at (forgiving count) table.0 self.old.relations } }
-        ensures outline { outline_of self.new ≡ with_forgiven table.0 count (outline_of self.old) }
-        ensures database { KeepsDatabase self.old self.new }
-    {
-        self.relations[table.0].forgive(count as u64)
     }
 }

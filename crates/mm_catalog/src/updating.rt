@@ -52,7 +52,8 @@ pub fn push_set(
     sets: &mut Vec<(ColumnNumber, StoredCell)>,
     set: (ColumnNumber, StoredCell),
 ) -> Result<(), NoMemory>
-    ensures { OnOk result (sets.new.items ≡ sets.old.items ++ set ∷ []) }
+    ensures pushed { OnOk result (sets.new.items ≡ sets.old.items ++ set ∷ []) }
+    ensures kept { OnErr result (sets.new.items ≡ sets.old.items) }
 {
     sets.push(set)?;
     Ok(())

@@ -1,12 +1,14 @@
-use Rattle.std.proofs.Common.{◌≡◌, ◌+◌, ◌-◌, Some, IsSome, inr, length, length-set, get_or, set, take, sym, ap, ◌∙◌, subst, arith}
+use Rattle.std.proofs.Common.{◌≡◌, ◌+◌, ◌-◌, Some, IsSome, inr, drop, length, length-set, get_or, set, take, sym, ap, ◌∙◌, subst, arith}
 use Rattle.std.specs.FinMap.{get}
 use Rattle.std.specs.List.{All, slice_get}
+use Rattle.std.proofs.Math.Seq.{drop-append_seam}
 use Rattle.std.proofs.lemmas.List.{get_or_default, set-set, take-set}
 use Rattle.std.proofs.lemmas.Option.{same_Some, slice_get-get_or}
 use Rattle.common_lemmas.proofs.Places.{set_itself, slice_get_set}
 use Rattle.mm_relation.specs.State.{RelationState}
 use Rattle.mm_catalog.specs.Assigned.{AreNotSet, AreToColumns, IsUpdated}
 use Rattle.mm_catalog.specs.Noted.{cells_at, owing}
+use Rattle.mm_catalog.proofs.Noted.{first_of}
 use Rattle.mm_catalog.proofs.Owing.{consistent_aside}
 use Rattle.mm_catalog.proofs.noting.set_and_note.Goals as goal
 use Rattle.mm_catalog.proofs.noting.set_and_note.Goals.{After-index-relations-table-2}
@@ -43,7 +45,7 @@ returns-in-Ok-clause-noted c =
       there = at;
       few = c.owe_rows.ensures.few;
       updated = subst (λ t. IsUpdated (set c.args.relations.now c.args.table.0 t) c.set_rows-answer.new.relations c.args.table.0 c.args.rows.now c.args.assignments.now) c.in_ok-owe_rows.ensures.owed c.in-Ok.ensures.updated;
-      were = c.in_ok-cells.ensures ∙ ap (λ s. cells_at s c.args.assignments.now c.args.rows.now) (get_or_default c.args.relations.now c.args.table.0 c.index-relations-table.result c.index-relations-table-2.result c.requires.there);
+      were = ap (drop (length c.args.cells.now.items)) c.in_ok-copy_rows.ensures.copied ∙ drop-append_seam c.args.cells.now.items (cells_at (get_or c.args.relations.now c.args.table.0 c.index-relations-table.result) c.args.assignments.now c.args.rows.now) ∙ ap (λ s. cells_at s c.args.assignments.now c.args.rows.now) (get_or_default c.args.relations.now c.args.table.0 c.index-relations-table.result c.index-relations-table-2.result c.requires.there);
     }
 
 pub returns-in-Err-clause-unchanged : goal.returns-in-Err-clause-unchanged
@@ -78,3 +80,12 @@ returns-in-Err-clause-refused c =
       subst (λ rs. AreNotSet rs b.targets c.args.assignments.now c.in-Err.refusal) (take-set old n c.owe_rows.new.relation)
           (subst (λ (s : RelationState). AreNotSet (take n (set old n c.owe_rows.new.relation)) s.targets c.args.assignments.now c.in-Err.refusal) same told.2),
     )
+
+pub returns-in_err-owe_rows-clause-others : goal.returns-in_err-owe_rows-clause-others
+returns-in_err-owe_rows-clause-others c = first_of c.args.cells.now.items (cells_at (get_or c.args.relations.now c.args.table.0 c.index-relations-table.result) c.args.assignments.now c.args.rows.now) c.copy_rows.new.cells.items c.in_ok-copy_rows.ensures.copied
+
+pub returns-in-Ok-clause-others : goal.returns-in-Ok-clause-others
+returns-in-Ok-clause-others c = first_of c.args.cells.now.items (cells_at (get_or c.args.relations.now c.args.table.0 c.index-relations-table.result) c.args.assignments.now c.args.rows.now) c.copy_rows.new.cells.items c.in_ok-copy_rows.ensures.copied
+
+pub returns-in-Err-clause-others : goal.returns-in-Err-clause-others
+returns-in-Err-clause-others c = first_of c.args.cells.now.items (cells_at (get_or c.args.relations.now c.args.table.0 c.index-relations-table.result) c.args.assignments.now c.args.rows.now) c.copy_rows.new.cells.items c.in_ok-copy_rows.ensures.copied

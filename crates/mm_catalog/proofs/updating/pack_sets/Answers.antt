@@ -40,7 +40,7 @@ loop-assignment-preserved c =
       refl,
       subst (λ t. IsCellOf before t a.value c.in_ok-cell.cell) c.target_number-target.ensures (subst (IsCellOf before c.target_number-target.result a.value) (sym c.in_ok-cell.ensures) c.in_ok-named.ensures.named),
     ) in
-    let pushed = c.in_ok-push_set.ensures in
+    let pushed = c.in_ok-push_set.ensures.pushed in
     record {
       count = ap length pushed ∙ omega (arith, c.loop-assignment.invariant.count, length_push sets set);
       first = subst (AreFirstSetBy before targets assignments) (sym pushed)
