@@ -1,42 +1,26 @@
 -- The tables of a consistent catalog's outline are its database.
-use Rattle.std.proofs.Common.{◌≡◌, ℕ, suc, List, [], ◌∷◌, Option, Some, None, IsSome, refl, sym, ap, ◌∙◌, subst, length, map}
+use Rattle.std.proofs.Common.{◌≡◌, ℕ, suc, List, [], ◌∷◌, Some, IsSome, refl, sym, ap, ◌∙◌, subst, length, map}
 use Rattle.std.specs.List.{Contains, slice_get, zip}
-use Rattle.std.specs.Option.{option_and_then, option_map}
 use Rattle.std.specs.FinMap as finite
 use Rattle.std.proofs.lemmas.List.Elements.{All-contains}
-use Rattle.std.proofs.lemmas.Option.{slice_get-map}
 use Rattle.common_lemmas.proofs.Elements.{All-at, Contains-from_map, Contains-map}
 use Rattle.part_raw.specs.declared.tuple_ref.TupleRef.{TupleRef}
 use Rattle.part_raw.specs.Store.{Tuples}
 use Rattle.plain_tables.specs.References.{IsSoundTable}
 use Rattle.plain_tables.specs.Tables.{AreRising, Row}
-use Rattle.mm_relation.specs.Reading.{Keys, key_at}
+use Rattle.mm_relation.specs.Reading.{Keys}
 use Rattle.mm_relation.specs.State.{IsKept, RelationState, linked_keys, tree_list}
 use Rattle.mm_catalog.specs.Consistent.{IsConsistent}
-use Rattle.mm_catalog.specs.Linked.{target_at}
 use Rattle.mm_catalog.specs.Outline.{RelationOutline, outline_of, relation_outline}
 use Rattle.mm_catalog.specs.Seen.{database_of, plain_index, rows_of, table_of, values_of}
 use Rattle.mm_catalog.specs.State.{CatalogState}
+use Rattle.mm_catalog.specs.Unindexed.{keys_read}
 use Rattle.mm_catalog.proofs.Among.{among_at}
+use Rattle.mm_catalog.proofs.IndexBack.{keys_outlined}
 use Rattle.mm_catalog.proofs.Outlined.{among_contains, contains_among}
 use Rattle.mm_catalog.proofs.Tables.{database-get}
-use Rattle.mm_transactions.specs.Tables.{keys_read, rows_in, table_in, tables_in}
+use Rattle.mm_transactions.specs.Tables.{rows_in, table_in, tables_in}
 use Rattle.mm_transactions.proofs.KeyOrder.{in_key_order-is}
-
--- ---- keys
-
-key_read : (to : TupleRef) (o : Option RelationState) → option_and_then (λ (s : RelationOutline). key_at s.rows to) (option_map relation_outline o) ≡ option_and_then (λ (s : RelationState). key_at s.rows to) o
-key_read to None = refl
-key_read to (Some s) = refl
-
-key_behind : (relations : List RelationState) (target : Option ℕ) (to : TupleRef)
-    → option_and_then (λ (s : RelationOutline). key_at s.rows to) (option_and_then (slice_get (map relation_outline relations)) target)
-    ≡ option_and_then (λ (s : RelationState). key_at s.rows to) (option_and_then (slice_get relations) target)
-key_behind relations None to = refl
-key_behind relations (Some n) to = ap (option_and_then (λ (s : RelationOutline). key_at s.rows to)) (slice_get-map relation_outline relations n) ∙ key_read to (slice_get relations n)
-
-keys_outlined : (targets : List (Option ℕ)) (relations : List RelationState) → keys_read targets (map relation_outline relations) ≡ linked_keys targets relations
-keys_outlined targets relations = λ i column to. key_behind relations (target_at targets column) to i
 
 -- ---- rows
 

@@ -1,6 +1,7 @@
 -- What stood when so many changes had been noted, as changes are noted and undone.
-use Rattle.std.proofs.Common.{◌≡◌, ◌≢◌, ◌⊎◌, inl, inr, ℕ, suc, ◌<◌, ◌≤◌, true, false, cond, List, [], ◌∷◌, refl, sym, ap, ◌∙◌, subst, arith, length, map}
+use Rattle.std.proofs.Common.{◌≡◌, ◌≢◌, ◌⊎◌, inl, inr, ℕ, ◌<◌, ◌≤◌, true, false, cond, List, [], ◌∷◌, ◌++◌, refl, sym, ap, ◌∙◌, subst, arith, length, map}
 use Rattle.std.proofs.lemmas.Bool.{cond-true, cond-false, lt-ltb, le-ltb}
+use Rattle.std.proofs.lemmas.List.{length-append}
 use Rattle.std.specs.Prelude.{nat_lt, Result, Ok, Err, OnOk, OnErr, IfErr}
 use Rattle.plain_tables.specs.Databases.{Database}
 use Rattle.plain_tables.specs.Effects.{Effect}
@@ -9,13 +10,13 @@ use Rattle.plain_tables.specs.declared.refusal.Refusal.{Refusal}
 use Rattle.plain_tables.specs.declared.refusal.Refusal.TheVariants.{NoMemory}
 use Rattle.mm_catalog.specs.Changes.{IsRefusedFor}
 use Rattle.mm_catalog.specs.Consistent.{IsConsistent}
-use Rattle.mm_catalog.specs.Outline.{Outline, outline_of}
+use Rattle.mm_catalog.specs.Outline.{IsOutline, Outline, outline_of}
 use Rattle.mm_catalog.specs.Seen.{database_of}
 use Rattle.mm_catalog.specs.State.{CatalogState}
-use Rattle.mm_transactions.specs.Log.{IsNoted, IsUndone, LogState}
+use Rattle.mm_transactions.specs.Log.{AreNoted, IsNoted, IsUndone, LogState}
 use Rattle.mm_transactions.specs.State.{IsUndoable, TransactionalState, database_at, saved_of, transactional_of}
 use Rattle.mm_transactions.specs.Tables.{tables_in}
-use Rattle.mm_transactions.specs.Undoing.{AreMarks, CanUndo, Came, Change, Went, Were, Made, Indexed, before, undone}
+use Rattle.mm_transactions.specs.Undoing.{AreMarks, CanUndo, Came, Change, IndexDeclared, IndexDropped, IsReady, LeadBack, TableDeclared, TableDropped, Updated, Went, before, undone}
 use Rattle.mm_transactions.proofs.Tables.{tables_outlined}
 
 -- where no more changes had been noted since, it is what there is
@@ -30,9 +31,11 @@ undone_newest mark c changes o more = cond-false (nat_lt (length changes) mark) 
 before_limits : (c : Change) (o : Outline) → (before c o).limits ≡ o.limits
 before_limits (Came n refs) o = refl
 before_limits (Went n refs) o = refl
-before_limits (Were n refs width cells) o = refl
-before_limits Made o = refl
-before_limits (Indexed n index) o = refl
+before_limits (Updated n refs width cells) o = refl
+before_limits (TableDeclared gained) o = refl
+before_limits (TableDropped table) o = refl
+before_limits (IndexDeclared n index) o = refl
+before_limits (IndexDropped n index) o = refl
 
 undone_limits : (mark : ℕ) (changes : List Change) (o : Outline) → (undone mark changes o).limits ≡ o.limits
 undone_limits mark [] o = refl
@@ -63,30 +66,44 @@ pub no_marks : (f : ℕ → Database) (marks : List ℕ) → map f marks ≡ [] 
 no_marks f [] e = refl
 no_marks f (mark ∷ marks) e = absurd (omega (arith, ap length e))
 
--- where no transaction is open, none is once the catalog was changed
-pub saved_outside : (t : TransactionalState) (c : CatalogState) → saved_of t ≡ [] → saved_of (record t { catalog = c }) ≡ []
-saved_outside t c none = ap (map (database_at (record t { catalog = c }))) (no_marks (database_at t) t.marks none)
+-- ---- changes are noted
 
--- ---- a change is noted
+-- one change more leads back
+pub lead_back_then : (c : Change) (made : List Change) (o mid old : Outline) → IsReady c o → before c o ≡ mid → IsOutline mid → LeadBack made mid old → LeadBack (c ∷ made) o old
+lead_back_then c made o mid old ready back stands lead =
+    (ready, subst IsOutline (sym back) stands, subst (λ (m : Outline). LeadBack made m old) (sym back) lead)
 
-module _ (old new : CatalogState) (ok : IsConsistent old) (log now : LogState) (h : IsUndoable old log.changes log.marks) where
-  pub noted_undoable : 0 < length log.marks → IsNoted (outline_of old) (outline_of new) log now → IsUndoable new now.changes now.marks
-  noted_undoable some noted = record {
-    ready =
-        subst (λ changes. CanUndo changes (outline_of new)) (sym noted.changes)
-        (noted.ready, (old, ok, sym noted.undone), subst (CanUndo log.changes) (sym noted.undone) h.ready);
-    marks_lie =
-        subst (λ changes. AreMarks now.marks (length changes)) (sym noted.changes)
-        (subst (λ marks. AreMarks marks (suc (length log.changes))) (sym noted.marks)
-        (marks_rise log.marks (length log.changes) (suc (length log.changes)) some (omega arith) h.marks_lie));
-  }
+lead_back_can : (made changes : List Change) (o old : Outline) → LeadBack made o old → CanUndo changes old → CanUndo (made ++ changes) o
+lead_back_can [] changes o old lead can = subst (CanUndo changes) (sym lead) can
+lead_back_can (c ∷ made) changes o old lead can = (lead.0, lead.1, lead_back_can made changes (before c o) old lead.2 can)
 
-  pub noted_saves : IsNoted (outline_of old) (outline_of new) log now
-      → saved_of (record { catalog = new; changes = now.changes; marks = now.marks }) ≡ saved_of (record { catalog = old; changes = log.changes; marks = log.marks })
-  noted_saves noted =
-      (λ i. map (λ m. tables_in (undone m (noted.changes i) (outline_of new))) (noted.marks i))
-      ∙ saved_alike (λ m. tables_in (undone m (noted.change ∷ log.changes) (outline_of new))) (λ m. tables_in (undone m log.changes (outline_of old))) log.marks (length log.changes) h.marks_lie
-      (λ m below. ap tables_in (undone_newest m noted.change log.changes (outline_of new) below ∙ ap (undone m log.changes) noted.undone))
+lead_back_undone : (m : ℕ) (made changes : List Change) (o old : Outline) → LeadBack made o old → m ≤ length changes → undone m (made ++ changes) o ≡ undone m changes old
+lead_back_undone m [] changes o old lead below = ap (undone m changes) lead
+lead_back_undone m (c ∷ made) changes o old lead below =
+    undone_newest m c (made ++ changes) o (omega (arith, below, length-append made changes)) ∙ lead_back_undone m made changes (before c o) old lead.2 below
+
+module _ (old new : CatalogState) (log now : LogState) where
+  pub noted_one : IsConsistent old → IsNoted (outline_of old) (outline_of new) log now → AreNoted (outline_of old) (outline_of new) log now
+  noted_one ok noted =
+      record { made = noted.change ∷ []; undone = (noted.ready, (old, ok, sym noted.undone), noted.undone); changes = noted.changes; marks = noted.marks }
+
+  module _ (h : IsUndoable old log.changes log.marks) (noted : AreNoted (outline_of old) (outline_of new) log now) where
+    noted_undoable : 0 < length log.marks → IsUndoable new now.changes now.marks
+    noted_undoable some =
+        let more : length log.changes ≤ length (noted.made ++ log.changes) = omega (arith, length-append noted.made log.changes) in
+        record {
+          ready = subst (λ changes. CanUndo changes (outline_of new)) (sym noted.changes) (lead_back_can noted.made log.changes (outline_of new) (outline_of old) noted.undone h.ready);
+          marks_lie =
+              subst (λ changes. AreMarks now.marks (length changes)) (sym noted.changes)
+              (subst (λ marks. AreMarks marks (length (noted.made ++ log.changes))) (sym noted.marks)
+              (marks_rise log.marks (length log.changes) (length (noted.made ++ log.changes)) some more h.marks_lie));
+        }
+
+    noted_saves : saved_of (record { catalog = new; changes = now.changes; marks = now.marks }) ≡ saved_of (record { catalog = old; changes = log.changes; marks = log.marks })
+    noted_saves =
+        (λ i. map (λ m. tables_in (undone m (noted.changes i) (outline_of new))) (noted.marks i))
+        ∙ saved_alike (λ m. tables_in (undone m (noted.made ++ log.changes) (outline_of new))) (λ m. tables_in (undone m log.changes (outline_of old))) log.marks (length log.changes) h.marks_lie
+        (λ m below. ap tables_in (lead_back_undone m noted.made log.changes (outline_of new) (outline_of old) noted.undone below))
 
 -- where the outline is the same, so is what stood at each mark
 module _ (old new : CatalogState) (same : outline_of new ≡ outline_of old) (changes : List Change) (marks : List ℕ) where
@@ -165,13 +182,13 @@ module _ (c : CatalogState) (log now : LogState) (marks : now.marks ≡ log.mark
   settled_same h (m ∷ ms) e = inside (some_open m ms e)
 
 -- the outermost transaction ends with nothing noted, and an inner one leaves all
-module _ (c d : CatalogState) (log mid now : LogState) (kept_marks : mid.marks ≡ log.marks) (kept : log.marks ≢ [] → (mid ≡ log) × (d ≡ c)) (database : database_of d ≡ database_of c)
-    (marks : now.marks ≡ mid.marks) (inside : mid.marks ≢ [] → now ≡ mid) (outside : mid.marks ≡ [] → now.changes ≡ []) where
+module _ (c d : CatalogState) (log now : LogState) (database : database_of d ≡ database_of c)
+    (marks : now.marks ≡ log.marks) (inside : log.marks ≢ [] → (now ≡ log) × (d ≡ c)) (outside : log.marks ≡ [] → now.changes ≡ []) where
   pub committed_so : (old : LogState) (mark : ℕ) → IsUndoable c old.changes old.marks → log.changes ≡ old.changes → old.marks ≡ mark ∷ log.marks → (ms : List ℕ) → log.marks ≡ ms
       → IsUndoable d now.changes now.marks × (transactional_of (record { catalog = d; changes = now.changes; marks = now.marks }) ≡ committed (transactional_of (record { catalog = c; changes = old.changes; marks = old.marks })))
   committed_so old mark h changes were [] e =
-      let none = marks ∙ kept_marks ∙ e in
-      let nothing = outside (kept_marks ∙ e) in
+      let none = marks ∙ e in
+      let nothing = outside e in
       let one = were ∙ ap (λ ms. mark ∷ ms) e in (
         subst (IsUndoable d now.changes) (sym none) (subst (λ cs. IsUndoable d cs []) (sym nothing) (record { ready = tt; marks_lie = refl })),
         ap (λ ms. transactional_of (record { catalog = d; changes = now.changes; marks = ms })) none
@@ -179,14 +196,12 @@ module _ (c d : CatalogState) (log mid now : LogState) (kept_marks : mid.marks �
             ∙ sym (ap (λ ms. committed (transactional_of (record { catalog = c; changes = old.changes; marks = ms }))) one),
       )
   committed_so old mark h changes were (m ∷ ms) e =
-      let some : log.marks ≢ [] = λ none. absurd (omega (arith, ap length (sym none ∙ e))) in
-      let left = kept some in
-      let same : now ≡ log = inside (λ none. some (sym kept_marks ∙ none)) ∙ left.0 in
+      let left = inside (λ none. absurd (omega (arith, ap length (sym none ∙ e)))) in
       let open_still : 0 < length log.marks = omega (arith, ap length e) in
       subst (λ (x : CatalogState). IsUndoable x now.changes now.marks × (transactional_of (record { catalog = x; changes = now.changes; marks = now.marks }) ≡ committed (transactional_of (record { catalog = c; changes = old.changes; marks = old.marks }))))
       (sym left.1)
       (subst (λ (l : LogState). IsUndoable c l.changes l.marks × (transactional_of (record { catalog = c; changes = l.changes; marks = l.marks }) ≡ committed (transactional_of (record { catalog = c; changes = old.changes; marks = old.marks }))))
-      (sym same) (
+      (sym left.0) (
         subst (λ cs. IsUndoable c cs log.marks) (sym changes) (committed_undoable c old.changes mark log.marks (subst (IsUndoable c old.changes) were h) open_still),
         ap (λ cs. transactional_of (record { catalog = c; changes = cs; marks = log.marks })) changes
             ∙ sym (ap (λ ms. committed (transactional_of (record { catalog = c; changes = old.changes; marks = ms }))) were),
@@ -207,14 +222,21 @@ module _ (c d : CatalogState) (log now : LogState) (h : IsUndoable c log.changes
         rolled_back_limits c log.changes mark marks undoable d ok now.changes count earlier,
       )
 
+  pub all_changed_so : {X Y : Type 0} (r : Result X Y) → 0 < length log.marks → OnOk r (AreNoted (outline_of c) (outline_of d) log now)
+      → OnErr r (outline_of d ≡ outline_of c) → OnErr r (now ≡ log)
+      → IsUndoable d now.changes now.marks
+      × (saved_of (record { catalog = d; changes = now.changes; marks = now.marks }) ≡ saved_of (record { catalog = c; changes = log.changes; marks = log.marks }))
+  all_changed_so (Ok x) some noted outline same = (noted_undoable c d log now h noted some, noted_saves c d log now h noted)
+  all_changed_so (Err e) some noted outline same =
+      subst (λ (l : LogState). IsUndoable d l.changes l.marks × (saved_of (record { catalog = d; changes = l.changes; marks = l.marks }) ≡ saved_of (record { catalog = c; changes = log.changes; marks = log.marks })))
+      (sym same) (same_undoable c d outline log.changes log.marks h, same_saves c d outline log.changes log.marks)
+
   pub changed_so : {X Y : Type 0} (r : Result X Y) → IsConsistent c → 0 < length log.marks → OnOk r (IsNoted (outline_of c) (outline_of d) log now)
       → OnErr r (outline_of d ≡ outline_of c) → OnErr r (now ≡ log)
       → IsUndoable d now.changes now.marks
       × (saved_of (record { catalog = d; changes = now.changes; marks = now.marks }) ≡ saved_of (record { catalog = c; changes = log.changes; marks = log.marks }))
-  changed_so (Ok x) ok some noted outline same = (noted_undoable c d ok log now h some noted, noted_saves c d ok log now h noted)
-  changed_so (Err e) ok some noted outline same =
-      subst (λ (l : LogState). IsUndoable d l.changes l.marks × (saved_of (record { catalog = d; changes = l.changes; marks = l.marks }) ≡ saved_of (record { catalog = c; changes = log.changes; marks = log.marks })))
-      (sym same) (same_undoable c d outline log.changes log.marks h, same_saves c d outline log.changes log.marks)
+  changed_so {X = X} {Y = Y} (Ok x) ok some noted outline same = all_changed_so {X = X} {Y = Y} (Ok x) some (noted_one c d log now ok noted) outline same
+  changed_so {X = X} {Y = Y} (Err e) ok some noted outline same = all_changed_so {X = X} {Y = Y} (Err e) some noted outline same
 
 -- where a transaction is open, so is what it began with kept
 pub saved_some : (t : TransactionalState) → 0 < length t.marks → saved_of t ≢ []
@@ -239,11 +261,3 @@ kept_outline c d (Err e) kept = ap outline_of kept
 pub refused_outline : (c d : CatalogState) (effect : Effect) {X : Type 0} (r : Result X Refusal) → IfErr r (IsRefusedFor c d effect) → OnErr r (outline_of d ≡ outline_of c)
 refused_outline c d effect (Ok x) refused = refused
 refused_outline c d effect (Err e) refused = ap outline_of refused.0
-
--- outside a transaction any catalog will do
-pub outside_undoable : (c d : CatalogState) (changes : List Change) (marks : List ℕ) → IsUndoable c changes marks
-    → saved_of (record { catalog = c; changes = changes; marks = marks }) ≡ [] → IsUndoable d changes marks
-outside_undoable c d changes marks h none =
-    let no_mark = no_marks (database_at (record { catalog = c; changes = changes; marks = marks })) marks none in
-    let nothing = none_noted changes (subst (λ ms. AreMarks ms (length changes)) no_mark h.marks_lie) in
-    subst (IsUndoable d changes) (sym no_mark) (subst (λ cs. IsUndoable d cs []) (sym nothing) (record { ready = tt; marks_lie = refl }))

@@ -1,17 +1,12 @@
 -- The database of plain tables that an outline is.
-use Rattle.std.specs.Prelude.{ℕ, List, [], ◌∷◌, Option, length, map, slice_get, zip}
-use Rattle.std.specs.Option.{option_and_then}
+use Rattle.std.specs.Prelude.{ℕ, List, [], ◌∷◌, length, map, zip}
 use Rattle.std.specs.FinMap as finite
 use Rattle.plain_tables.specs.Databases.{Database}
 use Rattle.plain_tables.specs.Tables.{Row, Table, with_row}
-use Rattle.mm_relation.specs.Reading.{Keys, key_at}
-use Rattle.mm_catalog.specs.Linked.{target_at}
+use Rattle.mm_relation.specs.Reading.{Keys}
 use Rattle.mm_catalog.specs.Outline.{Outline, RelationOutline}
 use Rattle.mm_catalog.specs.Seen.{plain_index, values_of}
-
--- the keys of the rows that links lead to
-abbrev pub keys_read : List (Option ℕ) → List RelationOutline → Keys
-keys_read targets relations column to = option_and_then (λ s. key_at s.rows to) (option_and_then (slice_get relations) (target_at targets column))
+use Rattle.mm_catalog.specs.Unindexed.{keys_read}
 
 -- rows put in, one after the other, each at the place of its key
 abbrev pub in_key_order : List Row → List Row

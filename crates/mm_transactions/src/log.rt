@@ -1,13 +1,16 @@
 //! What was done in the open transactions, and how it is undone.
-ghost use Rattle.std.specs.Prelude.{Bool, ◌≡◌, ◌≢◌, ◌⊎◌, ◌+◌, ◌<◌, ◌≤◌, ◌∷◌, ◌++◌, ℕ, [], MatchOption, IfErr, OnOk, OnErr, length, vec_capacity};
+ghost use Rattle.std.specs.Prelude.{Bool, true, ◌≡◌, ◌≢◌, ◌⊎◌, ◌+◌, ◌<◌, ◌≤◌, ◌∷◌, ◌++◌, ℕ, [], MatchOption, IfErr, OnOk, OnErr, List, length, vec_capacity};
 ghost use Rattle.std.specs.List.{AllPairs};
+ghost use Rattle.part_raw.specs.declared.tuple_ref.TupleRef.{TupleRef};
+ghost use Rattle.mm_catalog.specs.Assigned.{CellSet};
 ghost use Rattle.mm_catalog.specs.Outline.{IsOutline, outline_of};
-ghost use Rattle.mm_transactions.specs.Log.{AreSettled, change_of};
-ghost use Rattle.mm_transactions.specs.Undoing.{IsOwed, IsReady, before, settled};
+ghost use Rattle.mm_transactions.specs.Log.{change_of};
+ghost use Rattle.mm_transactions.specs.Undoing.{IsReady, before, keeps_tables};
 
-use mm_catalog::Catalog;
+use crate::lodged::{Lodged, Lodging};
 use mm_catalog::laws::a_catalog_is_consistent;
-use mm_relation::StoredCell;
+use mm_catalog::{Catalog, DroppedTable};
+use mm_relation::{DroppedIndex, StoredCell};
 use no_memory::NoMemory;
 use part_raw::TupleRef;
 use plain_tables::{
@@ -24,26 +27,49 @@ pub enum Kind {
     Came,
     /// Rows went out, and are hidden.
     Went,
-    /// Values were assigned to rows. What stood in their cells: so many of each row, one row's behind the other's.
-    Were {
+    /// Values were assigned to rows, to so many cells of each.
+    Updated {
         width: usize,
-        cells: Vec<(ColumnNumber, StoredCell)>,
     },
-    /// It was made, and stood last.
-    Made,
+    /// It was declared, and stood last. These tables count links since.
+    TableDeclared {
+        gained: Vec<TableNumber>,
+    },
+    /// It was dropped, with no rows left but hidden ones.
+    TableDropped {
+        dropped: Lodged<DroppedTable>,
+    },
     /// An index of it was declared.
-    Indexed {
+    IndexDeclared {
         column: ColumnNumber,
         kind: IndexKind,
     },
+    /// An index of it was dropped.
+    IndexDropped {
+        dropped: Lodged<DroppedIndex>,
+    },
 }
 
-/// A command that was done. The references of its rows stand in the log's list from `start` to the next step's.
+impl Kind {
+    // Whether it left which tables there are, and their columns.
+    fn keeps_tables(&self) -> bool
+        ensures { (n : ℕ) (refs : List TupleRef) (cells : List CellSet) → result ≡ keeps_tables (change_of self.now n refs cells) }
+    {
+        match self {
+            Kind::TableDeclared { .. } | Kind::TableDropped { .. } => false,
+            _ => true,
+        }
+    }
+}
+
+/// A command that was done. The references of its rows stand in the log's list from `start` to the next step's, and what stood in
+/// cells of theirs that it changed from `cells_start`, one row's behind the other's.
 #[derive(Drop)]
 pub struct Step {
     kind: Kind,
     table: TableNumber,
     start: usize,
+    cells_start: usize,
 }
 
 const _: () = prove!(size_of::<Step>() == 56);
@@ -57,19 +83,29 @@ pub struct UndoLog {
     steps: Vec<Step>,
     // The references of all steps, one behind the other.
     refs: Vec<TupleRef>,
+    // What stood in the cells that all steps changed, one behind the other.
+    cells: Vec<(ColumnNumber, StoredCell)>,
     // How many steps there were when each transaction began, the innermost last.
     marks: Vec<usize>,
 }
 
 impl Model for UndoLog {
     ghost use Rattle.std.specs.Prelude.{reverse, length};
-    ghost use Rattle.mm_transactions.specs.Log.{LogState, changes_of, AreSteps};
+    ghost use Rattle.plain_tables.specs.contracts.numbers.ColumnNumber.{the_row as column_row};
+    ghost use Rattle.mm_relation.specs.contracts.numbers.DeclaredIndex.{the_row as index_row};
+    ghost use Rattle.mm_relation.specs.contracts.row.Cell.{the_row as cell_row};
+    ghost use Rattle.mm_relation.specs.contracts.taken.DroppedIndex.{the_row as dropped_row};
+    ghost use Rattle.mm_catalog.specs.contracts.dropped_table.DroppedTable.{the_row as table_row};
+    ghost use Rattle.mm_transactions.specs.Log.{LogState, changes_of, AreSteps, log_code};
+    ghost use Rattle.mm_transactions.specs.Parts.{change_code};
 
     ghost Value = { LogState };
 
-    ghost view = { λ l. record { changes = changes_of (reverse l.steps.items) l.refs.items; marks = reverse l.marks.items } };
+    ghost coded = { log_code (change_code column_row.coded cell_row.coded table_row.coded index_row.coded dropped_row.coded) };
 
-    ghost invariant = { λ l. AreSteps (reverse l.steps.items) (length l.refs.items) };
+    ghost view = { λ l. record { changes = changes_of (reverse l.steps.items) l.refs.items l.cells.items; marks = reverse l.marks.items } };
+
+    ghost invariant = { λ l. AreSteps (reverse l.steps.items) (length l.refs.items) (length l.cells.items) };
 }
 
 impl UndoLog {
@@ -82,8 +118,9 @@ impl UndoLog {
     ghost use Rattle.plain_tables.specs.Doing as doing;
     ghost use Rattle.plain_tables.specs.Effects.{Refused};
     ghost use Rattle.plain_tables.specs.Tables.{Row};
-    ghost use Rattle.mm_transactions.specs.Log.{IsNoted, IsSettledOnce, IsUndone};
-    ghost use Rattle.mm_transactions.specs.Undoing.{CanSettle, CanUndo, all_settled, undone};
+    ghost use Rattle.mm_catalog.specs.Settled.{settled_catalog};
+    ghost use Rattle.mm_transactions.specs.Log.{AreNoted, AreSettled, IsNoted, IsUndone};
+    ghost use Rattle.mm_transactions.specs.Undoing.{CanUndo, HaveSameTables, undone};
 
     /// No steps, and no transaction. It takes no memory.
     pub fn new(alloc: Global) -> UndoLog
@@ -93,6 +130,7 @@ impl UndoLog {
         UndoLog {
             steps: Vec::new(alloc),
             refs: Vec::new(alloc),
+            cells: Vec::new(alloc),
             marks: Vec::new(alloc),
         }
     }
@@ -130,7 +168,7 @@ impl UndoLog {
     }
 
     /// If no transaction is open, forgets the steps, and frees the memory that they took if it is much.
-    pub fn settle(&mut self)
+    pub fn forget(&mut self)
         ensures marks { self.new.marks ≡ self.old.marks }
         ensures inside { self.old.marks ≢ [] → self.new ≡ self.old }
         ensures outside { self.old.marks ≡ [] → self.new.changes ≡ [] }
@@ -138,7 +176,22 @@ impl UndoLog {
         if self.marks.is_empty() {
             empty_list(&mut self.steps);
             empty_list(&mut self.refs);
+            empty_list(&mut self.cells);
         }
+    }
+
+    /// If no transaction is open, lets go what the steps set aside in the catalog, and forgets them. It takes no memory.
+    pub fn settle(&mut self, catalog: &mut Catalog)
+        ensures marks { self.new.marks ≡ self.old.marks }
+        ensures inside { self.old.marks ≢ [] → (self.new ≡ self.old) × (catalog.new ≡ catalog.old) }
+        ensures outside { self.old.marks ≡ [] → (self.new.changes ≡ []) × (catalog.new ≡ settled_catalog catalog.old) }
+        ensures catalog { AreSettled catalog.old catalog.new }
+    {
+        if !self.marks.is_empty() {
+            return;
+        }
+        catalog.settle();
+        self.forget();
     }
 
     /// Inserts a row into a table of a catalog, and notes it.
@@ -160,6 +213,7 @@ impl UndoLog {
             kind: Kind::Came,
             table,
             start: self.refs.len(),
+            cells_start: self.cells.len(),
         };
         self.refs.push_reserved(r);
         self.steps.push_reserved(step);
@@ -182,11 +236,13 @@ impl UndoLog {
     {
         make_room(&mut self.steps, &mut self.refs, 0)?;
         let start = self.refs.len();
+        let cells_start = self.cells.len();
         catalog.load_listed(table, rows, &mut self.refs)?;
         self.steps.push_reserved(Step {
             kind: Kind::Came,
             table,
             start,
+            cells_start,
         });
         Ok(())
     }
@@ -210,11 +266,13 @@ impl UndoLog {
         make_room(&mut self.steps, &mut self.refs, rows.len())?;
         catalog.hide(table, rows)?;
         let start = self.refs.len();
+        let cells_start = self.cells.len();
         note_rows(&mut self.refs, rows);
         self.steps.push_reserved(Step {
             kind: Kind::Went,
             table,
             start,
+            cells_start,
         });
         Ok(())
     }
@@ -237,16 +295,17 @@ impl UndoLog {
         ensures unchanged { OnErr result (self.new ≡ self.old) }
     {
         make_room(&mut self.steps, &mut self.refs, rows.len())?;
-        let cells = catalog.update_noted(table, rows, assignments)?;
         let start = self.refs.len();
+        let cells_start = self.cells.len();
+        catalog.update_noted(table, rows, assignments, &mut self.cells)?;
         note_rows(&mut self.refs, rows);
         self.steps.push_reserved(Step {
-            kind: Kind::Were {
+            kind: Kind::Updated {
                 width: assignments.len(),
-                cells,
             },
             table,
             start,
+            cells_start,
         });
         Ok(())
     }
@@ -266,12 +325,47 @@ impl UndoLog {
     {
         self.steps.reserve(1)?;
         let table = TableNumber(catalog.table_count());
-        catalog.create(name, schema)?;
+        let gained = catalog.create_noted(name, schema)?;
         let start = self.refs.len();
+        let cells_start = self.cells.len();
         self.steps.push_reserved(Step {
-            kind: Kind::Made,
+            kind: Kind::TableDeclared { gained },
             table,
             start,
+            cells_start,
+        });
+        Ok(())
+    }
+
+    /// Drops a table of a catalog, to which no column refers, and notes it: its rows are hidden, and then it is taken out.
+    pub fn drop_table(&mut self, catalog: &mut Catalog, table: TableNumber) -> Result<(), NoMemory>
+        requires { IsMeant catalog.old.limits (database_of catalog.old) (resolved.DropTable table) }
+        ensures done { OnOk result (IsDone catalog.old catalog.new (resolved.DropTable table)) }
+        ensures noted { OnOk result (AreNoted (outline_of catalog.old) (outline_of catalog.new) self.old self.new) }
+        ensures kept { OnErr result (catalog.new ≡ catalog.old) }
+        ensures unchanged { OnErr result (self.new ≡ self.old) }
+    {
+        a_catalog_is_consistent(catalog);
+        self.steps.reserve(2)?;
+        let lodging = Lodging::new(*self.steps.allocator())?;
+        let room = catalog.room_for_table()?;
+        let start = self.refs.len();
+        let cells_start = self.cells.len();
+        catalog.empty_table(table, &mut self.refs)?;
+        self.steps.push_reserved(Step {
+            kind: Kind::Went,
+            table,
+            start,
+            cells_start,
+        });
+        a_catalog_is_consistent(catalog);
+        let dropped = lodging.put(catalog.take_table_out(table, room));
+        let end = self.refs.len();
+        self.steps.push_reserved(Step {
+            kind: Kind::TableDropped { dropped },
+            table,
+            start: end,
+            cells_start,
         });
         Ok(())
     }
@@ -293,99 +387,107 @@ impl UndoLog {
         self.steps.reserve(1)?;
         catalog.add_index(table, column, kind)?;
         let start = self.refs.len();
+        let cells_start = self.cells.len();
         self.steps.push_reserved(Step {
-            kind: Kind::Indexed { column, kind },
+            kind: Kind::IndexDeclared { column, kind },
             table,
             start,
+            cells_start,
         });
         Ok(())
     }
 
-    // Settles the newest step: what it sets aside is let go, and it is noted no longer. It takes no memory.
-    fn settle_newest(&mut self, catalog: &mut Catalog)
-        requires some { 0 < length self.old.changes }
-        requires ready { CanSettle self.old.changes (outline_of catalog.old) }
-        ensures settled { IsSettledOnce catalog.old catalog.new self.old self.new }
+    /// Drops an index of a table of a catalog, and notes it where there is one.
+    pub fn drop_index(
+        &mut self,
+        catalog: &mut Catalog,
+        table: TableNumber,
+        column: ColumnNumber,
+        kind: IndexKind,
+    ) -> Result<(), NoMemory>
+        requires { IsMeant catalog.old.limits (database_of catalog.old) (resolved.DropIndex table column kind) }
+        ensures done { OnOk result (IsDone catalog.old catalog.new (resolved.DropIndex table column kind)) }
+        ensures noted { OnOk result (AreNoted (outline_of catalog.old) (outline_of catalog.new) self.old self.new) }
+        ensures kept { OnErr result (catalog.new ≡ catalog.old) }
+        ensures unchanged { OnErr result (self.new ≡ self.old) }
     {
-        let Some(step) = self.steps.pop() else {
-            unreachable!();
-        };
-        settle_step(catalog, step.kind, step.table, &self.refs[step.start..]);
-        self.refs.truncate(step.start);
-    }
-
-    /// If no transaction is open, settles all steps: what they set aside is let go, and they are noted no longer. It takes no
-    /// memory, and never fails.
-    pub fn settle_all(&mut self, catalog: &mut Catalog)
-        requires ready { CanSettle self.old.changes (outline_of catalog.old) }
-        ensures marks { self.new.marks ≡ self.old.marks }
-        ensures inside { self.old.marks ≢ [] → (self.new ≡ self.old) × (catalog.new ≡ catalog.old) }
-        ensures outside { self.old.marks ≡ [] → self.new.changes ≡ [] }
-        ensures settled { self.old.marks ≡ [] → outline_of catalog.new ≡ all_settled self.old.changes (outline_of catalog.old) }
-        ensures catalog { AreSettled catalog.old catalog.new }
-    {
-        if !self.marks.is_empty() {
-            return;
+        if !catalog.has_index(table, column, kind) {
+            return Ok(());
         }
-        while self.len() > 0 {
-            self.settle_newest(catalog);
-        }
+        a_catalog_is_consistent(catalog);
+        self.steps.reserve(1)?;
+        let lodging = Lodging::new(*self.steps.allocator())?;
+        let dropped = lodging.put(catalog.take_index_out(table, column, kind)?);
+        let start = self.refs.len();
+        let cells_start = self.cells.len();
+        self.steps.push_reserved(Step {
+            kind: Kind::IndexDropped { dropped },
+            table,
+            start,
+            cells_start,
+        });
+        Ok(())
     }
 
     // Undoes the newest step. It takes no memory.
-    fn undo_newest(&mut self, catalog: &mut Catalog)
+    fn undo_newest(&mut self, catalog: &mut Catalog) -> bool
         requires some { 0 < length self.old.changes }
         requires ready { CanUndo self.old.changes (outline_of catalog.old) }
         ensures undone { IsUndone (outline_of catalog.old) (outline_of catalog.new) self.old self.new }
+        ensures tables { result ≡ true → HaveSameTables (outline_of catalog.old) (outline_of catalog.new) }
     {
         let Some(step) = self.steps.pop() else {
             unreachable!();
         };
-        undo_step(catalog, step.kind, step.table, &self.refs[step.start..]);
+        let keeps = step.kind.keeps_tables();
+        let rows = &self.refs[step.start..];
+        let cells = &mut self.cells[step.cells_start..];
+        undo_step(catalog, step.kind, step.table, rows, cells);
         self.refs.truncate(step.start);
+        self.cells.truncate(step.cells_start);
+        keeps
     }
 
-    /// Undoes steps, the newest first, until so many are left. It takes no memory, and never fails.
-    pub fn undo_to(&mut self, catalog: &mut Catalog, mark: usize)
+    /// Undoes steps, the newest first, until so many are left. It takes no memory, and never fails. It tells whether which tables
+    /// there are, and their columns, stayed as they were, which is so where none was declared or dropped.
+    pub fn undo_to(&mut self, catalog: &mut Catalog, mark: usize) -> bool
         requires within { mark ≤ length self.old.changes }
         requires ready { CanUndo self.old.changes (outline_of catalog.old) }
         ensures ready { CanUndo self.new.changes (outline_of catalog.new) }
         ensures left { length self.new.changes ≡ mark }
         ensures marks { self.new.marks ≡ self.old.marks }
         ensures earlier { (m : ℕ) → m ≤ mark → undone m self.new.changes (outline_of catalog.new) ≡ undone m self.old.changes (outline_of catalog.old) }
+        ensures tables { result ≡ true → HaveSameTables (outline_of catalog.old) (outline_of catalog.new) }
     {
+        let mut kept = true;
         while self.len() > mark {
-            self.undo_newest(catalog);
+            kept = self.undo_newest(catalog) && kept;
         }
+        kept
     }
 }
 
-// Undoes what a step did to a table, and to these rows of it. It takes no memory.
-fn undo_step(catalog: &mut Catalog, kind: Kind, table: TableNumber, rows: &[TupleRef])
-    requires ready { IsReady (change_of kind table.0 rows.now) (outline_of catalog.old) }
-    requires stands { IsOutline (before (change_of kind table.0 rows.now) (outline_of catalog.old)) }
-    ensures { outline_of catalog.new ≡ before (change_of kind table.0 rows.now) (outline_of catalog.old) }
+// Undoes what a step did to a table, and to these rows of it, in which these cells stood. It takes no memory.
+fn undo_step(
+    catalog: &mut Catalog,
+    kind: Kind,
+    table: TableNumber,
+    rows: &[TupleRef],
+    cells: &mut [(ColumnNumber, StoredCell)],
+)
+    requires ready { IsReady (change_of kind table.0 rows.now cells.old) (outline_of catalog.old) }
+    requires stands { IsOutline (before (change_of kind table.0 rows.now cells.old) (outline_of catalog.old)) }
+    ensures { outline_of catalog.new ≡ before (change_of kind table.0 rows.now cells.old) (outline_of catalog.old) }
 {
     a_catalog_is_consistent(catalog);
     match kind {
         Kind::Came => catalog.take_back(table, rows),
         Kind::Went => catalog.show(table, rows),
-        Kind::Were { width, mut cells } => catalog.change_back(table, rows, width, &mut cells),
-        Kind::Made => catalog.take_back_table(),
-        Kind::Indexed { column, kind } => catalog.drop_index(table, column, kind),
-    }
-}
-
-// Settles what a step did to a table, and to these rows of it. It takes no memory.
-fn settle_step(catalog: &mut Catalog, kind: Kind, table: TableNumber, rows: &[TupleRef])
-    requires { IsOwed (change_of kind table.0 rows.now) (outline_of catalog.old) }
-    ensures outline { outline_of catalog.new ≡ settled (change_of kind table.0 rows.now) (outline_of catalog.old) }
-    ensures catalog { AreSettled catalog.old catalog.new }
-{
-    match kind {
-        Kind::Came | Kind::Made | Kind::Indexed { .. } => {}
-        Kind::Went => catalog.drop_hidden(table, rows),
-        Kind::Were { .. } => catalog.forgive(table, rows.len()),
+        Kind::Updated { width } => catalog.change_back(table, rows, width, cells),
+        Kind::TableDeclared { gained } => catalog.take_back_table(gained.as_slice()),
+        Kind::TableDropped { dropped } => catalog.put_table_back(dropped.take()),
+        Kind::IndexDeclared { column, kind } => catalog.drop_index(table, column, kind),
+        Kind::IndexDropped { dropped } => catalog.put_index_back(table, dropped.take()),
     }
 }
 

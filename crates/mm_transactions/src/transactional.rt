@@ -1,7 +1,6 @@
 //! A catalog with transactions.
-ghost use Rattle.std.specs.Prelude.{Bool, ◌≡◌, ◌≢◌, ◌⊎◌, ◌<◌, ◌≤◌, [], IfErr, OnOk, OnErr, length};
+ghost use Rattle.std.specs.Prelude.{Bool, true, ◌≡◌, ◌≢◌, ◌⊎◌, ◌<◌, ◌≤◌, [], IsOk, IfErr, Ok, OnOk, OnErr, length, map};
 ghost use Rattle.std.specs.List.{AllPairs};
-ghost use Rattle.std.specs.Borrow.{sem};
 
 use crate::log::UndoLog;
 use crate::no_transaction::NoTransaction;
@@ -27,12 +26,15 @@ impl Model for TransactionalCatalog {
     ghost use Rattle.plain_tables.specs.contracts.numbers.ColumnNumber.{the_row as column_row};
     ghost use Rattle.mm_relation.specs.contracts.numbers.DeclaredIndex.{the_row as index_row};
     ghost use Rattle.mm_relation.specs.contracts.row.Cell.{the_row as cell_row};
+    ghost use Rattle.mm_relation.specs.contracts.taken.DroppedIndex.{the_row as dropped_row};
     ghost use Rattle.mm_catalog.specs.contracts.catalog.Catalog.{the_row as catalog_row};
+    ghost use Rattle.mm_catalog.specs.contracts.dropped_table.DroppedTable.{the_row as table_row};
+    ghost use Rattle.mm_transactions.specs.Parts.{change_code};
     ghost use Rattle.mm_transactions.specs.State.{TransactionalState, IsUndoable, state_code};
 
     ghost Value = { TransactionalState };
 
-    ghost coded = { state_code catalog_row.coded column_row.coded cell_row.coded index_row.coded };
+    ghost coded = { state_code catalog_row.coded (change_code column_row.coded cell_row.coded table_row.coded index_row.coded dropped_row.coded) };
 
     ghost view = { λ t. record { catalog = t.catalog; changes = t.log.changes; marks = t.log.marks } };
 
@@ -41,20 +43,18 @@ impl Model for TransactionalCatalog {
 
 impl TransactionalCatalog {
     ghost use Rattle.plain_tables.specs.Doing.{done};
-    ghost use Rattle.plain_tables.specs.ResolvedLaws.{AreAssignable, IsMeant, OfTable};
+    ghost use Rattle.plain_tables.specs.ResolvedLaws.{AreAssignable, IsMeant, OfTable, emptied};
     ghost use Rattle.plain_tables.specs.Transactions.{begun, committed, rolled_back};
     ghost use Rattle.plain_tables.specs.declared.resolved.Resolved.TheVariants as resolved;
     ghost use Rattle.mm_catalog.specs.Changes.{IsDone, HasEffect, IsRefusedFor, IsDeclinedFor};
-    ghost use Rattle.mm_catalog.specs.Outline.{outline_of};
     ghost use Rattle.mm_catalog.specs.Picked.{ArePicked, HoldsRows};
     ghost use Rattle.mm_catalog.specs.Seen.{database_of};
+    ghost use Rattle.mm_catalog.specs.Settled.{settled_catalog};
     ghost use Rattle.plain_tables.specs.Doing as doing;
     ghost use Rattle.plain_tables.specs.Effects.{Refused};
     ghost use Rattle.plain_tables.specs.Tables.{Row};
-    ghost use Rattle.mm_transactions.specs.Lent.{LendsCatalog};
     ghost use Rattle.mm_transactions.specs.Log.{AreSettled};
     ghost use Rattle.mm_transactions.specs.State.{saved_of, transactional_of};
-    ghost use Rattle.mm_transactions.specs.Undoing.{all_settled};
 
     /// No tables, under these limits, and no transaction. It takes no memory.
     pub fn new(alloc: Global, limits: Limits) -> TransactionalCatalog
@@ -108,7 +108,7 @@ impl TransactionalCatalog {
     /// memory.
     pub fn commit(&mut self) -> Result<(), NoTransaction>
         ensures catalog { AreSettled self.old.catalog self.new.catalog }
-        ensures dropped { OnOk result (saved_of self.new ≡ [] → outline_of self.new.catalog ≡ all_settled self.old.changes (outline_of self.old.catalog)) }
+        ensures dropped { OnOk result (saved_of self.new ≡ [] → self.new.catalog ≡ settled_catalog self.old.catalog) }
         ensures open { OnOk result (saved_of self.old ≢ []) }
         ensures committed { OnOk result (transactional_of self.new ≡ committed (transactional_of self.old)) }
         ensures none { OnErr result (saved_of self.old ≡ []) }
@@ -117,27 +117,28 @@ impl TransactionalCatalog {
         let Some(_) = self.log.close() else {
             return Err(NoTransaction);
         };
-        self.log.settle_all(&mut self.catalog);
-        self.log.settle();
+        self.log.settle(&mut self.catalog);
         Ok(())
     }
 
-    /// Ends the innermost transaction, and undoes what was done in it: the database is the one that it began with. It takes no
-    /// memory.
-    pub fn rollback(&mut self) -> Result<(), NoTransaction>
+    /// Ends the innermost transaction, and undoes what was done in it: the database is the one that it began with. It tells
+    /// whether which tables there are, and their columns, stayed as they were, which is so where none was declared or dropped.
+    /// It takes no memory.
+    pub fn rollback(&mut self) -> Result<bool, NoTransaction>
         ensures limits { self.new.catalog.limits ≡ self.old.catalog.limits }
         ensures open { OnOk result (saved_of self.old ≢ []) }
         ensures rolled_back { OnOk result (transactional_of self.new ≡ rolled_back (transactional_of self.old)) }
+        ensures tables { result ≡ Ok true → map emptied (database_of self.new.catalog) ≡ map emptied (database_of self.old.catalog) }
         ensures none { OnErr result (saved_of self.old ≡ []) }
         ensures unchanged { OnErr result (self.new ≡ self.old) }
     {
         let Some(mark) = self.log.close() else {
             return Err(NoTransaction);
         };
-        self.log.undo_to(&mut self.catalog, mark);
-        self.log.settle();
+        let kept = self.log.undo_to(&mut self.catalog, mark);
+        self.log.forget();
         a_catalog_is_consistent(&self.catalog);
-        Ok(())
+        Ok(kept)
     }
 
     /// Puts a row into a table. The answer is 41 where a row with its key is there, else 42 where a reference of it names
@@ -229,6 +230,23 @@ impl TransactionalCatalog {
         self.log.create(&mut self.catalog, name, schema)
     }
 
+    /// Drops a table, to which no column refers. Those behind it move up. Outside a transaction it takes no memory. In one it
+    /// finds none, too, where more than 16,777,216 rows of the table would be owed then.
+    pub fn drop_table(&mut self, table: TableNumber) -> Result<(), NoMemory>
+        requires { IsMeant self.old.catalog.limits (database_of self.old.catalog) (resolved.DropTable table) }
+        ensures done { OnOk result (IsDone self.old.catalog self.new.catalog (resolved.DropTable table)) }
+        ensures unchanged { OnErr result (self.new ≡ self.old) }
+        ensures outside { saved_of self.old ≡ [] → IsOk result }
+        ensures saved { saved_of self.new ≡ saved_of self.old }
+    {
+        if self.log.depth() == 0 {
+            self.catalog.drop_table(table);
+            return Ok(());
+        }
+        a_catalog_is_consistent(&self.catalog);
+        self.log.drop_table(&mut self.catalog, table)
+    }
+
     /// Declares an index of a table over the rows that are there.
     pub fn add_index(
         &mut self,
@@ -247,13 +265,24 @@ impl TransactionalCatalog {
         a_catalog_is_consistent(&self.catalog);
         self.log.add_index(&mut self.catalog, table, column, kind)
     }
-
-    /// The tables, to be changed in any way where no transaction is open.
-    pub fn outside(&mut self) -> &mut Catalog
-        requires { saved_of self.old ≡ [] }
-        ensures* writes_back { sem 𝓛 (LendsCatalog self.entry result) }
-        ensures catalog { result.now ≡ self.old.catalog }
+    /// Drops an index of a table. Outside a transaction it takes no memory.
+    pub fn drop_index(
+        &mut self,
+        table: TableNumber,
+        column: ColumnNumber,
+        kind: IndexKind,
+    ) -> Result<(), NoMemory>
+        requires { IsMeant self.old.catalog.limits (database_of self.old.catalog) (resolved.DropIndex table column kind) }
+        ensures done { OnOk result (IsDone self.old.catalog self.new.catalog (resolved.DropIndex table column kind)) }
+        ensures unchanged { OnErr result (self.new ≡ self.old) }
+        ensures outside { saved_of self.old ≡ [] → IsOk result }
+        ensures saved { saved_of self.new ≡ saved_of self.old }
     {
-        &mut self.catalog
+        if self.log.depth() == 0 {
+            self.catalog.drop_index(table, column, kind);
+            return Ok(());
+        }
+        a_catalog_is_consistent(&self.catalog);
+        self.log.drop_index(&mut self.catalog, table, column, kind)
     }
 }
