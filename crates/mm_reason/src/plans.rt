@@ -272,7 +272,7 @@ fn join_plan(way: Way, number: usize, next: NextJoin) -> Chosen {
 }
 
 // Whether a test asks for the key.
-fn ask_for_key(tests: &[Test]) -> bool {
+fn asks_for_key(tests: &[Test]) -> bool {
     tests
         .iter()
         .any(|test| test.op == Op::Eq && test.column.0 == 0)
@@ -281,7 +281,7 @@ fn ask_for_key(tests: &[Test]) -> bool {
 // How rows are shown.
 fn shown(query: &Query, way: Way) -> &'static str {
     match way {
-        Way::Search(_) if ask_for_key(query.source.tests.as_slice()) => {
+        Way::Search(_) if asks_for_key(query.source.tests.as_slice()) => {
             "show the only row from where it lies"
         }
         Way::Search(_) => "show one row from where it lies, or more from a list",

@@ -33,7 +33,6 @@ pub mod StorableValues
 pub mod StreamLemmas
 pub mod TakeLemmas
 pub mod ToldLemmas
-pub mod TransactionLemmas
 pub mod TurnLemmas
 pub mod WalkedLemmas
 pub mod WholeLemmas

@@ -44,7 +44,7 @@ pub struct ReadExecutor {
 }
 
 impl Executor {
-    ghost use Rattle.std.specs.Prelude.{◌≡◌, ◌≢◌, [], OnOk, OnErr, IfErr};
+    ghost use Rattle.std.specs.Prelude.{◌≡◌, [], OnOk, IfErr};
     ghost use Rattle.plain_tables.specs.Doing.{done};
     ghost use Rattle.plain_tables.specs.ResolvedLaws.{IsMeant};
     ghost use Rattle.plain_tables.specs.Spelling.{IsSpellable};
@@ -53,9 +53,8 @@ impl Executor {
     ghost use Rattle.mm_catalog.specs.Changes.{IsDeclinedFor};
     ghost use Rattle.plain_tables.specs.Commands.{effect_of};
     ghost use Rattle.mm_session.specs.Answered.{DoesAll, DoesNothing};
-    ghost use Rattle.plain_tables.specs.declared.refusal.Refusal.TheVariants as refusal;
     ghost use Rattle.mm_transactions.specs.State.{saved_of};
-    ghost use Rattle.mm_session.specs.Performed.{CanBeDone, HasPerformed};
+    ghost use Rattle.mm_session.specs.Performed.{HasPerformed};
 
     /// An executor over the tables of a catalog.
     pub fn new(alloc: Global, policy: Policy, catalog: Catalog) -> Executor
@@ -84,23 +83,9 @@ impl Executor {
         u64::from(self.tables.catalog().limits().block)
     }
 
-    // Refuses a drop while a transaction is open.
-    fn check_outside(&self, command: &Resolved) -> Result<(), Refusal>
-        ensures ok { OnOk result (CanBeDone (saved_of self.now.tables) command.now) }
-        ensures refused { IfErr result (λ e. e ≡ refusal.NoMemory) }
-        ensures open { OnErr result (saved_of self.now.tables ≢ []) }
-    {
-        match command {
-            Resolved::DropTable { .. } | Resolved::DropIndex { .. }
-                if self.tables.transactions() > 0 => { Err(Refusal::NoMemory) }
-            _ => Ok(()),
-        }
-    }
-
     // Does a resolved command, and makes its answer. What a change answers is told once it is done, which takes no memory.
     fn perform(&mut self, command: Resolved, answer: &mut Answer) -> Result<(), Refusal>
-        requires meant { IsMeant self.old.tables.catalog.limits (database_of self.old.tables.catalog) command }
-        requires can { CanBeDone (saved_of self.old.tables) command }
+        requires { IsMeant self.old.tables.catalog.limits (database_of self.old.tables.catalog) command }
         ensures done { OnOk result (HasPerformed self.old.tables.catalog self.new.tables.catalog (done self.old.tables.catalog.limits (database_of self.old.tables.catalog) command) answer.new) }
         ensures refused { IfErr result (IsDeclinedFor self.old.tables.catalog self.new.tables.catalog (done self.old.tables.catalog.limits (database_of self.old.tables.catalog) command)) }
         ensures saved { saved_of self.new.tables ≡ saved_of self.old.tables }
@@ -112,7 +97,7 @@ impl Executor {
                 answer.set(OK);
             }
             Resolved::DropTable { table } => {
-                self.tables.outside().drop_table(table);
+                self.tables.drop_table(table)?;
                 answer.set(OK);
             }
             Resolved::Index {
@@ -128,7 +113,7 @@ impl Executor {
                 column,
                 kind,
             } => {
-                self.tables.outside().drop_index(table, column, kind);
+                self.tables.drop_index(table, column, kind)?;
                 answer.set(OK);
             }
             Resolved::Load { table, rows } => {
@@ -165,7 +150,6 @@ impl Executor {
         ensures saved { saved_of self.new.tables ≡ saved_of self.old.tables }
     {
         let resolved = self.tables.catalog().resolve(command, block)?;
-        self.check_outside(&resolved)?;
         self.perform(resolved, answer)
     }
 }

@@ -1,6 +1,6 @@
 //! A session: tables, and a stream of requests that comes in pieces.
 
-ghost use Rattle.std.specs.Prelude.{◌≡◌, ◌≢◌, ◌<◌, ◌≤◌, ◌+◌, ◌++◌, ◌∷◌, ◌↔◌, [], ℕ, List, Err, true, false, length, IsTrue, IsErrOf, IfNone, IfOk, IfErr, IfSome, OnOk, OnErr};
+ghost use Rattle.std.specs.Prelude.{◌≡◌, ◌≢◌, ◌<◌, ◌≤◌, ◌+◌, ◌++◌, ◌∷◌, ◌↔◌, [], ℕ, List, Err, Ok, true, false, length, map, IsTrue, IsErrOf, IfNone, IfOk, IfErr, IfSome, OnOk, OnErr};
 ghost use Rattle.std.specs.Io.KnownBytes.{Keeps};
 
 use crate::answer::Answer;
@@ -55,7 +55,7 @@ impl Session {
     ghost use Rattle.plain_tables.specs.Doing.{done};
     ghost use Rattle.plain_tables.specs.Transactions.{begun, committed, rolled_back};
     ghost use Rattle.mm_transactions.specs.Log.{AreSettled};
-    ghost use Rattle.plain_tables.specs.ResolvedLaws.{IsMeant};
+    ghost use Rattle.plain_tables.specs.ResolvedLaws.{IsMeant, emptied};
     ghost use Rattle.plain_tables.specs.declared.refusal.Refusal.TheVariants as refusal;
     ghost use Rattle.plain_tables.specs.declared.resolved.Resolved.TheVariants as resolved;
     ghost use Rattle.mm_session.specs.Changing.{HasChanged, HasDeclined, IsChange, IsDeleteByKey, ShowsValues};
@@ -126,11 +126,13 @@ impl Session {
         self.responder.executor.tables.commit()
     }
 
-    /// Ends the innermost transaction, and undoes what was done in it: the tables are those that it began with. It takes no memory.
-    /// The stream goes on as before.
-    pub fn rollback(&mut self) -> Result<(), NoTransaction>
+    /// Ends the innermost transaction, and undoes what was done in it: the tables are those that it began with. It tells whether
+    /// which tables there are, and their columns, stayed as they were, which is so where none was declared or dropped. It takes
+    /// no memory. The stream goes on as before.
+    pub fn rollback(&mut self) -> Result<bool, NoTransaction>
         ensures open { OnOk result (self.old.saved ≢ []) }
         ensures rolled_back { OnOk result (tables_of self.new ≡ rolled_back (tables_of self.old)) }
+        ensures tables { result ≡ Ok true → map emptied self.new.database ≡ map emptied self.old.database }
         ensures none { OnErr result (self.old.saved ≡ []) }
         ensures unchanged { OnErr result (self.new ≡ self.old) }
         ensures stream { IsAtSamePlace self.old self.new }

@@ -13,12 +13,8 @@ use Rattle.mm_session.proofs.execute.Executor.execute.Goals as goal
 
 pub perform-requires : goal.perform-requires
 perform-requires c =
-    record {
-      meant =
-          resolved_are_meant (block_records c.args.block.now) c.args.self.now.tables.catalog.limits (database_of c.args.self.now.tables.catalog) c.args.command c.in_ok-resolved.resolved
-          (spellable_are_given c.args.command c.requires) (rw c.catalog.ensures at c.in_ok-resolved.ensures.meant);
-      can = c.in_ok-check_outside.ensures.ok;
-    }
+    resolved_are_meant (block_records c.args.block.now) c.args.self.now.tables.catalog.limits (database_of c.args.self.now.tables.catalog) c.args.command c.in_ok-resolved.resolved
+    (spellable_are_given c.args.command c.requires) (rw c.catalog.ensures at c.in_ok-resolved.ensures.meant)
 
 pub returns-clause-err : goal.returns-clause-err
 returns-clause-err c =
