@@ -10,7 +10,7 @@ use Rattle.plain_tables.specs.declared.command.Command.{Command}
 use Rattle.plain_tables.specs.declared.command.Command.TheVariants as command
 use Rattle.plain_tables.proofs.FirstWords.{behind_word, first_word, split-word}
 use Rattle.plain_streams.specs.Requests.{without_return}
-use Rattle.mm_prepared.specs.Declaring.{IsDrop, IsOfTables, begins_waiting, behind_blanks, declares}
+use Rattle.mm_prepared.specs.Declaring.{IsOfTables, behind_blanks, declares}
 
 -- whether a text begins with a word
 abbrev pub begins : List ℕ → List ℕ → Bool
@@ -63,14 +63,3 @@ tables-begin line (c, spells, of) =
 pub last-begins : (a d : Bool) → (a || d) ≡ true → a ≡ false → d ≡ true
 last-begins true d is none = absurd (false≢true (sym none))
 last-begins false d is none = is
-
--- the word of a drop stands first
-drop-begins : (line : List ℕ) (symbols : List Symbol) → IsMadeOf (without_return line) (Keyword (codes "drop") ∷ symbols) → begins_waiting (behind_blanks line) ≡ true
-drop-begins line symbols made =
-    let (more, is) = word-behind line (codes "drop") symbols (λ more. refl) made in
-    ap begins_waiting is
-
-pub drop-waits : (line : List ℕ) → IsDrop (without_return line) → begins_waiting (behind_blanks line) ≡ true
-drop-waits line (command.DropTable name, spells, of) = drop-begins line (behind_word (command.DropTable name)) spells.2
-drop-waits line (command.DropIndex table column kind, spells, of) = drop-begins line (behind_word (command.DropIndex table column kind)) spells.2
-drop-waits line (c, spells, of) = absurd (false≢true of)

@@ -1,5 +1,5 @@
 -- What is seen of the statements that are kept.
-use Rattle.std.proofs.Common.{◌≡◌, ℕ, Option, None}
+use Rattle.std.proofs.Common.{◌≡◌, ℕ, None}
 use Rattle.std.specs.Prelude.{slice_index_or}
 use Rattle.std.specs.Option.{option_map}
 use Rattle.std.proofs.Math.ListN.{get_or-map}

@@ -1,7 +1,5 @@
--- Declaring: which lines may change the names and columns of tables, and which wait until no transaction is open.
-use Rattle.std.specs.Prelude.{ℕ, List, [], ◌∷◌, Bool, true, false, if◌then◌else◌, nat_eq, IsTrue}
-use Rattle.std.specs.List.{starts_with}
-use lib.Chars.{codes}
+-- Declaring: which lines may change the names and columns of tables.
+use Rattle.std.specs.Prelude.{ℕ, List, [], ◌∷◌, Bool, true, false, if◌then◌else◌, IsTrue}
 use Rattle.plain_tables.specs.Spelling.{Spells, is_blank}
 use Rattle.plain_tables.specs.declared.command.Command.{Command}
 use Rattle.plain_tables.specs.declared.command.Command.TheVariants as command
@@ -20,17 +18,3 @@ declares c = false
 -- the line spells a command that declares a table or drops one
 abbrev pub IsOfTables : List ℕ → Type 0
 IsOfTables line = (c : Command) × Spells line c × IsTrue (declares c)
-
--- whether a command drops a table or an index
-abbrev pub drops : Command → Bool
-drops (command.DropTable name) = true
-drops (command.DropIndex table column kind) = true
-drops c = false
-
--- the line spells a drop
-abbrev pub IsDrop : List ℕ → Type 0
-IsDrop line = (c : Command) × Spells line c × IsTrue (drops c)
-
--- whether a text begins with the first word of a drop
-abbrev pub begins_waiting : List ℕ → Bool
-begins_waiting text = starts_with nat_eq text (codes "drop")

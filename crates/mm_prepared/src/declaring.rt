@@ -1,7 +1,7 @@
-//! Which lines may change the names and columns of tables, and which wait until no transaction is open.
+//! Which lines may change the names and columns of tables.
 ghost use Rattle.std.specs.Prelude.{◌≡◌, IsTrue};
 ghost use Rattle.plain_streams.specs.Requests.{without_return};
-ghost use Rattle.mm_prepared.specs.Declaring.{IsDrop, IsOfTables, begins_waiting, behind_blanks};
+ghost use Rattle.mm_prepared.specs.Declaring.{IsOfTables, behind_blanks};
 
 // The line from its first character on that is no blank.
 fn trim_blanks(line: &[u8]) -> &[u8]
@@ -21,12 +21,4 @@ pub fn may_declare(line: &[u8]) -> bool
 {
     let text = trim_blanks(line);
     text.starts_with(b"table") || text.starts_with(b"drop")
-}
-
-/// Whether a line waits until no transaction is open: it begins as those do that drop a table or an index. So every drop waits.
-pub fn waits_in_transaction(line: &[u8]) -> bool
-    ensures value { result ≡ begins_waiting (behind_blanks line.now) }
-    ensures drops { IsDrop (without_return line.now) → IsTrue result }
-{
-    trim_blanks(line).starts_with(b"drop")
 }

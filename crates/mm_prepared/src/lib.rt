@@ -26,7 +26,7 @@ mod lent;
 pub use bound::Bound;
 pub use cell::Cell;
 pub use commands::Commands;
-pub use declaring::{may_declare, waits_in_transaction};
+pub use declaring::may_declare;
 pub use declined::Declined;
 pub use finishing::finish;
 pub use kept::{Prepared, Statements};
