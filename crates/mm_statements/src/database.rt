@@ -47,8 +47,8 @@ pub struct PreparedLine<'a> {
 /// the values that are bound then.
 ///
 /// Several databases may share a session. Each has statements of its own, and reads the tables. Only the last that is left changes
-/// them; the others are refused by `Shared`. In a transaction drops, pieces of the stream, sharing and leaving are refused by
-/// `InTransaction`. All other changes are done there, declarations too, and a rollback undoes them.
+/// them; the others are refused by `Shared`. In a transaction sharing and leaving are refused by `InTransaction`. All changes are done
+/// there, by lines, statements and pieces of the stream, and a rollback undoes them.
 #[derive(Drop)]
 pub struct Database {
     held: SharedSession,
@@ -84,7 +84,6 @@ impl Database {
     ghost use Rattle.mm_session.specs.OneRequest.{AnswersOne, GoesBetween, IsAtSamePlace, StaysInStream};
     ghost use Rattle.mm_session.specs.Sessions.{BreaksOff, Feeds, Finishes, Gains, new_session, tables_of};
     ghost use Rattle.plain_tables.specs.Transactions.{begun, committed, rolled_back};
-    ghost use Rattle.mm_prepared.specs.Declaring.{begins_waiting, behind_blanks};
     ghost use Rattle.mm_prepared.specs.Cells.{IsSmall, cell_value};
     ghost use Rattle.mm_prepared.specs.Kept.{KeptStatement};
     ghost use Rattle.mm_statements.specs.Databases.{statement_at, IsUnchanged, NowNames, SameStatements, SharesMore};
@@ -227,8 +226,7 @@ impl Database {
     }
 
     /// Ends the innermost transaction, and undoes what was done in it: the tables are those that it began with. It takes no memory.
-    /// The stream goes on as before. What is known of the statements' meaning is forgotten, since the names and columns of tables may
-    /// be others.
+    /// The stream goes on as before. What is known of the statements' meaning is kept where no table was declared or dropped in it.
     pub fn rollback(&mut self) -> Result<(), NoTransaction>
         ensures open { OnOk result (self.old.session.saved ≢ []) }
         ensures rolled_back { OnOk result (tables_of self.new.session ≡ rolled_back (tables_of self.old.session)) }
@@ -238,8 +236,10 @@ impl Database {
         ensures stream { IsAtSamePlace self.old.session self.new.session }
         ensures statements { SameStatements self.old self.new }
     {
-        self.held.rollback()?;
-        self.statements.forget();
+        let kept = self.held.rollback()?;
+        if !kept {
+            self.statements.forget();
+        }
         Ok(())
     }
 
@@ -267,10 +267,6 @@ impl Database {
         // The stream goes on as before, and the request stands behind what of it was answered.
         ensures stream { StaysInStream self.old.session self.new.session }
         ensures run { OnOk result (GoesBetween self.old.session self.new.session (record { line = line.now; block = block.now }) answer.new) }
-
-        // In a transaction a request is declined whose line begins as a drop.
-        ensures open { IsErrOf result request_fault.InTransaction → (self.old.session.saved ≢ []) × (begins_waiting (behind_blanks line.now) ≡ true) }
-        ensures waits { self.old.session.saved ≢ [] → begins_waiting (behind_blanks line.now) ≡ true → result ≡ Err request_fault.InTransaction }
 
         // The statements stay.
         ensures statements { SameStatements self.old self.new }
@@ -303,10 +299,7 @@ impl Database {
 
         ensures keeps { self.new.shared ≡ self.old.shared }
 
-        // A transaction is open.
-        ensures in_transaction { IsErrOf result stream_fault.InTransaction → (self.new.session ≡ self.old.session) × Keeps (W.contents w.old) (W.contents w.new) }
-        ensures open { IsErrOf result stream_fault.InTransaction → self.old.session.saved ≢ [] }
-        ensures waits { self.old.session.ended ≡ false → self.old.session.saved ≢ [] → result ≡ Err stream_fault.InTransaction }
+        // The same transactions are open.
         ensures saved { self.new.session.saved ≡ self.old.session.saved }
 
         // The statements stay.
@@ -325,10 +318,7 @@ impl Database {
         ensures ok { OnOk result (Gains (W.contents w.old) (W.contents w.new) (Finishes self.old.session self.new.session)) }
         ensures write { IsErrOf result stream_fault.Write → Gains (W.contents w.old) (W.contents w.new) (BreaksOff self.old.session self.new.session [] true) }
         ensures shared { IsErrOf result stream_fault.Shared → IsTrue self.old.shared × (self.new.session ≡ self.old.session) × Keeps (W.contents w.old) (W.contents w.new) }
-        ensures in_transaction { IsErrOf result stream_fault.InTransaction → (self.new.session ≡ self.old.session) × Keeps (W.contents w.old) (W.contents w.new) }
-        ensures open { IsErrOf result stream_fault.InTransaction → self.old.session.saved ≢ [] }
-        ensures waits { self.old.session.ended ≡ false → self.old.session.saved ≢ [] → result ≡ Err stream_fault.InTransaction }
-        ensures over { result ≢ Err stream_fault.Shared → result ≢ Err stream_fault.InTransaction → IsTrue self.new.session.ended }
+        ensures over { result ≢ Err stream_fault.Shared → IsTrue self.new.session.ended }
         ensures saved { self.new.session.saved ≡ self.old.session.saved }
         ensures limits { self.new.session.limits ≡ self.old.session.limits }
         ensures keeps { self.new.shared ≡ self.old.shared }

@@ -134,8 +134,6 @@ pub enum RequestFault {
     NotOneRequest,
     /// Another database shares the tables.
     Shared,
-    /// A transaction is open, and the line begins as a drop.
-    InTransaction,
 }
 
 impl From<NotOneRequest> for RequestFault {
@@ -158,8 +156,6 @@ pub enum StreamFault {
     Ended,
     /// Another database shares the tables. Nothing has changed.
     Shared,
-    /// A transaction is open. Nothing has changed.
-    InTransaction,
 }
 
 impl From<SessionFault> for StreamFault {

@@ -17,8 +17,8 @@
 //! - What is declined changes nothing.
 //! - Several databases may share a session. Each reads its tables by statements of its own, and none changes them while another is there.
 //!   A database that shares none has it for itself, and is never declined because of others.
-//! - In a transaction rows are inserted, loaded, updated, deleted and read, by statements, lines and queries, and tables and indexes
-//!   declared. Drops and pieces of the stream are declined there, and no tables are shared or left.
+//! - In a transaction all is done that is done outside, by statements, lines, queries and pieces of the stream. Only sharing and
+//!   leaving are declined there.
 #![tactic(auto)]
 
 mod columns;

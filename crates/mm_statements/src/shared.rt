@@ -1,9 +1,9 @@
 //! A session that databases share.
 
-ghost use Rattle.std.specs.Prelude.{◌≡◌, ◌≢◌, ◌<◌, ◌↔◌, [], Err, false, length, true, IfErr, IfOk, IsErrOf, IsTrue, OnErr, OnOk};
+ghost use Rattle.std.specs.Prelude.{◌≡◌, ◌≢◌, ◌<◌, ◌↔◌, [], Err, Ok, false, length, map, true, IfErr, IfOk, IsErrOf, IsTrue, OnErr, OnOk};
 ghost use Rattle.std.specs.Io.KnownBytes.{Keeps};
 ghost use Rattle.plain_tables.specs.Doing.{done};
-ghost use Rattle.plain_tables.specs.ResolvedLaws.{IsMeant};
+ghost use Rattle.plain_tables.specs.ResolvedLaws.{IsMeant, emptied};
 ghost use Rattle.plain_tables.specs.Transactions.{begun, committed, rolled_back};
 ghost use Rattle.plain_tables.specs.declared.resolved.Resolved.TheVariants as resolved;
 ghost use Rattle.plain_streams.specs.Division.{IsWhole};
@@ -11,7 +11,6 @@ ghost use Rattle.mm_catalog.specs.Seen.{database_of};
 ghost use Rattle.mm_cells.specs.Reading.{AreFull};
 ghost use Rattle.mm_cells.specs.Values.{values_of};
 ghost use Rattle.mm_session.specs.Changing.{HasChanged, IsChange, ShowsValues};
-ghost use Rattle.mm_prepared.specs.Declaring.{begins_waiting, behind_blanks};
 ghost use Rattle.mm_session.specs.OneRequest.{AnswersOne, GoesBetween, IsAtSamePlace, StaysInStream};
 ghost use Rattle.mm_transactions.specs.Log.{AreSettled};
 ghost use Rattle.mm_session.specs.Sessions.{BreaksOff, Feeds, Finishes, Gains, new_session, tables_of};
@@ -25,7 +24,6 @@ use crate::faults::{BeginFault, ChangeFault, RequestFault, StreamFault};
 use mm_catalog::Catalog;
 use mm_catalog::laws::a_catalog_is_consistent;
 use mm_cells::{CellFault, Cells};
-use mm_prepared::waits_in_transaction;
 use mm_session::{Answer, Session};
 use mm_transactions::NoTransaction;
 use no_memory::NoMemory;
@@ -207,10 +205,11 @@ impl SharedSession {
     }
 
     /// Ends the innermost transaction, and undoes what was done in it, as the session does. None is open while it is shared.
-    pub fn rollback(&mut self) -> Result<(), NoTransaction>
+    pub fn rollback(&mut self) -> Result<bool, NoTransaction>
         ensures open { OnOk result (self.old.session.saved ≢ []) }
         ensures alone { OnOk result (self.new.shared ≡ false) }
         ensures rolled_back { OnOk result (tables_of self.new.session ≡ rolled_back (tables_of self.old.session)) }
+        ensures tables { result ≡ Ok true → map emptied self.new.session.database ≡ map emptied self.old.session.database }
         ensures none { OnErr result (self.old.session.saved ≡ []) }
         ensures unchanged { OnErr result (self.new ≡ self.old) }
         ensures stream { IsAtSamePlace self.old.session self.new.session }
@@ -270,8 +269,7 @@ impl SharedSession {
         }
     }
 
-    /// Answers one request by itself, as the session does, where nobody else holds it. In a transaction one is declined whose line begins as
-    /// a drop.
+    /// Answers one request by itself, as the session does, where nobody else holds it.
     pub fn answer_request(
         &mut self,
         line: &[u8],
@@ -283,14 +281,9 @@ impl SharedSession {
         ensures unchanged { OnErr result ((self.new ≡ self.old) × (answer.new ≡ answer.old)) }
         ensures stream { StaysInStream self.old.session self.new.session }
         ensures run { OnOk result (GoesBetween self.old.session self.new.session (record { line = line.now; block = block.now }) answer.new) }
-        ensures open { IsErrOf result request_fault.InTransaction → (self.old.session.saved ≢ []) × (begins_waiting (behind_blanks line.now) ≡ true) }
-        ensures waits { self.old.session.saved ≢ [] → begins_waiting (behind_blanks line.now) ≡ true → result ≡ Err request_fault.InTransaction }
         ensures shared { IsErrOf result request_fault.Shared → IsTrue self.old.shared }
         ensures keeps { self.new.shared ≡ self.old.shared }
     {
-        if self.is_in_transaction() && waits_in_transaction(line) {
-            return Err(RequestFault::InTransaction);
-        }
         let Some(shared) = &mut self.shared else {
             return Ok(self.own.answer_request(line, block, answer)?);
         };
@@ -310,16 +303,10 @@ impl SharedSession {
         ensures limits { self.new.session.limits ≡ self.old.session.limits }
         ensures shared { IsErrOf result stream_fault.Shared → IsTrue self.old.shared × (self.new.session ≡ self.old.session) × Keeps (W.contents w.old) (W.contents w.new) }
         ensures keeps { self.new.shared ≡ self.old.shared }
-        ensures in_transaction { IsErrOf result stream_fault.InTransaction → (self.new.session ≡ self.old.session) × Keeps (W.contents w.old) (W.contents w.new) }
-        ensures open { IsErrOf result stream_fault.InTransaction → self.old.session.saved ≢ [] }
-        ensures waits { self.old.session.ended ≡ false → self.old.session.saved ≢ [] → result ≡ Err stream_fault.InTransaction }
         ensures saved { self.new.session.saved ≡ self.old.session.saved }
     {
         if self.session().has_ended() {
             return Err(StreamFault::Ended);
-        }
-        if self.is_in_transaction() {
-            return Err(StreamFault::InTransaction);
         }
         let Some(shared) = &mut self.shared else {
             return Ok(self.own.feed(piece, w)?);
@@ -336,20 +323,14 @@ impl SharedSession {
         ensures unchanged { IsErrOf result stream_fault.Ended → (self.new ≡ self.old) × Keeps (W.contents w.old) (W.contents w.new) }
         ensures ok { OnOk result (Gains (W.contents w.old) (W.contents w.new) (Finishes self.old.session self.new.session)) }
         ensures write { IsErrOf result stream_fault.Write → Gains (W.contents w.old) (W.contents w.new) (BreaksOff self.old.session self.new.session [] true) }
-        ensures over { result ≢ Err stream_fault.Shared → result ≢ Err stream_fault.InTransaction → IsTrue self.new.session.ended }
+        ensures over { result ≢ Err stream_fault.Shared → IsTrue self.new.session.ended }
         ensures limits { self.new.session.limits ≡ self.old.session.limits }
         ensures shared { IsErrOf result stream_fault.Shared → IsTrue self.old.shared × (self.new.session ≡ self.old.session) × Keeps (W.contents w.old) (W.contents w.new) }
         ensures keeps { self.new.shared ≡ self.old.shared }
-        ensures in_transaction { IsErrOf result stream_fault.InTransaction → (self.new.session ≡ self.old.session) × Keeps (W.contents w.old) (W.contents w.new) }
-        ensures open { IsErrOf result stream_fault.InTransaction → self.old.session.saved ≢ [] }
-        ensures waits { self.old.session.ended ≡ false → self.old.session.saved ≢ [] → result ≡ Err stream_fault.InTransaction }
         ensures saved { self.new.session.saved ≡ self.old.session.saved }
     {
         if self.session().has_ended() {
             return Err(StreamFault::Ended);
-        }
-        if self.is_in_transaction() {
-            return Err(StreamFault::InTransaction);
         }
         let Some(shared) = &mut self.shared else {
             return Ok(self.own.end(w)?);
