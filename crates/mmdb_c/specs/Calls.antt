@@ -52,6 +52,7 @@ pub record TellsIndexes (name : List ℕ) (old new : Database) : Type 0 where
   pub inner : new.inner ≡ old.inner
   pub answer : AnswersIndexes old.inner.session.catalog name new.answer
   pub rows : KeepsRows old new
+  pub reason : new.reason ≡ old.reason
 
 -- The session took the piece, and the answers that it gained are kept.
 pub record TakesPiece (piece : List ℕ) (old new : Database) : Type 0 where

@@ -13,10 +13,11 @@ use Rattle.mmdb_c.specs.declared.database.Database.{Database}
 abbrev pub IsPlanned : List ℕ → Database → Type 0
 IsPlanned line d = (told : PlannedSelect) × IsPlanOfLine d.inner.session (without_return line) told
 
--- The session, its statements and all rows are as they were.
+-- The session, its statements, all rows and the reason are as they were.
 pub record OnlyAnswers (old new : Database) : Type 0 where
   pub inner : new.inner ≡ old.inner
   pub rows : KeepsRows old new
+  pub reason : new.reason ≡ old.reason
 
 -- The line spells a select, whose plan is kept as the answer, in words, and nothing else changed.
 pub record TellsPlan (line : List ℕ) (old new : Database) : Type 0 where

@@ -1,7 +1,6 @@
--- Transacting: what a database has once a transaction began or ended, and which lines are declined meanwhile.
-use Rattle.std.specs.Prelude.{◌≡◌, ◌≢◌, ℕ, List, [], false, true}
+-- Transacting: what a database has once a transaction began or ended.
+use Rattle.std.specs.Prelude.{◌≡◌, ◌≢◌, [], false}
 use Rattle.plain_tables.specs.Transactions.{Transactional}
-use Rattle.mm_prepared.specs.Declaring.{begins_waiting, behind_blanks}
 use Rattle.mm_session.specs.OneRequest.{IsAtSamePlace}
 use Rattle.mm_session.specs.Sessions.{tables_of}
 use Rattle.mm_statements.specs.Databases.{SameStatements}
@@ -15,10 +14,6 @@ IsInTransaction d = d.inner.session.saved ≢ []
 -- none is
 abbrev pub IsOutside : Database → Type 0
 IsOutside d = d.inner.session.saved ≡ []
-
--- A transaction is open, and the line begins as a drop.
-abbrev pub PutsOff : List ℕ → Database → Type 0
-PutsOff line d = IsInTransaction d × (begins_waiting (behind_blanks line) ≡ true)
 
 -- That became of the tables, which no other database shares, and of what its transactions began with. The stream is where it was, and the statements, the values that
 -- are bound to them, the answer, the reason and all rows are as they were.

@@ -1,6 +1,6 @@
 //! A database, the answers to the last call, the values that its statements have shown, and the reason that was last asked for.
 
-ghost use Rattle.std.specs.Prelude.{◌≡◌, ◌≤◌, ◌↔◌, Err, false, IsTrue, IsErrOf, IfOk, OnOk, OnErr};
+ghost use Rattle.std.specs.Prelude.{◌≡◌, ◌≤◌, ◌↔◌, IsTrue, IsErrOf, IfOk, OnOk, OnErr};
 ghost use Rattle.plain_streams.specs.Division.{IsWhole};
 ghost use Rattle.mm_statements.specs.declared.faults.RequestFault.TheVariants as request_fault;
 ghost use Rattle.mm_statements.specs.declared.faults.StreamFault.TheVariants as stream_fault;
@@ -28,7 +28,6 @@ pub struct Database {
 impl Database {
     ghost use Rattle.mmdb_c.specs.Calls.{request, IsNew, AnswersRequest, TellsIndexes, TakesPiece, LosesStream, IsAsBefore};
     ghost use Rattle.mmdb_c.specs.Sharing.{IsShared, LosesAnswer};
-    ghost use Rattle.mmdb_c.specs.Transacting.{IsInTransaction, PutsOff};
 
     /// A database with no tables and no statements, an empty answer and an empty reason.
     pub fn new(alloc: Global, policy: Policy, limits: Limits) -> Result<Database, NoMemory>
@@ -49,8 +48,6 @@ impl Database {
     pub fn answer_request(&mut self, line: &[u8], block: &[u8]) -> Result<(), RequestFault>
         ensures ok { OnOk result (AnswersRequest (request line.now block.now) self.old self.new) }
         ensures err { IsErrOf result request_fault.NotOneRequest → ¬ (IsWhole (request line.now block.now)) }
-        ensures open { IsErrOf result request_fault.InTransaction → PutsOff line.now self.old }
-        ensures waits { PutsOff line.now self.old → result ≡ Err request_fault.InTransaction }
         ensures sharing { IsErrOf result request_fault.Shared → IsShared self.old }
         ensures unchanged { OnErr result (self.new ≡ self.old) }
     {
@@ -72,9 +69,6 @@ impl Database {
         ensures unchanged { IsErrOf result stream_fault.Ended → self.new ≡ self.old }
         ensures shared { IsErrOf result stream_fault.Shared → LosesAnswer self.old self.new }
         ensures sharing { IsErrOf result stream_fault.Shared → IsShared self.old }
-        ensures put_off { IsErrOf result stream_fault.InTransaction → LosesAnswer self.old self.new }
-        ensures open { IsErrOf result stream_fault.InTransaction → IsInTransaction self.old }
-        ensures waits { self.old.inner.session.ended ≡ false → IsInTransaction self.old → result ≡ Err stream_fault.InTransaction }
     {
         if self.inner.session().has_ended() {
             return Err(StreamFault::Ended);

@@ -6,8 +6,8 @@
 //! - A handle that is closed owns nothing, and a call on it does nothing.
 //! - Several handles may share a session. Each has statements, answers and rows of its own. While they share it none of them changes its
 //!   tables. `SHARED` comes only of a handle that has shared its tables and not left them since, and never in a transaction.
-//! - In a transaction rows are inserted, loaded, updated, deleted and read, and tables and indexes declared. `IN_TRANSACTION` refuses drops
-//!   and pieces of the stream there, and sharing and leaving.
+//! - In a transaction all is done that is done outside, by lines, statements and pieces of the stream. `IN_TRANSACTION` refuses only
+//!   sharing and leaving there.
 //! - After each status but `DONE` the tables are as they were, unless a piece found no room for its answers.
 #![tactic(auto)]
 
@@ -17,7 +17,6 @@ ghost use Rattle.plain_streams.specs.Division.{IsWhole};
 ghost use Rattle.mm_session.specs.Refused.{TellsRefusal};
 ghost use Rattle.mmdb_c.specs.Calls.{AreLimits, IsNew, request, Becomes, AnswersRequest, TellsIndexes, TakesPiece, LosesStream, IsAsBefore};
 ghost use Rattle.mmdb_c.specs.Sharing.{IsShared, LosesAnswer};
-ghost use Rattle.mmdb_c.specs.Transacting.{IsInTransaction, PutsOff};
 
 mod database;
 mod handle;
@@ -144,10 +143,8 @@ fn answer_request(
     ensures not_open { (result ≡ NOT_OPEN) ↔ IsNone handle.old.database }
     ensures no_line { (result ≡ NO_LINE) ↔ (IsSome handle.old.database × (line.now ≡ [])) }
     ensures not_one_request { result ≡ NOT_ONE_REQUEST → IsSome handle.old.database × (line.now ≢ []) × ¬ (IsWhole (request line.now block.now)) }
-    ensures one_request { IsSome handle.old.database × (line.now ≢ []) × IsWhole (request line.now block.now) → (result ≡ DONE) ⊎ ((result ≡ SHARED) ⊎ (result ≡ IN_TRANSACTION)) }
-    ensures judged { IsSome handle.old.database × (line.now ≢ []) → (result ≡ DONE) ⊎ ((result ≡ NOT_ONE_REQUEST) ⊎ ((result ≡ SHARED) ⊎ (result ≡ IN_TRANSACTION))) }
-    ensures in_transaction { result ≡ IN_TRANSACTION → IsSomeAnd handle.old.database (PutsOff line.now) }
-    ensures waits { (line.now ≢ []) × IsSomeAnd handle.old.database (PutsOff line.now) → result ≡ IN_TRANSACTION }
+    ensures one_request { IsSome handle.old.database × (line.now ≢ []) × IsWhole (request line.now block.now) → (result ≡ DONE) ⊎ (result ≡ SHARED) }
+    ensures judged { IsSome handle.old.database × (line.now ≢ []) → (result ≡ DONE) ⊎ ((result ≡ NOT_ONE_REQUEST) ⊎ (result ≡ SHARED)) }
     ensures sharing { result ≡ SHARED → IsSomeAnd handle.old.database IsShared }
     ensures done { result ≡ DONE → Becomes handle.old.database handle.new.database (AnswersRequest (request line.now block.now)) }
     ensures told { result ≡ DONE → IsSomeAnd handle.new.database (λ d. answer.new.length ≡ length d.answer) }
@@ -169,7 +166,6 @@ fn answer_request(
         Ok(()) => DONE,
         Err(RequestFault::NotOneRequest) => NOT_ONE_REQUEST,
         Err(RequestFault::Shared) => SHARED,
-        Err(RequestFault::InTransaction) => IN_TRANSACTION,
     }
 }
 
@@ -184,10 +180,8 @@ pub extern "C" fn mmdb_command(
     ensures not_open { (result ≡ NOT_OPEN) ↔ IsNone handle.old.database }
     ensures no_line { (result ≡ NO_LINE) ↔ (IsSome handle.old.database × (line.now ≡ [])) }
     ensures not_one_request { result ≡ NOT_ONE_REQUEST → IsSome handle.old.database × (line.now ≢ []) × ¬ (IsWhole (request line.now [])) }
-    ensures one_request { IsSome handle.old.database × (line.now ≢ []) × IsWhole (request line.now []) → (result ≡ DONE) ⊎ ((result ≡ SHARED) ⊎ (result ≡ IN_TRANSACTION)) }
-    ensures judged { IsSome handle.old.database × (line.now ≢ []) → (result ≡ DONE) ⊎ ((result ≡ NOT_ONE_REQUEST) ⊎ ((result ≡ SHARED) ⊎ (result ≡ IN_TRANSACTION))) }
-    ensures in_transaction { result ≡ IN_TRANSACTION → IsSomeAnd handle.old.database (PutsOff line.now) }
-    ensures waits { (line.now ≢ []) × IsSomeAnd handle.old.database (PutsOff line.now) → result ≡ IN_TRANSACTION }
+    ensures one_request { IsSome handle.old.database × (line.now ≢ []) × IsWhole (request line.now []) → (result ≡ DONE) ⊎ (result ≡ SHARED) }
+    ensures judged { IsSome handle.old.database × (line.now ≢ []) → (result ≡ DONE) ⊎ ((result ≡ NOT_ONE_REQUEST) ⊎ (result ≡ SHARED)) }
     ensures sharing { result ≡ SHARED → IsSomeAnd handle.old.database IsShared }
     ensures done { result ≡ DONE → Becomes handle.old.database handle.new.database (AnswersRequest (request line.now [])) }
     ensures told { result ≡ DONE → IsSomeAnd handle.new.database (λ d. answer.new.length ≡ length d.answer) }
@@ -208,10 +202,8 @@ pub extern "C" fn mmdb_load(
     ensures not_open { (result ≡ NOT_OPEN) ↔ IsNone handle.old.database }
     ensures no_line { (result ≡ NO_LINE) ↔ (IsSome handle.old.database × (line.now ≡ [])) }
     ensures not_one_request { result ≡ NOT_ONE_REQUEST → IsSome handle.old.database × (line.now ≢ []) × ¬ (IsWhole (request line.now block.now)) }
-    ensures one_request { IsSome handle.old.database × (line.now ≢ []) × IsWhole (request line.now block.now) → (result ≡ DONE) ⊎ ((result ≡ SHARED) ⊎ (result ≡ IN_TRANSACTION)) }
-    ensures judged { IsSome handle.old.database × (line.now ≢ []) → (result ≡ DONE) ⊎ ((result ≡ NOT_ONE_REQUEST) ⊎ ((result ≡ SHARED) ⊎ (result ≡ IN_TRANSACTION))) }
-    ensures in_transaction { result ≡ IN_TRANSACTION → IsSomeAnd handle.old.database (PutsOff line.now) }
-    ensures waits { (line.now ≢ []) × IsSomeAnd handle.old.database (PutsOff line.now) → result ≡ IN_TRANSACTION }
+    ensures one_request { IsSome handle.old.database × (line.now ≢ []) × IsWhole (request line.now block.now) → (result ≡ DONE) ⊎ (result ≡ SHARED) }
+    ensures judged { IsSome handle.old.database × (line.now ≢ []) → (result ≡ DONE) ⊎ ((result ≡ NOT_ONE_REQUEST) ⊎ (result ≡ SHARED)) }
     ensures sharing { result ≡ SHARED → IsSomeAnd handle.old.database IsShared }
     ensures done { result ≡ DONE → Becomes handle.old.database handle.new.database (AnswersRequest (request line.now block.now)) }
     ensures told { result ≡ DONE → IsSomeAnd handle.new.database (λ d. answer.new.length ≡ length d.answer) }
@@ -248,14 +240,11 @@ pub extern "C" fn mmdb_indexes(
 pub extern "C" fn mmdb_feed(alloc: Global, handle: &mut Handle, piece: &[u8]) -> u32
     ensures not_open { (result ≡ NOT_OPEN) ↔ IsNone handle.old.database }
     ensures ended { (result ≡ ENDED) ↔ IsSomeAnd handle.old.database (λ d. IsTrue d.inner.session.ended) }
-    ensures goes_on { IsSomeAnd handle.old.database (λ d. d.inner.session.ended ≡ false) → (result ≡ DONE) ⊎ ((result ≡ NO_MEMORY) ⊎ ((result ≡ SHARED) ⊎ (result ≡ IN_TRANSACTION))) }
+    ensures goes_on { IsSomeAnd handle.old.database (λ d. d.inner.session.ended ≡ false) → (result ≡ DONE) ⊎ ((result ≡ NO_MEMORY) ⊎ (result ≡ SHARED)) }
     ensures done { result ≡ DONE → Becomes handle.old.database handle.new.database (TakesPiece piece.now) }
     ensures no_memory { result ≡ NO_MEMORY → Becomes handle.old.database handle.new.database (LosesStream piece.now) }
     ensures shared { result ≡ SHARED → Becomes handle.old.database handle.new.database LosesAnswer }
     ensures sharing { result ≡ SHARED → IsSomeAnd handle.old.database IsShared }
-    ensures put_off { result ≡ IN_TRANSACTION → Becomes handle.old.database handle.new.database LosesAnswer }
-    ensures in_transaction { result ≡ IN_TRANSACTION → IsSomeAnd handle.old.database IsInTransaction }
-    ensures waits { IsSomeAnd handle.old.database (λ d. (d.inner.session.ended ≡ false) × IsInTransaction d) → result ≡ IN_TRANSACTION }
     ensures unchanged { (result ≡ NOT_OPEN) ⊎ (result ≡ ENDED) → handle.new.database ≡ handle.old.database }
 {
     let Some(mut database) = handle.take(alloc) else {
@@ -268,7 +257,6 @@ pub extern "C" fn mmdb_feed(alloc: Global, handle: &mut Handle, piece: &[u8]) ->
         Err(StreamFault::Write) => NO_MEMORY,
         Err(StreamFault::Ended) => ENDED,
         Err(StreamFault::Shared) => SHARED,
-        Err(StreamFault::InTransaction) => IN_TRANSACTION,
     }
 }
 

@@ -27,12 +27,3 @@ returns-clause-shared c is =
       rows = record { shown = refl; queried = refl; columns = refl };
       answer = same.2 ∙ c.clear.ensures;
     }
-
-pub returns-clause-put_off : goal.returns-clause-put_off
-returns-clause-put_off c is =
-    let same = c.feed.ensures.in_transaction is in
-    record {
-      inner = record { session = same.0; shared = c.feed.ensures.keeps; statements = c.feed.ensures.statements };
-      rows = record { shown = refl; queried = refl; columns = refl };
-      answer = same.1 ∙ c.clear.ensures;
-    }

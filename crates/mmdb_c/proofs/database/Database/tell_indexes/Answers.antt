@@ -8,4 +8,5 @@ returns c = record {
   inner = refl;
   answer = subst (λ (s : State). AnswersIndexes s.catalog c.args.name.now c.tell_indexes.new.answer) c.session.ensures c.tell_indexes.ensures;
   rows = record { shown = refl; queried = refl; columns = refl };
+  reason = refl;
 }
