@@ -376,15 +376,23 @@ class Transactions(WithRows):
         self.check([(1, "a"), (2, "b")], False)
         self.assertEqual(self.database.dump("u"), [(1, 2), (2, 1)])
 
-    def test_drops_are_not_done_in_one(self):
-        self.cursor.execute("table u (id int)").execute("index t s hash").execute("insert t (2, 'b')")
-        for operation in ("drop table u", "drop index t s hash", "drop table nothing", "drop"):
-            with self.assertRaisesRegex(mmdb.NotSupportedError, "this isn't done in a transaction: commit it or roll it back first"):
-                self.cursor.execute(operation)
+    def test_drops_are_part_of_one(self):
+        self.cursor.execute("table u (id int, t ref t)").execute("index t s hash")
+        self.database.execute("insert u (7, 1)")
+        before = self.database.execute("tables")
+        for end, declared in ((self.connection.rollback, before), (self.connection.commit, "table t (id int, s text)\n")):
+            self.cursor.execute("insert t (2, 'b')")
+            self.assertRaises(mmdb.IntegrityError, self.cursor.execute, "drop table t")
+            self.cursor.execute("drop table u").execute("drop index t s hash")
+            self.assertRaises(mmdb.ProgrammingError, self.cursor.execute, "select * from u")
+            self.assertEqual(self.cursor.execute("select id from t where s = 'b'").fetchall(), [(2,)])
             self.check([(1, "a"), (2, "b")], True)
-        self.connection.commit()
-        self.cursor.execute("drop table u").execute("drop index t s hash")
-        self.assertEqual(self.database.execute("tables"), "table t (id int, s text)\n")
+            end()
+            self.assertEqual(self.database.execute("tables"), declared)
+            if declared == before:
+                self.assertEqual((self.database.dump("u"), self.rows()), ([(7, 1)], [(1, "a")]))
+        self.check([(1, "a"), (2, "b")], False)
+        self.assertRaises(mmdb.ProgrammingError, self.database.dump, "u")
 
     def test_a_block_commits_and_an_exception_rolls_back(self):
         with self.connection as given:

@@ -79,7 +79,7 @@ class Connection:
     """A connection to a database.
 
     Without `autocommit` the first insert, update or delete of its cursors begins a transaction, which `commit` or `rollback`
-    ends. `table` and `index` begin none, and are part of an open one. A drop raises InTransaction then: commit first.
+    ends. What declares and drops tables and indexes begins none, and is part of an open one.
 
     Used as a context manager, it commits at the end, or rolls back at an exception. It isn't closed then. Each call of a
     closed one but `close` raises ProgrammingError.

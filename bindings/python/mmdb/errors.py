@@ -119,7 +119,7 @@ class NoTransaction(ProgrammingError):
 
 
 class InTransaction(NotSupportedError):
-    """A transaction is open, and this isn't done in one, as a drop. Nothing has changed, and the transaction stays open."""
+    """A transaction is open, and no reader is made in one. Nothing has changed, and the transaction stays open."""
 
 
 class WrongUse(ProgrammingError, ValueError):
