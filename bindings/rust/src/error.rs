@@ -135,7 +135,7 @@ pub enum Error {
     Shared,
     /// A transaction was to be ended, and none is open.
     NoTransaction,
-    /// A transaction is open, and what was asked for isn't done in one: a drop, a reader.
+    /// A transaction is open, and no reader is made in one.
     InTransaction,
     /// The library answered with a status that has no place there.
     Status(u32),

@@ -201,7 +201,6 @@ fn refusal_of(
         Declined::NoMemory => Error::no_memory(filled, line.to_string()),
         Declined::TooLarge => Error::TooLarge,
         Declined::Shared => Error::Shared,
-        Declined::InTransaction => Error::InTransaction,
         Declined::Status(status) => Error::Status(status),
     }
 }

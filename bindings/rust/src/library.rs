@@ -158,8 +158,6 @@ pub(crate) enum Declined {
     TooLarge,
     /// It is a change, and a reader shares the tables.
     Shared,
-    /// It isn't done in a transaction, and one is open.
-    InTransaction,
     /// The library gave another status.
     Status(u32),
 }
@@ -412,7 +410,6 @@ fn done(status: u32) -> Result<(), Declined> {
         REFUSED => Err(Declined::Refused),
         TOO_LARGE => Err(Declined::TooLarge),
         SHARED => Err(Declined::Shared),
-        IN_TRANSACTION => Err(Declined::InTransaction),
         status => Err(Declined::Status(status)),
     }
 }
@@ -435,7 +432,6 @@ fn answered(status: u32) -> Result<(), Error> {
         IS_DONE | NO_LINE => Ok(()),
         NOT_ONE_REQUEST => Err(Error::NotOneRequest),
         SHARED => Err(Error::Shared),
-        IN_TRANSACTION => Err(Error::InTransaction),
         status => Err(Error::Status(status)),
     }
 }

@@ -27,9 +27,8 @@ use crate::error::{Error, Result};
 /// # Ok::<(), mmdb::Error>(())
 /// ```
 ///
-/// Rows are inserted, loaded, updated, deleted and read in one, and tables and indexes declared. Drops aren't done in one yet, and
-/// no reader is made ([`Error::InTransaction`]). A refused line changes nothing, and leaves the transaction open. Transactions that
-/// were begun in this one, and are open still, end as it does.
+/// Every command is done in one and undone by a rollback, but no reader is made ([`Error::InTransaction`]). A refused line changes
+/// nothing, and leaves the transaction open. Transactions that were begun in this one, and are open still, end as it does.
 ///
 /// The database is lent to the transaction, so there is one at a time, and another only in it, as a
 /// [`savepoint`](Transaction::savepoint):

@@ -5,7 +5,7 @@ mod common;
 use std::panic::{catch_unwind, AssertUnwindSafe};
 
 use common::{number, open, row, selected, with_rows, with_table};
-use mmdb::{Database, Error, Outcome, Value};
+use mmdb::{Database, Error, Outcome};
 
 const ALL: &str = "select * from t";
 
@@ -148,26 +148,6 @@ fn a_refusal_leaves_it_open() {
     assert_eq!((ids(&tx), tx.transactions()), (vec![1, 2, 3], 1));
     tx.commit().unwrap();
     assert_eq!(ids(&db), [1, 2, 3]);
-}
-
-#[test]
-fn drops_are_not_done_in_one() {
-    let mut db = with_rows();
-    db.execute("table u (id int, t ref t)", []).unwrap();
-    db.execute("index t s hash", []).unwrap();
-    let mut tx = db.transaction().unwrap();
-    for line in ["drop table u", "drop index t s hash", "drop table nothing", " dropx"] {
-        assert_eq!(tx.execute(line, []), Err(Error::InTransaction), "{line}");
-        assert_eq!(tx.command(line, []), Err(Error::InTransaction), "{line}");
-        assert_eq!(tx.answer(line.as_bytes()), Err(Error::InTransaction), "{line}");
-    }
-    assert_eq!(tx.load("u", [(1, 1)]), Ok(1));
-    assert_eq!(number(tx.load("v", [[1]])), Some(30));
-    drop(tx);
-    assert_eq!(db.load("u", [(1, 2)]), Ok(1));
-    assert_eq!(selected(&db, "select * from u", []), [[Value::from(1), 2.into()]]);
-    assert_eq!(db.execute("drop index t s hash", []), Ok(0));
-    assert_eq!(db.execute("drop table u", []), Ok(0));
 }
 
 #[test]

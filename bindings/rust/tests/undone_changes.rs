@@ -4,7 +4,7 @@ mod common;
 
 use common::draw::Draw;
 use common::{number, open, row, selected, with_rows};
-use mmdb::{Database, Error, Outcome, Value};
+use mmdb::{Database, Outcome, Value};
 
 const ALL: &str = "select * from t";
 const LONG: &str = "a text that no cell holds";
@@ -116,7 +116,7 @@ fn change(db: &Database, draw: &mut Draw) {
         6 => db.execute("update t set s = ? where n = ?", (text, id % 3)),
         _ => db.load("t", (0..3).map(|more| (20 + id + more, text, id))),
     };
-    assert_ne!(changed, Err(Error::InTransaction));
+    assert!(changed.map_or_else(|why| why.number().is_some(), |_| true));
 }
 
 /// What is found by each index, and by none.

@@ -1,4 +1,4 @@
-//! Tables and indexes that are declared in a transaction: each is undone by a rollback, and none by a commit.
+//! Tables and indexes that are declared or dropped in a transaction: each is undone by a rollback, and none by a commit.
 
 mod common;
 
@@ -14,15 +14,24 @@ fn declared(db: &Database) -> Outcome {
 }
 
 #[test]
-fn each_way_to_declare_is_undone() {
+fn each_way_to_declare_and_to_drop_is_undone() {
     let ways: [fn(&mut Database, &str); 3] = [
         |db, line| assert_eq!(db.execute(line, []), Ok(0)),
         |db, line| assert_eq!(db.command(line, []), Ok(Outcome::Done)),
         |db, line| assert_eq!(db.answer(line.as_bytes()), Ok(&b"ok\n"[..])),
     ];
+    let lines = [
+        "table u (id int, t ref t)",
+        "index t s hash",
+        "index t s tree",
+        "drop table v",
+        "drop index t id hash",
+    ];
     for way in ways {
-        for line in ["table u (id int, t ref t)", "index t s hash", "index t s tree"] {
+        for line in lines {
             let mut db = with_rows();
+            db.execute("index t id hash", []).unwrap();
+            db.execute("table v (id int, t ref t)", []).unwrap();
             let before = declared(&db);
             let mut tx = db.transaction().unwrap();
             way(&mut tx, line);
@@ -86,6 +95,66 @@ fn an_index_finds_what_there_is() {
         assert!(selected(&db, BY_TEXT, [LONG]).is_empty());
         db.execute(&format!("index t s {kind}"), []).unwrap();
         assert_eq!(selected(&db, BY_TEXT, ["b"]), [[Value::from(2)]]);
+    }
+}
+
+#[test]
+fn a_dropped_table_comes_back_with_its_rows() {
+    let mut db = with_rows();
+    db.execute("table u (id int, t ref t, s text)", []).unwrap();
+    db.load("u", [(1, 1, LONG), (2, 2, "b")]).unwrap();
+    db.execute("index u s hash", []).unwrap();
+    let before = declared(&db);
+    for _ in 0..3 {
+        let mut tx = db.transaction().unwrap();
+        assert_eq!(number(tx.execute("drop table t", [])), Some(40));
+        tx.execute("delete u where id = 2", []).unwrap();
+        tx.execute("drop table u", []).unwrap();
+        assert_eq!(number(tx.query("select * from u", [])), Some(30));
+        assert_eq!(number(tx.indexes("u")), Some(30));
+        let savepoint = tx.savepoint().unwrap();
+        savepoint.execute("drop table t", []).unwrap();
+        savepoint.execute("table u (k text)", []).unwrap();
+        assert_eq!(savepoint.load("u", [["k"]]), Ok(1));
+        savepoint.rollback().unwrap();
+        assert_eq!(tx.execute("delete t where id = 1", []), Ok(1));
+        assert_eq!(number(tx.load("u", [["k"]])), Some(30));
+        drop(tx);
+        assert_eq!(declared(&db), before);
+        assert_eq!(selected(&db, "select id from u where s = ?", [LONG]), [[Value::from(1)]]);
+        assert_eq!(db.dump("u").unwrap().len(), 2);
+        assert_eq!(number(db.execute("delete t where id = 1", [])), Some(44));
+    }
+    let tx = db.transaction().unwrap();
+    tx.execute("drop table u", []).unwrap();
+    tx.execute("drop table t", []).unwrap();
+    tx.commit().unwrap();
+    assert_eq!(declared(&db), Outcome::Text(String::new()));
+}
+
+#[test]
+fn a_dropped_index_finds_what_there_is() {
+    for kind in ["tree", "hash"] {
+        let mut db = with_rows();
+        db.execute(&format!("index t s {kind}"), []).unwrap();
+        let before = declared(&db);
+        for _ in 0..3 {
+            let tx = db.transaction().unwrap();
+            tx.execute("insert t (3, 'c')", []).unwrap();
+            tx.execute(&format!("drop index t s {kind}"), []).unwrap();
+            assert_eq!(number(tx.execute(&format!("drop index t s {kind}"), [])), Some(38));
+            tx.execute("delete t where id = 1", []).unwrap();
+            tx.execute("update t set s = ? where id = 2", [LONG]).unwrap();
+            assert_eq!(selected(&tx, BY_TEXT, [LONG]), [[Value::from(2)]]);
+            assert_eq!(tx.indexes("t").unwrap().len(), 1);
+            drop(tx);
+            assert_eq!(declared(&db), before);
+            assert_eq!(db.indexes("t").unwrap().len(), 2);
+            assert_eq!(selected(&db, BY_TEXT, ["a"]), [[Value::from(1)]]);
+            assert_eq!(selected(&db, BY_TEXT, ["b"]), [[Value::from(2)]]);
+            assert!(selected(&db, BY_TEXT, ["c"]).is_empty());
+            assert!(selected(&db, BY_TEXT, [LONG]).is_empty());
+        }
     }
 }
 
