@@ -11,8 +11,6 @@ from support.shells import COMPANY
 from mmdb_shell import reading, transactions
 from mmdb_shell.transactions import Transactions
 
-NOT_IN_ONE = "isn't done in a transaction: end it by .commit or .rollback first"
-
 
 class ThroughAPipe(shells.Piped):
     """Transactions of lines that nobody types."""
@@ -56,30 +54,43 @@ class ThroughAPipe(shells.Piped):
         refused = ["line 4: error 41 key exists: t has a row with the key 1", "line 5: error 30 no such table: u is no table"]
         self.check(lines, ["t.id,t.s"], refused)
 
-    def test_what_is_not_done_in_one(self):
+    def test_drops(self):
         lines = [
             *COMPANY,
             ".begin",
             "insert emp (3, 'Cy', 10)",
             "drop index emp dept tree",
-            "drop table emp",
+            "drop table dept",
             " drop table nothing",
-            ".parameter set 1 7",
-            "delete emp where id > ?",
+            "drop table emp",
+            ".begin",
+            "drop table dept",
+            "tables",
+            ".rollback",
             "# a comment",
             "\t",
             "tabel emp",
             "drop table",
             "dropp table emp",
+            "table emp (id int)",
+            "insert emp (7)",
+            "select * from emp",
             ".rollback",
-            "drop index emp dept tree",
+            "tables",
             "select id, name from emp",
+            ".begin",
+            "drop table emp",
+            ".commit",
+            "drop table dept",
+            "tables",
         ]
-        refused = [f"line {at}: drop {NOT_IN_ONE}" for at in (9, 10, 11)]
-        refused.append("line 16: error 20 not a command: column 1: tabel is no command: is table meant?")
-        refused.append("line 17: error 20 not a command: column 11: wanted a table's name, found the end of the line")
-        refused.append("line 18: error 20 not a command: column 1: dropp is no command: is drop meant?")
-        self.check(lines, ["emp.id,emp.name", "1,Ann", '2,""'], refused)
+        front = [line for line in COMPANY if line.startswith(("table", "index"))]
+        refused = ["line 10: error 40 table is referenced: column dept of emp refers to dept"]
+        refused.append("line 11: error 30 no such table: nothing is no table")
+        refused.append("line 19: error 20 not a command: column 1: tabel is no command: is table meant?")
+        refused.append("line 20: error 20 not a command: column 11: wanted a table's name, found the end of the line")
+        refused.append("line 21: error 20 not a command: column 1: dropp is no command: is drop meant?")
+        self.check(lines, ["emp.id", "7", *front, "emp.id,emp.name", "1,Ann", '2,""'], refused)
 
     def test_declarations(self):
         lines = [
@@ -242,6 +253,20 @@ class Undone(shells.InThisProcess):
             with self.subTest(lines):
                 self.check([*front, *lines, ".undo", f"select s from t where s = '{left}'"], ["t.s", left])
 
+    def test_drops(self):
+        front = ["table t (id int, s text)", "index t s hash", "table u (id int, t ref t)", "index u t tree"]
+        rows = ["insert t (1, 'a')", "insert u (7, 1)"]
+        looks = ["tables", "select id from t where s = 'a'", "select id from u where t >= 1"]
+        shown = [*front, "t.id", "1", "u.id", "7"]
+        for line in ("drop table u", "drop index t s hash", " drop\tindex u  t tree"):
+            with self.subTest(line):
+                self.check([*front, *rows, line, ".undo", *looks], shown)
+                self.check([*front, *rows, ".begin", "insert t (2, 'b')", line, ".undo", *looks, ".rollback", *looks], shown * 2)
+                self.check([*front, *rows, line, "insert t (2, 'b')", ".undo", *looks[1:2]], ["t.id", "1"])
+        lines = ["drop table t", "drop table u", "drop table t", ".undo", ".count t"]
+        self.check([*front, *rows, *lines], ["1"], ["line 7: error 40 table is referenced: column t of u refers to t"])
+        self.check([*front, *rows, "drop table u", "table u (id int)", ".undo", "tables"], front[:2])
+
     def test_declarations(self):
         csv = self.file("f.csv", "id,s\n7,a\n")
         front = ["table t (id int, s text)", "index t s hash"]
@@ -279,12 +304,8 @@ class Undone(shells.InThisProcess):
                 self.assertEqual((out[-1], [line for line in err if "undone" in line]), ("[]", []))
 
     def test_what_cannot_be_undone(self):
-        no_more = "the last change can't be undone any more"
         for lines, why in (
             ([], "no change was done yet"),
-            ([f"drop{' ' * 60}table t"], f"drop{' ' * 53}... can't be undone"),
-            (["insert t (2, 'b')", "drop table t"], "drop table t can't be undone"),
-            (["insert t (2, 'b')", "drop table nothing"], no_more),
             (["insert t (2, 'b')", ".undo"], "nothing more can be undone"),
             (["insert t (2, 'b')", "insert t (3, 'c')", ".undo"], "nothing more can be undone"),
             (["insert t (2, 'b')", ".begin"], "no change was done since .begin"),
@@ -299,11 +320,10 @@ class Undone(shells.InThisProcess):
 
     def test_in_a_transaction(self):
         front = ["table t (id int)", "insert t (1)", ".begin", "insert t (2)", "insert t (3)", "drop table t", ".undo"]
-        refused = [f"line 6: drop {NOT_IN_ONE}"]
-        self.check([*front, "select * from t", ".rollback", "select * from t"], ["t.id", "1", "2", "t.id", "1"], refused)
-        self.check([*front, ".commit", "select * from t"], ["t.id", "1", "2"], refused)
+        self.check([*front, "select * from t", ".rollback", "select * from t"], ["t.id", "1", "2", "3", "t.id", "1"])
+        self.check([*front, ".commit", "select * from t"], ["t.id", "1", "2", "3"])
         nothing = "line 8: nothing more can be undone"
-        self.check([*front, ".undo", "insert t (5)", ".begin", ".rollback", ".commit", ".count t"], ["3"], [*refused, nothing])
+        self.check([*front, ".undo", "insert t (5)", ".begin", ".rollback", ".commit", ".count t"], ["4"], [nothing])
         front = ["table t (id int)", "insert t (1)", "insert t (2)", ".begin", "delete t where id = 1", "delete t", ".undo"]
         self.check([*front, "select * from t", ".rollback", "select * from t"], ["t.id", "2", "t.id", "1", "2"])
         self.check([*front, ".commit", "select * from t", ".undo"], ["t.id", "2"], ["line 10: no change was done since .commit"])
@@ -342,6 +362,11 @@ class Held(shells.InThisProcess):
             self.do(shell, ".undo", ".count t", said="1000\n")
             self.do(shell, ".parameter set 1 0", "delete t where id >= ?")
             self.assertEqual(shell.transactions._rows, 1_000)
+            self.do(shell, ".parameter clear", "drop table u")
+            self.assertEqual(shell.transactions._rows, 2_000)
+            self.do(shell, "drop table t")
+            self.assertEqual([line for line, *_ in shell.transactions._kept], [b"drop table t"])
+            self.do(shell, ".undo", ".count t", said="0\n")
 
     def test_no_memory_for_a_transaction(self):
         shell = self.shell()
@@ -354,7 +379,7 @@ class Held(shells.InThisProcess):
             self.do(shell, f".load t {self.file('f', 'id')}", refused=f"error 90 no memory; no row of {self.room}/f went in")
         self.do(shell, ".begin", "insert t (4)")
         with unittest.mock.patch.object(shell.db, "begin", side_effect=mmdb.NoMemory(90, "no memory")):
-            self.do(shell, "drop table t", refused=f"drop {NOT_IN_ONE}")
+            self.do(shell, "drop table t", "table t (id int)", "insert t (4)")
             self.do(shell, "table u (id int)")
             self.do(shell, ".undo", refused="no memory was found to undo table u (id int)")
             self.do(shell, "delete t", ".count t", said="0\n")
@@ -367,7 +392,7 @@ class Held(shells.InThisProcess):
         answered = shell.db.answer
 
         def answer(line, block=None):
-            is_refused = line.startswith((b"insert", b"update", b"delete", b"index")) and shell.db.in_transaction
+            is_refused = line.startswith((b"insert", b"update", b"delete", b"index", b"drop")) and shell.db.in_transaction
             return b"error 90 no memory\n" if is_refused else answered(line, block)
 
         with unittest.mock.patch.object(shell.db, "answer", answer):
@@ -379,6 +404,8 @@ class Held(shells.InThisProcess):
             self.do(shell, ".undo", refused="no memory was found to undo update u set s = 'b'")
             self.do(shell, "index u s hash", "tables", said="table t (id int)\ntable u (id int, s text)\nindex u s hash\n")
             self.do(shell, ".undo", refused="no memory was found to undo index u s hash")
+            self.do(shell, "drop table t", "tables", said="table u (id int, s text)\nindex u s hash\n")
+            self.do(shell, ".undo", refused="no memory was found to undo drop table t")
 
     def test_answers_are_those_without_it(self):
         for name, stream, _ in harness.rows():
@@ -441,7 +468,10 @@ class AtATerminal(shells.AtATerminal):
             (".undo", "undone: index t id hash\n"),
             ("index t id hash", "ok\n"),
             ("drop index t id hash", "ok\n"),
-            (".undo", "drop index t id hash can't be undone\n"),
+            (".undo", "undone: drop index t id hash\n"),
+            ("drop table t", "ok\n"),
+            (".undo", "undone: drop table t\n"),
+            (".count t", "0\n"),
         ):
             self.assertEqual(shell.ask(line), answer)
         shell.type("\x04")
@@ -454,7 +484,7 @@ class AtATerminal(shells.AtATerminal):
         shell.type("table u (\n")
         shell.wait_for(" ...> ")
         self.assertEqual(self.asked(shell, "id int)", "mmdb*> "), "ok\n")
-        self.assertEqual(self.asked(shell, "drop table u", "mmdb*> "), f"drop {NOT_IN_ONE}\n")
+        self.assertEqual(self.asked(shell, "drop table u", "mmdb*> "), "ok\n")
         told = "  tabel u\n  ^\nerror 20 not a command: column 1: tabel is no command: is table meant?\n"
         self.assertEqual(self.asked(shell, "tabel u", "mmdb*> "), told)
         shell.type("ins\tt (7, 7)\n")
@@ -480,10 +510,8 @@ class Spelling(unittest.TestCase):
             transactions = Transactions(db)
             transactions.count = 1
             again = [self.told(db, transactions, line) for line in hand.LINES]
-        not_done = [was for was, now in zip(told, again) if was != now]
         self.assertGreater(sum(now.startswith("error 20 ") for now in again), 50)
-        self.assertEqual([was for was in not_done if was.startswith(("error 10 ", "error 11 ", "error 20 "))], [])
-        self.assertTrue(all(now.endswith(NOT_IN_ONE) for was, now in zip(told, again) if was != now))
+        self.assertEqual(again, told)
 
     def told(self, db, transactions, line):
         """What is told of a line, which changes nothing."""

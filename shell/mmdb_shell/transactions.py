@@ -8,10 +8,9 @@ are those that `.begin` has opened.
 from __future__ import annotations
 
 from functools import cached_property
-from typing import Any, Callable, List, Optional, Set, Tuple, TypeVar, Union
+from typing import Any, Callable, List, Optional, Tuple, TypeVar
 
 import mmdb
-from mmdb import InTransaction
 
 from .moving import answer
 from .showing import visible
@@ -24,7 +23,7 @@ _NO_COMMAND, _NO_MEMORY = (b"error 10 ", b"error 11 ", b"error 20 "), 90
 # The lines that change nothing, beside selects.
 _READING = (b"dump", b"tables")
 # How many changes are kept at most, and with how many rows before the last. (The library holds four bytes for each row, each row
-# that is deleted, and each value that an update replaces.)
+# that is deleted or dropped, and each value that an update replaces.)
 _MOST_CHANGES, _MOST_ROWS = 64, 1_000_000
 #: Of a file or a pipe so many lines are kept, so that a long one takes no more time for it.
 MOST_LINES = 10_000
@@ -51,10 +50,8 @@ class Transactions:
         self._rows = 0
         #: Whether changes by lines are kept.
         self.keeps = True
-        #: Why there is nothing to undo where none is kept, or the line that can't be undone.
-        self._nothing: Union[str, bytes] = "no change was done yet"
-        #: The words of lines that aren't done in transactions.
-        self._outside: Set[bytes] = set()
+        #: Why there is nothing to undo where none is kept.
+        self._nothing = "no change was done yet"
 
     # ---- those that are begun
 
@@ -97,22 +94,16 @@ class Transactions:
         if not (self.keeps or self.count):
             self._forget(_NOT_KEPT)
             return do(*given)
-        if self._outside and _word(line) in self._outside and not self._is_in_one():
-            return self._done_outside(line, do, *given)
+        dropped = self._rows_dropped(line) if line.lstrip(b" \t").startswith(b"drop") else 0
         try:
             if len(self._kept) >= _MOST_CHANGES or self._rows > _MOST_ROWS:
                 self._tried(do, *given)
             result = self._done(do, *given)
-        except InTransaction as why:
-            if do is answer:
-                self.check_spelling(line)
-            self._leave(line, why)
-            return self._done_outside(line, do, *given)
         except mmdb.Refused as why:
             if why.number != _NO_MEMORY:
                 raise
             return self._done_unkept(line, do, *given)
-        rows = 1 if result == _ONE_ROW else _rows_of(result)
+        rows = 1 if result == _ONE_ROW else _rows_of(result) + dropped
         self._kept.append((line, rows))
         self._rows += rows
         return result
@@ -129,7 +120,7 @@ class Transactions:
     def undo(self) -> str:
         """Takes the last change back, and tells which it was."""
         if not self._kept:
-            raise Trouble(self._nothing if isinstance(self._nothing, str) else f"{_told(self._nothing)} can't be undone")
+            raise Trouble(self._nothing)
         line, _ = self._kept.pop()
         self._db.rollback()
         self._forget("nothing more can be undone")
@@ -147,11 +138,7 @@ class Transactions:
     def _done_unkept(self, line: bytes, do: Callable[..., Result], *given: Any) -> Result:
         """Does a change for whose transaction no memory was found."""
         self._forget(f"no memory was found to undo {_told(line)}")
-        try:
-            return do(*given)
-        except InTransaction as why:
-            self._leave(line, why)
-            raise
+        return do(*given)
 
     def _tried(self, do: Callable[..., Result], *given: Any) -> None:
         """Does a change that is taken back again. Where it isn't refused, those before it are no longer kept."""
@@ -159,36 +146,28 @@ class Transactions:
         self._db.rollback()
         self._forget(_NO_MORE)
 
-    def _is_in_one(self) -> bool:
-        """Whether a transaction is open."""
-        return self.count > 0 or bool(self._kept)
+    def _rows_dropped(self, line: bytes) -> int:
+        """How many rows the table has that a line drops."""
+        words = line.decode("utf-8", "replace").split()
+        if words[:2] != ["drop", "table"] or len(words) != 3:
+            return 0
+        try:
+            return self._db.indexes(words[2])[0].rows
+        except mmdb.Error:
+            return 0
 
-    def _forget(self, nothing: Union[str, bytes]) -> None:
+    def _forget(self, nothing: str) -> None:
         """Ends the transactions of the changes that are kept."""
         for _ in self._kept:
             self._db.commit()
         self._kept.clear()
         self._rows, self._nothing = 0, nothing
 
-    # ---- what isn't done in a transaction
-
-    def _leave(self, line: bytes, why: InTransaction) -> None:
-        """Leaves the transactions of the changes that are kept. Raises Trouble where those of `.begin` are open."""
-        word = _word(line)
-        if self.count:
-            raise Trouble(f"{word.decode()} isn't done in a transaction: end it by .commit or .rollback first") from why
-        self._forget(_NO_MORE)
-        self._outside.add(word)
-
-    def _done_outside(self, line: bytes, do: Callable[..., Result], *given: Any) -> Result:
-        """Does a line outside of transactions, which can't be undone."""
-        result = do(*given)
-        self._forget(line)
-        return result
+    # ---- what is no command
 
     @cached_property
     def speller(self) -> mmdb.Database:
-        """A database without rows. What is no command it refuses as any other does, whatever is open in that one."""
+        """A database without rows. What is no command it refuses as any other does."""
         return mmdb.Database()
 
     def check_spelling(self, line: bytes) -> None:
