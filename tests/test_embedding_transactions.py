@@ -1,7 +1,7 @@
 """Transactions from C: each status, and every order of begin, insert, update, delete, commit and rollback beside plain lists.
 
-Declarations are undone too. Each call for memory is refused, and the bytes are counted that are held behind rounds of rollbacks and
-behind a commit.
+Declarations and drops are undone too. Each call for memory is refused, and the bytes are counted that are held behind rounds of
+rollbacks and behind a commit.
 """
 
 import os
@@ -11,7 +11,8 @@ import unittest
 from support import compiling, preloading
 
 TRANSACTIONS = compiling.PROGRAMS / "transactions.c"
-DELETES, UPDATES, DECLARATIONS = (compiling.PROGRAMS / f"undone_{what}.c" for what in ("deletes", "updates", "declarations"))
+UNDONE = ("deletes", "updates", "declarations", "drops")
+DELETES, UPDATES, DECLARATIONS, DROPS = (compiling.PROGRAMS / f"undone_{what}.c" for what in UNDONE)
 ROOM = compiling.Room()
 ROUNDS = 100
 HELD = re.compile(rb"\n\[held (\d+), most \d+\]\n([a-z ]+)\n")
@@ -57,6 +58,12 @@ class Declarations(Transactions):
     """Tables and indexes that are made and gone again, and the statements on them."""
 
     source = DECLARATIONS
+
+
+class Drops(Transactions):
+    """Tables and indexes that are dropped and back again, with all that links them to others."""
+
+    source = DROPS
 
 
 class Memory(compiling.Programs):

@@ -285,13 +285,7 @@ class Planted(unittest.TestCase):
 class Plain(transacted.Lists):
     """A handle whose tables are plain lists."""
 
-    def waits(self, line):
-        """Whether a line is put off in a transaction."""
-        return transacted.waits(line)
-
     def ask(self, line, block):
-        if self.saved and self.waits(line):
-            raise embedded.PutOff
         return self.answer(line, block)
 
     def transactions(self):
@@ -383,17 +377,17 @@ class LeavesEmptyTables(DeclaredRolledBack):
 
 class LeavesIndexes(DeclaredRolledBack):
     def mix(self, tables, now):
-        for name, table in tables.items():
-            table.indexes = list(now[name].indexes)
+        for name in tables.keys() & now.keys():
+            tables[name].indexes = list(now[name].indexes)
 
 
 class TakesTheLastIndex(DeclaredRolledBack):
     """It takes the last index of a table of which rows have changed, whenever that was made."""
 
     def mix(self, tables, now):
-        for name, table in tables.items():
-            if table.rows != now[name].rows:
-                del table.indexes[-1:]
+        for name in tables.keys() & now.keys():
+            if tables[name].rows != now[name].rows:
+                del tables[name].indexes[-1:]
 
 
 class RemembersTables(Plain):
@@ -421,18 +415,79 @@ class TellsIndexesOfNone(Plain):
         return super().indexes(name).replace(b"error 30 no such table\n", b"rows 0\n\n")
 
 
-class PutsNothingOff(Plain):
-    def waits(self, line):
-        return False
+class DroppedRolledBack(Plain):
+    """A rollback brings what was dropped back, which a mistake mixes."""
+
+    def roll_back(self):
+        now = self.tables.by_name
+        super().roll_back()
+        tables = self.tables.by_name
+        for name in tables.keys() - now.keys():
+            self.mix_table(tables, name)
+        for name in tables.keys() & now.keys():
+            for index in [index for index in tables[name].indexes if index not in now[name].indexes]:
+                self.mix_index(tables[name].indexes, index)
+
+    def mix_table(self, tables, name):
+        pass
+
+    def mix_index(self, indexes, index):
+        pass
 
 
-class PutsDeclarationsOff(Plain):
-    def waits(self, line):
-        return super().waits(line) or transacted.word_of(line) in ("table", "index")
+class LosesDroppedTables(DroppedRolledBack):
+    def mix_table(self, tables, name):
+        del tables[name]
+
+
+class LosesRowsOfDroppedTables(DroppedRolledBack):
+    def mix_table(self, tables, name):
+        tables[name].rows = []
+
+
+class LosesIndexesOfDroppedTables(DroppedRolledBack):
+    def mix_table(self, tables, name):
+        tables[name].indexes = []
+
+
+class BringsTablesBackAsTheLast(DroppedRolledBack):
+    def mix_table(self, tables, name):
+        tables[name] = tables.pop(name)
+
+
+class LosesDroppedIndexes(DroppedRolledBack):
+    def mix_index(self, indexes, index):
+        indexes.remove(index)
+
+
+class BringsIndexesBackAsTheLast(DroppedRolledBack):
+    def mix_index(self, indexes, index):
+        indexes.remove(index)
+        indexes.append(index)
+
+
+class KeepsTheOtherTable(Plain):
+    """A table that was made under the name of a dropped one stays in its place."""
+
+    def roll_back(self):
+        now = self.tables.by_name
+        super().roll_back()
+        for name, table in self.tables.by_name.items():
+            if name in now and now[name].columns != table.columns:
+                self.tables.by_name[name] = now[name]
+
+
+class PutsDropsOff(Plain):
+    """A drop is done in no transaction."""
+
+    def answer(self, line, block):
+        return b"" if self.saved and transacted.word_of(line) == "drop" else super().answer(line, block)
 
 
 MISTAKEN = (KeepsAll, KeepsWhatIsCommitted, UndoesAll, LeavesDeleted, LeavesUpdated, LeavesInserted, LeavesEntries, LeavesTables)
-MISTAKEN += (LeavesEmptyTables, LeavesIndexes, TakesTheLastIndex, RemembersTables, TellsIndexesOfNone, PutsNothingOff, PutsDeclarationsOff)
+MISTAKEN += (LeavesEmptyTables, LeavesIndexes, TakesTheLastIndex, RemembersTables, TellsIndexesOfNone, LosesDroppedTables)
+MISTAKEN += (LosesRowsOfDroppedTables, LosesIndexesOfDroppedTables, BringsTablesBackAsTheLast, LosesDroppedIndexes)
+MISTAKEN += (BringsIndexesBackAsTheLast, KeepsTheOtherTable, PutsDropsOff)
 
 
 class PlantedInTransactions(unittest.TestCase):

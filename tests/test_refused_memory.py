@@ -3,7 +3,7 @@ such a growth.
 
 What must hold: NoMemory is sealed, so a body outside of no_memory that makes one does not compile. An AllocError or an AllocFailed is made
 in no_memory alone, since a NoMemory is made of them. A variant named NoMemory holds no value: it is made of a NoMemory or out of another
-such variant, or its file is in PASSED_ON.
+such variant, or its file is in PASSED_ON. check_size of no_memory is called in the files of CHECKED alone.
 """
 
 import collections
@@ -44,13 +44,11 @@ TESTED = re.compile(r"(?:[=!]= |matches!.*)$")
 CONVERTS = re.compile(r"^impl\b.*\bFrom<(?:NoMemory|AllocError|AllocFailed<T>)> for\b")
 
 # How many variants a file gives that are made of no other: of a call that a growth alone can be refused to, or of what another library says
-# of a growth. execute.rt of mm_session refuses so what is not done in a transaction, and hiding.rt of mm_catalog where too many rows are
-# owed. answered.rt and blocks.rt of language_tests name one beside others.
+# of a growth. answered.rt and blocks.rt of language_tests name one beside others.
 PASSED_ON = {
     "language_tests/src/blocks.rt": 1,
     "mm_batch/src/fault.rt": 1,
     "mm_batch/src/watched.rt": 3,
-    "mm_catalog/src/hiding.rt": 1,
     "mm_csv/src/rows.rt": 1,
     "mm_lang/src/stops.rt": 1,
     "mm_reason/src/answered.rt": 1,
@@ -58,7 +56,6 @@ PASSED_ON = {
     "mm_reason/src/reasons.rt": 1,
     "mm_relation/src/keyed.rt": 1,
     "mm_relation/src/relation.rt": 1,
-    "mm_session/src/execute.rt": 1,
     "mm_session/src/stream/pending_block.rt": 1,
     "mm_session/src/stream/whole_run.rt": 1,
     "mm_statements/src/columns.rt": 1,
@@ -67,6 +64,10 @@ PASSED_ON = {
     "mmdb_c/src/statements.rt": 1,
     "relation_tests/src/searches.rt": 1,
 }
+
+# What calls check_size, which makes a NoMemory of a size that no block has. hiding.rt does so where a table would owe too many rows.
+CHECKED = {"mm_catalog/src/hiding.rt": 1, "part_raw/src/block.rt": 1, "ttree_node/src/parts.rt": 1}
+CHECK = re.compile(r"(?<!fn )\bcheck_size::<")
 
 
 def code_of(file):
@@ -140,3 +141,10 @@ class RefusedMemory(unittest.TestCase):
         for _, file in sources():
             made[str(file.relative_to(harness.ROOT / "crates"))] += variants_made(code_of(file))
         self.assertEqual({file: count for file, count in made.items() if count}, PASSED_ON)
+
+    def test_sizes_are_checked_where_it_is_known(self):
+        found = collections.Counter()
+        for crate, file in sources():
+            if crate != "no_memory":
+                found[str(file.relative_to(harness.ROOT / "crates"))] += sum(1 for line in code_of(file) if CHECK.search(line))
+        self.assertEqual({file: count for file, count in found.items() if count}, CHECKED)

@@ -47,11 +47,7 @@ class Rows(ctypes.Structure):
 
 CELL = struct.Struct("=qIHH")
 INTEGER, TEXT = 1, 2
-NO_MEMORY, REFUSED, IN_TRANSACTION = 7, 12, 16
-
-
-class PutOff(AssertionError):
-    """A call is not done while a transaction is open."""
+NO_MEMORY, REFUSED = 7, 12
 
 
 def call(name, result, *arguments):
@@ -119,8 +115,6 @@ class Handle:
 
     @staticmethod
     def done(status):
-        if status == IN_TRANSACTION:
-            raise PutOff(status)
         if status:
             raise AssertionError(f"a call gives the status {status}")
 

@@ -1,13 +1,13 @@
 """Streams in transactions: begin, commit and rollback are drawn among their units, nested to three, and a judge does the same. A unit is
-asked for in one of several ways, and fed in pieces where no transaction is open, since a piece waits in one.
+asked for in one of several ways, or fed in two pieces, between which transactions begin and end.
 
-What must hold: what begins as a drop is put off in a transaction, and nothing else is. It changes nothing, and the judge doesn't do it.
+What must hold: every unit is answered in a transaction as it is outside, and a rollback undoes it, drops and fed units too.
 """
 
 import collections
 import itertools
 
-from . import embedded, model
+from . import model
 
 MOST_OPEN = 3
 # The chances that a transaction begins, is committed and is rolled back before a unit.
@@ -18,12 +18,13 @@ FED = 0.1
 CHANGED = 0.24
 # The names of tables that are made then.
 MADE = ("made", "more")
-# The chance that a unit which was put off is done behind the transactions.
-DONE_BEHIND = 0.8
+# The chances that a declaration is dropped then instead of another change, and that such a one is declared again.
+DROPPED, AGAIN = 0.3, 0.6
 # The changes that are undone, and what has to come in a run of many streams.
-UNDONE = ("insert", "load", "update", "delete", "table", "index")
+UNDONE = ("insert", "load", "update", "delete", "table", "index", "drop table", "drop index")
 COVERED = [f"{what}, {number} open" for what in ("begun", "committed", "rolled back") for number in range(1, MOST_OPEN + 1)]
-COVERED += ["fed around", "put off", "tables gone", "indexes gone", *(f"of {word} undone" for word in UNDONE)]
+COVERED += ["tables gone", "indexes gone", "tables back", "indexes back", "another table gone", *(f"of {word} undone" for word in UNDONE)]
+COVERED += ["fed around", "fed in one", "of a fed unit undone"]
 
 
 def copy_of(table):
@@ -71,11 +72,6 @@ def written(value):
     return None if set(value) & set(b"\r\n") else "'" + value.decode().replace("'", "''") + "'"
 
 
-def waits(line):
-    """Whether a line waits until no transaction is open: it begins as a drop does, and may be none."""
-    return line.lstrip(b" \t").startswith(b"drop")
-
-
 def word_of(line):
     """The first word of a line, where it is one."""
     try:
@@ -83,6 +79,12 @@ def word_of(line):
     except model.Refused:
         return ""
     return symbols[0] if symbols else ""
+
+
+def change_of(line):
+    """The first word of a line, and of a drop the second too."""
+    word = word_of(line)
+    return " ".join(line.decode().split()[:2]) if word == "drop" else word
 
 
 class Run:
@@ -125,11 +127,12 @@ class Run:
         elif luck < BEGUN + COMMITTED + ROLLED_BACK and self.open:
             self.end(luck < BEGUN + COMMITTED)
         elif luck > 1 - CHANGED and self.open:
-            self.change(self.draw.choice([self.take_some, self.set_some, self.declare_some]))
+            is_drop = self.draw.random() < DROPPED
+            self.change(self.drop_some if is_drop else self.draw.choice([self.take_some, self.set_some, self.declare_some]))
 
     def change(self, some):
-        """Changes a table, which has rows unless something is declared."""
-        tables = [table for table in self.judge.tables.by_name.values() if table.rows or some == self.declare_some]
+        """Changes a table, which has rows unless something is declared or dropped."""
+        tables = [table for table in self.judge.tables.by_name.values() if table.rows or some in (self.declare_some, self.drop_some)]
         if tables:
             some(self.draw.choice(tables))
 
@@ -164,6 +167,36 @@ class Run:
             self.do_line(f"insert {name} ({number}, {key or 'null'})")
         self.do_line(f"index {name} k {kind}")
 
+    def drop_some(self, table):
+        """Drops an index, or this table, and before it perhaps those that refer to it. It may be declared again, the table as another.
+        Before all this some indexes may be made, and a savepoint behind them."""
+        if self.open < MOST_OPEN and self.draw.random() < 0.5:
+            for kind in self.draw.sample(["tree", "hash"], 2):
+                self.do_line(f"index {table.name} {self.draw.choice(table.columns).name} {kind}")
+            self.begin()
+        tables = self.judge.tables.by_name
+        indexes = [f"index {name} {of.columns[place].name} {kind}" for name, of in tables.items() for place, kind in of.indexes]
+        if indexes and self.draw.random() < 0.5:
+            index = self.draw.choice(indexes)
+            self.do_line(f"drop {index}")
+            if self.draw.random() < AGAIN:
+                self.do_line(index)
+            return
+        names = [name for name, other in tables.items() if table.name in (column.to for column in other.columns)]
+        for name in names if self.draw.random() < 0.7 else []:
+            self.do_line(f"drop table {name}")
+        self.do_line(f"drop table {table.name}")
+        if self.draw.random() < AGAIN:
+            self.make_another(table)
+
+    def make_another(self, table):
+        """Makes a table of a name that mostly is free, with some of the columns that another has had, and with one of its keys."""
+        columns = [table.columns[0], *(column for column in table.columns[1:] if self.draw.random() < 0.5)]
+        values = [written(row[0]) for row in table.rows[:1]] + ["null" if column.takes_null else "''" for column in columns[1:]]
+        self.do_line(f"table {table.name} ({', '.join(column.declaration() for column in columns)})")
+        if table.rows and None not in values:
+            self.do_line(f"insert {table.name} ({', '.join(values)})")
+
     def begin(self):
         self.handle.begin()
         self.judge.begin()
@@ -184,9 +217,13 @@ class Run:
         before = self.judge.tables.by_name
         self.handle.roll_back()
         self.judge.roll_back()
+        now = self.judge.tables.by_name
         self.count.update(("transactions", f"of {word} undone") for word in changed)
+        self.count["transactions", "tables back"] += len(now.keys() - before.keys())
+        others = sum(before[name].columns != now[name].columns for name in before.keys() & now.keys())
+        self.count["transactions", "another table gone"] += others
         self.look_at_all(before)
-        self.look_for(before.keys() - self.judge.tables.by_name.keys())
+        self.look_for(before.keys() - now.keys())
 
     def end_all(self):
         while self.open:
@@ -201,65 +238,41 @@ class Run:
         self.do(line.encode(), b"", iter(()))
 
     def do(self, line, block, left):
-        if self.feeds and not self.open and self.draw.random() < FED:
-            self.feed(line, block, left)
-            return
-        try:
-            answer = self.draw.choice(self.ways)(line, block)
-        except embedded.PutOff:
-            self.put_off(line, block, left)
-            return
-        if self.open and waits(line):
-            self.misfits.append(f"{line!r} is done where {self.open} transactions are open")
+        is_fed = self.feeds and self.draw.random() < FED
+        answer = self.fed(line, block, left) if is_fed else self.draw.choice(self.ways)(line, block)
         self.compare(line, block, answer)
         if self.open:
-            self.note_change(line, answer)
+            self.note_change(line, answer, is_fed)
         if self.looks_always:
             self.look_at_rows()
 
-    def note_change(self, line, answer):
-        word = word_of(line)
+    def note_change(self, line, answer, is_fed):
+        word = change_of(line)
         if answer.startswith(b"ok") and answer != b"ok 0\n" and word != "tables":
-            self.changed[-1].append(word)
+            self.changed[-1] += [word, *(["a fed unit"] if is_fed else [])]
             self.count["changes in transactions", word] += 1
 
-    def put_off(self, line, block, left):
-        """A unit was put off, so all is as it was. Mostly the transactions end, and it is done behind them."""
-        self.count["transactions", "put off"] += 1
-        if not self.open or not waits(line):
-            self.misfits.append(f"{line!r} is put off where {self.open} transactions are open")
-            return
-        self.look_at_rows()
-        if self.draw.random() < DONE_BEHIND:
-            self.end_all()
-            self.do(line, block, left)
-
-    def feed(self, line, block, left):
-        """Feeds a unit in two pieces, and between them mostly some other units in transactions."""
+    def fed(self, line, block, left):
+        """The answer to a unit that is fed in two pieces, between them mostly others, among which transactions begin and end."""
         unit = line + b"\n" + block
         end = self.draw.randrange(len(unit))
         told = self.handle.feed(unit[:end])
         if self.draw.random() < 0.6:
             self.do_between(left)
-        self.compare(line, block, told + self.handle.feed(unit[end:]))
+        self.count["transactions", "fed in one"] += bool(self.open)
+        return told + self.handle.feed(unit[end:])
 
     def do_between(self, left):
         self.count["transactions", "fed around"] += 1
         self.feeds = False
-        self.begin()
-        self.check_no_piece_is_taken()
+        if self.open < MOST_OPEN:
+            self.begin()
         for unit in itertools.islice(left, self.draw.randrange(1, 6)):
             self.do(*unit, left)
             self.turn()
-        self.end_all()
+        if self.draw.random() < 0.5:
+            self.end_all()
         self.feeds = True
-
-    def check_no_piece_is_taken(self):
-        try:
-            self.misfits.append(f"a piece is taken in a transaction: {self.handle.feed(b'tables')!r}")
-        except embedded.PutOff:
-            if self.handle.answer():
-                self.misfits.append("a piece is put off, and there are answers")
 
     # ---- what is compared
 
@@ -287,8 +300,9 @@ class Run:
                 self.misfits.append(f"the indexes {listed} are told as {self.handle.indexes(name.encode())!r}")
         for name, table in list(self.judge.tables.by_name.items()):
             was = before.get(name, table)
-            gone = [index for index in was.indexes if index not in table.indexes]
+            gone = [index for index in was.indexes if index not in table.indexes and index[0] < len(table.columns)]
             self.count["transactions", "indexes gone"] += len(gone)
+            self.count["transactions", "indexes back"] += sum(index not in was.indexes for index in table.indexes)
             self.look_through(table, [(0, "tree"), *table.indexes, *gone], [*table.rows, *was.rows])
 
     def look_for(self, names):

@@ -208,15 +208,6 @@ static int is_within(mmdb_status status, uint32_t allowed, const char *call)
     return is;
 }
 
-/* Whether a line begins as a drop does, and so waits until no transaction is open. */
-static int is_waiting(bytes line)
-{
-    size_t at = 0;
-    while (at < line.length && (line.at[at] == ' ' || line.at[at] == '\t'))
-        at++;
-    return line.length - at >= strlen("drop") && memcmp(line.at + at, "drop", strlen("drop")) == 0;
-}
-
 /* Whether another handle shares the tables of this one. */
 static int is_shared(const handle *of)
 {
@@ -318,9 +309,7 @@ static void commands(handle *of)
     mmdb_bytes answer;
     const mmdb_status status = mmdb_command(&of->db, line.at, line.length, is_drawn(95) ? &answer : NULL);
     const int is_none = line.at == NULL || line.length == 0;
-    const int is_put_off = !is_none && of->transactions > 0 && is_waiting(line);
-    const uint32_t done = is_put_off ? only(MMDB_IN_TRANSACTION) : unless_shared(of, only(MMDB_DONE) | only(MMDB_NOT_ONE_REQUEST));
-    const uint32_t allowed = is_none ? only(MMDB_NO_LINE) : done;
+    const uint32_t allowed = is_none ? only(MMDB_NO_LINE) : unless_shared(of, only(MMDB_DONE) | only(MMDB_NOT_ONE_REQUEST));
     if (is_within(status, of->is_open ? allowed : only(MMDB_NOT_OPEN), "command") && status == MMDB_DONE &&
         mmdb_answer(&of->db, &answer) == MMDB_DONE)
         reads_answer(of, answer);
@@ -347,8 +336,7 @@ static void feeds(handle *of)
 {
     const bytes piece = given_bytes_to(is_drawn(80) ? "\n" : "");
     const mmdb_status status = mmdb_feed(&of->db, piece.at, piece.length);
-    const uint32_t done = of->transactions > 0 ? only(MMDB_IN_TRANSACTION) : unless_shared(of, only(MMDB_DONE));
-    const uint32_t allowed = is_null(piece) ? only(MMDB_NO_LINE) | (done & only(MMDB_IN_TRANSACTION)) : done;
+    const uint32_t allowed = is_null(piece) ? only(MMDB_NO_LINE) : unless_shared(of, only(MMDB_DONE));
     mmdb_bytes answer;
     if (is_within(status, of->is_open ? allowed : only(MMDB_NOT_OPEN), "feed") && status == MMDB_DONE) {
         GIVES(mmdb_answer(&of->db, &answer), MMDB_DONE);

@@ -103,6 +103,12 @@ static void round_of_changes(mmdb *db)
     answered(db, "table more (id int, task ref task)");
     answered(db, "delete emp");
     load_rows(db, 4 * ROWS, ROWS);
+    answered(db, "drop index emp n hash");
+    answered(db, "drop table more");
+    answered(db, "drop table task");
+    answered(db, "drop table proj");
+    answered(db, "drop table emp");
+    answered(db, "table emp (id text)");
     GIVES(mmdb_rollback(db), MMDB_DONE);
     GIVES(mmdb_rollback(db), MMDB_DONE);
 }
@@ -125,7 +131,9 @@ static void change_once(int in_transaction, int takes_all, const char *word)
         GIVES(mmdb_begin(&db), MMDB_DONE);
     changes(&db);
     if (takes_all) {
-        answered(&db, "delete proj where id >= 0");
+        answered(&db, "drop index emp n tree");
+        answered(&db, "drop table task");
+        answered(&db, "drop table proj");
         answered(&db, "delete emp where id >= 0");
     }
     if (in_transaction)

@@ -53,6 +53,14 @@ class Kept:
             self.db.execute("insert v (1, ?)", KEY)
             self.db.execute("index v c hash")
 
+    def drop_in_transaction(self):
+        with self.db.transaction():
+            self.db.execute("drop index t s hash")
+            self.update.execute(LONG, 1)
+            self.db.execute("drop table t")
+            self.db.execute("table t (id int, s text, c ref u null)")
+            self.insert.execute(4, LONG)
+
     def prepare(self):
         self.more.append(self.db.prepare("select s, c from t where s = ? and id < ? and c <> 'a text that is given'"))
 
@@ -75,6 +83,7 @@ STEPS = (
     lambda of: of.update_in_transaction(),
     lambda of: of.delete_in_transaction(),
     lambda of: of.declare_in_transaction(),
+    lambda of: of.drop_in_transaction(),
     lambda of: of.db.change("update t set c = ? where id = ?", KEY, 1),
 )
 

@@ -406,22 +406,26 @@ static void none_begins_where_tables_are_shared(void)
     mmdb_close(&both.db);
 }
 
-/* Those that begin as a drop does, whether they spell one or not; and pieces. */
-static void lines_are_put_off(mmdb *db)
+/* Drops and pieces are done and undone as all else. */
+static void drops_and_pieces_are_done(mmdb *db)
 {
-    static const char *const DROPS[] = { "drop table t", "drop table u", "drop index t s hash", "drop index t m tree", "drop",
-                                         "drop\r",       "dropx",        "drop,",               "dropped table t",     " \tdrop nothing" };
+    static const char *const DROPPED = "drop index t s hash\ndrop table t\n# none\ndrop tab";
     mmdb_bytes answer;
-    for (size_t i = 0; i < sizeof DROPS / sizeof *DROPS; i++) {
-        GIVES(command(db, DROPS[i], &answer), MMDB_IN_TRANSACTION);
-        CHECK(reads(answer, ""));
-    }
-    GIVES(load(db, "drop table t", "", NULL), MMDB_IN_TRANSACTION);
-    GIVES(load(db, "drop t 5", "id,s\n", NULL), MMDB_IN_TRANSACTION);
-    GIVES(load(db, "index t 5", "id,s\n", NULL), MMDB_NOT_ONE_REQUEST);
-    GIVES(feed(db, "tables\n"), MMDB_IN_TRANSACTION);
+    GIVES(mmdb_begin(db), MMDB_DONE);
+    GIVES(load(db, "drop index t s hash", "", &answer), MMDB_DONE);
+    CHECK(reads(answer, "ok\n"));
+    GIVES(load(db, "drop t 5", "id,s\n", NULL), MMDB_NOT_ONE_REQUEST);
+    GIVES(mmdb_rollback(db), MMDB_DONE);
+    GIVES(mmdb_begin(db), MMDB_DONE);
+    GIVES(feed(db, DROPPED), MMDB_DONE);
     GIVES(mmdb_answer(db, &answer), MMDB_DONE);
-    CHECK(reads(answer, ""));
+    CHECK(reads(answer, "ok\nok\n"));
+    GIVES(command(db, "tables", &answer), MMDB_DONE);
+    CHECK(reads(answer, "ok 0\n"));
+    GIVES(mmdb_rollback(db), MMDB_DONE);
+    GIVES(feed(db, "le u\n"), MMDB_DONE);
+    GIVES(mmdb_answer(db, &answer), MMDB_DONE);
+    CHECK(reads(answer, "error 30 no such table\n"));
 }
 
 static void other_lines_are_answered(mmdb *db)
@@ -457,6 +461,13 @@ static void other_lines_are_answered(mmdb *db)
         { " \tindex nothing", "error 20 not a command\n" },
         { "indexx t n hash", "error 20 not a command\n" },
         { "dro table t", "error 20 not a command\n" },
+        { "drop", "error 20 not a command\n" },
+        { "drop,", "error 20 not a command\n" },
+        { " \tdrop nothing", "error 20 not a command\n" },
+        { "dropped table t", "error 20 not a command\n" },
+        { "drop table u", "error 30 no such table\n" },
+        { "drop index t m tree", "error 32 no such column\n" },
+        { "drop index t id hash", "error 38 no such index\n" },
         { "updat t set s = 'x'", "error 20 not a command\n" },
         { "no command", "error 20 not a command\n" },
         { "# a comment", "" },
@@ -503,15 +514,13 @@ static void what_is_done_in_one(void)
     pair both = opened();
     begin(&both);
     insert(&both, 0);
-    lines_are_put_off(&both.db);
+    drops_and_pieces_are_done(&both.db);
     other_lines_are_answered(&both.db);
     statements_are_refused_as_ever(&both);
     tables_are_neither_shared_nor_left(&both.db);
     are_alike(&both);
     roll_back(&both);
     are_alike(&both);
-    GIVES(command(&both.db, "drop index t s hash", NULL), MMDB_DONE);
-    GIVES(feed(&both.db, "drop table t\n"), MMDB_DONE);
     mmdb_close(&both.db);
 }
 
@@ -524,9 +533,8 @@ static void rows_answers_and_the_stream_stay(void)
     begin(&both);
     delete_by_line(&both);
     insert_by_line(&both, 1);
-    GIVES(feed(&both.db, "select i"), MMDB_IN_TRANSACTION);
-    commit(&both);
     GIVES(feed(&both.db, "select i"), MMDB_DONE);
+    commit(&both);
     GIVES(query(&both.db, "select s from t", &rows), MMDB_DONE);
     GIVES(command(&both.db, "select id from t", NULL), MMDB_DONE);
     begin(&both);

@@ -2,83 +2,11 @@
    that came, were updated and were deleted. After a rollback all is as before, names are free, and statements find no such table.
    After a commit all is as if it had been declared outside. Each call for memory is refused in its turn. */
 #include "cells.h"
-#include "departments.h"
+#include "declaring.h"
 
 #define ROUNDS 100
 
-#define LONG "another name that no cell of a row can hold"
-#define NO_TABLE "error 30 no such table\n"
-
-static void answers(mmdb *db, const char *line, const char *expected)
-{
-    mmdb_bytes answer;
-    GIVES(command(db, line, &answer), MMDB_DONE);
-    if (!reads(answer, expected))
-        fprintf(stderr, "%s is answered %.*s", line, (int)answer.length, (const char *)answer.at);
-    CHECK(reads(answer, expected));
-}
-
-static void declare(mmdb *db, const char *line)
-{
-    answers(db, line, "ok\n");
-}
-
-static int is_answered_alike(mmdb *db, mmdb *twin, const char *line)
-{
-    mmdb_bytes one, other;
-    GIVES(command(db, line, &one), MMDB_DONE);
-    GIVES(command(twin, line, &other), MMDB_DONE);
-    return one.length == other.length && memcmp(one.at, other.at, one.length) == 0;
-}
-
-/* Each index of a table is told with its column, its kind and this number of rows. */
-static void has_indexes(mmdb *db, const char *table, const char *const *indexes, size_t count, size_t rows)
-{
-    mmdb_bytes told;
-    char front[64], text[2048];
-    const char *at = text;
-    GIVES(mmdb_indexes(db, table, strlen(table), &told), MMDB_DONE);
-    snprintf(text, sizeof text, "%.*s", (int)told.length, (const char *)told.at);
-    snprintf(front, sizeof front, "rows %zu\n", count);
-    CHECK(strncmp(at, front, strlen(front)) == 0);
-    for (size_t i = 0; i < count; i++) {
-        at = strchr(at, '\n') + 1;
-        at += i == 0 ? strcspn(at, "\n") + 1 : 0;
-        snprintf(front, sizeof front, "%s,%zu,", indexes[i], rows);
-        CHECK(strncmp(at, front, strlen(front)) == 0);
-    }
-}
-
-static void is_no_table(mmdb *db, const char *name)
-{
-    static const char *const LINES[] = { "dump %s", "select * from %s", "insert %s (1)", "delete %s", "index %s id hash" };
-    mmdb_bytes told;
-    char line[64];
-    for (size_t i = 0; i < sizeof LINES / sizeof *LINES; i++) {
-        snprintf(line, sizeof line, LINES[i], name);
-        answers(db, line, NO_TABLE);
-    }
-    GIVES(mmdb_indexes(db, name, strlen(name), &told), MMDB_DONE);
-    CHECK(reads(told, NO_TABLE));
-}
-
 /* ---- tables */
-
-/* A table that refers to one that is there, and another that refers to both. They have rows, and indexes made before and after these. */
-static void make_tables(mmdb *db)
-{
-    static const char *const PROJ[] = { "id,tree", "lead,tree", "name,hash" }, *const TASK[] = { "id,tree", "proj,hash" };
-    declare(db, "table proj (id int, lead ref emp null, name text)");
-    declare(db, "index proj lead tree");
-    load_rows(db, "proj", "id,lead,name\n1,7,Moon\n2,8," LONG "\n3,,Sun\n");
-    declare(db, "index proj name hash");
-    declare(db, "table task (id text, proj ref proj, dept ref dept null)");
-    CHECK(changed_by(db, "insert task ('a', 1, 3)") == 1);
-    CHECK(changed_by(db, "insert task ('" LONG "', 2, null)") == 1);
-    declare(db, "index task proj hash");
-    has_indexes(db, "proj", PROJ, 3, 3);
-    has_indexes(db, "task", TASK, 2, 2);
-}
 
 /* What is made is found, and holds what it refers to. */
 static void use_tables(mmdb *db)
@@ -138,7 +66,6 @@ static void tables_are_kept(void)
     begin(&db);
     use_tables(&db);
     commit(&db);
-    GIVES(command(&db, "drop table task", NULL), MMDB_IN_TRANSACTION);
     commit(&db);
     CHECK(is_as_in(&db, made));
     CHECK(is_answered_alike(&db, &twin, "dump proj") && is_answered_alike(&db, &twin, "dump task"));
@@ -383,13 +310,6 @@ static void older_indexes_stay(void)
 
 /* ---- statements */
 
-static mmdb_statement prepared(mmdb *db, const char *line)
-{
-    mmdb_statement statement = { 0, 0 };
-    GIVES(mmdb_prepare(db, line, strlen(line), &statement), MMDB_DONE);
-    return statement;
-}
-
 /* Binds an integer and a text to the two places of a statement. */
 static void bind_both(mmdb *db, mmdb_statement to, int64_t integer, const char *text, uint32_t place_of_text)
 {
@@ -535,15 +455,6 @@ static void a_commit_gives_the_memory_back(void)
 {
     const long outside = held_after(declare_much, 0), inside = held_after(declare_much, 1);
     CHECK(inside <= outside + 64 * (56 + 4));
-}
-
-/* Whether a declaration was done, which is refused by no memory otherwise. */
-static int was_declared(mmdb *db, const char *line)
-{
-    mmdb_bytes answer;
-    GIVES(command(db, line, &answer), MMDB_DONE);
-    CHECK(reads(answer, "ok\n") || reads(answer, "error 90 no memory\n"));
-    return mmdb_refusal(db) == 0;
 }
 
 /* Begins, and declares among other changes. Gives how many declarations were refused. */
