@@ -125,8 +125,7 @@ typedef enum mmdb_status {
     MMDB_SHARED = 14,            /* mmdb_execute and mmdb_query of a change; mmdb_command, mmdb_load, mmdb_feed, mmdb_begin:
                                     another handle shares the tables. Nothing changed */
     MMDB_NO_TRANSACTION = 15,    /* mmdb_commit, mmdb_rollback: no transaction is open */
-    MMDB_IN_TRANSACTION = 16     /* what isn't done in a transaction: mmdb_command and mmdb_load of a line that begins
-                                    with drop; mmdb_feed, mmdb_share, mmdb_leave. Nothing changed */
+    MMDB_IN_TRANSACTION = 16     /* mmdb_share, mmdb_leave: a transaction is open. Nothing changed */
 } mmdb_status;
 
 /* How plans are chosen. No policy changes an answer, only what it costs. MMDB_AUTO is the one to take. */
@@ -152,9 +151,8 @@ uint32_t mmdb_open(mmdb *db, uint32_t policy, uint32_t rows, uint32_t block);
 /* Answers one line, which has no line feed. One carriage return at its end is dropped, so the line may be what stands
    before a line feed in any file. A line that asks for a block, as `load T 20` does, goes to mmdb_load.
    Gives MMDB_DONE and the answer, which is good until the next call on this handle: the bytes that the program mmdb
-   writes for the line, none for blanks and comments. Or gives MMDB_NOT_OPEN or MMDB_NO_LINE; or MMDB_IN_TRANSACTION
-   where a transaction is open and the line begins with drop; or MMDB_SHARED, whatever line it is; or
-   MMDB_NOT_ONE_REQUEST. */
+   writes for the line, none for blanks and comments. Or gives MMDB_NOT_OPEN or MMDB_NO_LINE; or MMDB_SHARED, whatever line
+   it is; or MMDB_NOT_ONE_REQUEST. */
 uint32_t mmdb_command(mmdb *db, const void *line, size_t length, mmdb_bytes *answer);
 
 /* Answers one line with the block that it asks for: `load T 20` with 20 bytes. Answer and statuses are as those of
@@ -217,8 +215,8 @@ uint32_t mmdb_query(mmdb *db, const void *line, size_t length, mmdb_rows *rows);
    them, at its line feed or with the last byte of its block; mmdb_answer gives these answers. A request whose end is
    yet to come waits for the next piece. mmdb_command and mmdb_load stand beside the stream and leave what waits.
    Gives MMDB_DONE; MMDB_NOT_OPEN; MMDB_NO_LINE; MMDB_NO_MEMORY where the answers found no room, and then the stream is
-   over, and requests of this piece may have been done; MMDB_ENDED where it was over before; or MMDB_IN_TRANSACTION or
-   MMDB_SHARED, and then the piece was not taken, and the last answers have no bytes. */
+   over, and requests of this piece may have been done; MMDB_ENDED where it was over before; or MMDB_SHARED, and then the
+   piece was not taken, and the last answers have no bytes. */
 uint32_t mmdb_feed(mmdb *db, const void *piece, size_t length);
 
 /* Tells how the indexes of a table stand, by its name, beside the stream; it changes nothing. The answer is as that of a
@@ -276,7 +274,8 @@ uint32_t mmdb_prepare_reason(mmdb *db, const void *line, size_t length, mmdb_byt
 uint32_t mmdb_statement_reason(mmdb *db, uint32_t statement, mmdb_bytes *reason);
 
 /* Begins a transaction, in those of the handle that are open: a second is a savepoint of the first. The stream, the
-   statements, the rows and the answers stay, here and where a transaction ends.
+   statements, the rows and the answers stay, here and where a transaction ends. In it all is done that is done outside,
+   but for mmdb_share and mmdb_leave.
    Gives MMDB_DONE; or MMDB_NOT_OPEN, MMDB_NO_MEMORY or MMDB_SHARED, and then none has begun. */
 uint32_t mmdb_begin(mmdb *db);
 
@@ -291,8 +290,8 @@ size_t mmdb_transactions(mmdb *db);
 
 /* Has a second handle share the tables of a first, and its stream, in the place of its own. A closed reader is open then,
    without statements. Where it was open, its statements with their values, its rows and its answers stay. All is as it
-   was of db. While two handles share tables, each reads them by mmdb_execute and mmdb_query of a select, and neither
-   changes them (MMDB_SHARED). Both are in a call here.
+   was of db. While two handles share tables, each reads them by mmdb_execute and mmdb_query of a select, and by
+   mmdb_columns, mmdb_plan and mmdb_indexes; neither changes them (MMDB_SHARED). Both are in a call here.
    Gives MMDB_DONE; or MMDB_NOT_OPEN where db is closed or a handle is null, MMDB_IN_TRANSACTION where a transaction of
    either is open, or MMDB_NO_MEMORY, and then reader is as it was. */
 uint32_t mmdb_share(mmdb *db, mmdb *reader);
