@@ -1,5 +1,5 @@
 -- Changes that leave which tables there are, and their columns, and what is known then of the database.
-use Rattle.std.proofs.Common.{◌≡◌, ℕ, Bool, true, false, List, [], ◌∷◌, Option, Some, None, refl, sym, ap, ◌∙◌, map}
+use Rattle.std.proofs.Common.{◌≡◌, ℕ, true, List, [], ◌∷◌, Option, Some, None, refl, sym, ◌∙◌, map}
 use Rattle.std.proofs.lemmas.Bool.{false≢true}
 use Rattle.std.specs.Prelude.{zip, slice_get, slice_set}
 use Rattle.std.specs.Option.{option_map_or}

@@ -24,6 +24,7 @@
 mod lodged;
 mod log;
 mod no_transaction;
+mod step;
 mod transactional;
 
 pub use no_transaction::NoTransaction;

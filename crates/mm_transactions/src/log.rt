@@ -7,10 +7,11 @@ ghost use Rattle.mm_catalog.specs.Outline.{IsOutline, outline_of};
 ghost use Rattle.mm_transactions.specs.Log.{change_of};
 ghost use Rattle.mm_transactions.specs.Undoing.{IsReady, before, keeps_tables};
 
-use crate::lodged::{Lodged, Lodging};
+use crate::lodged::Lodging;
+use crate::step::{Kind, Step, note, take_newest};
+use mm_catalog::Catalog;
 use mm_catalog::laws::a_catalog_is_consistent;
-use mm_catalog::{Catalog, DroppedTable};
-use mm_relation::{DroppedIndex, StoredCell};
+use mm_relation::StoredCell;
 use no_memory::NoMemory;
 use part_raw::TupleRef;
 use plain_tables::{
@@ -18,61 +19,6 @@ use plain_tables::{
 };
 use std::alloc::Global;
 use std::marker::Model;
-use std::mem::size_of;
-
-/// What a command did to a table.
-#[derive(Drop)]
-pub enum Kind {
-    /// Rows came in.
-    Came,
-    /// Rows went out, and are hidden.
-    Went,
-    /// Values were assigned to rows, to so many cells of each.
-    Updated {
-        width: usize,
-    },
-    /// It was declared, and stood last. These tables count links since.
-    TableDeclared {
-        gained: Vec<TableNumber>,
-    },
-    /// It was dropped, with no rows left but hidden ones.
-    TableDropped {
-        dropped: Lodged<DroppedTable>,
-    },
-    /// An index of it was declared.
-    IndexDeclared {
-        column: ColumnNumber,
-        kind: IndexKind,
-    },
-    /// An index of it was dropped.
-    IndexDropped {
-        dropped: Lodged<DroppedIndex>,
-    },
-}
-
-impl Kind {
-    // Whether it left which tables there are, and their columns.
-    fn keeps_tables(&self) -> bool
-        ensures { (n : ℕ) (refs : List TupleRef) (cells : List CellSet) → result ≡ keeps_tables (change_of self.now n refs cells) }
-    {
-        match self {
-            Kind::TableDeclared { .. } | Kind::TableDropped { .. } => false,
-            _ => true,
-        }
-    }
-}
-
-/// A command that was done. The references of its rows stand in the log's list from `start` to the next step's, and what stood in
-/// cells of theirs that it changed from `cells_start`, one row's behind the other's.
-#[derive(Drop)]
-pub struct Step {
-    kind: Kind,
-    table: TableNumber,
-    start: usize,
-    cells_start: usize,
-}
-
-const _: () = prove!(size_of::<Step>() == 56);
 
 // The most steps, and the most references, that a log keeps memory for when no transaction is open.
 const KEPT: usize = 256;
@@ -81,11 +27,13 @@ const KEPT: usize = 256;
 #[derive(Drop)]
 pub struct UndoLog {
     steps: Vec<Step>,
+    // How many commands they are.
+    commands: usize,
     // The references of all steps, one behind the other.
     refs: Vec<TupleRef>,
     // What stood in the cells that all steps changed, one behind the other.
     cells: Vec<(ColumnNumber, StoredCell)>,
-    // How many steps there were when each transaction began, the innermost last.
+    // How many commands there were when each transaction began, the innermost last.
     marks: Vec<usize>,
 }
 
@@ -96,7 +44,7 @@ impl Model for UndoLog {
     ghost use Rattle.mm_relation.specs.contracts.row.Cell.{the_row as cell_row};
     ghost use Rattle.mm_relation.specs.contracts.taken.DroppedIndex.{the_row as dropped_row};
     ghost use Rattle.mm_catalog.specs.contracts.dropped_table.DroppedTable.{the_row as table_row};
-    ghost use Rattle.mm_transactions.specs.Log.{LogState, changes_of, AreSteps, log_code};
+    ghost use Rattle.mm_transactions.specs.Log.{LogState, changes_of, ArePlaced, log_code};
     ghost use Rattle.mm_transactions.specs.Parts.{change_code};
 
     ghost Value = { LogState };
@@ -105,7 +53,7 @@ impl Model for UndoLog {
 
     ghost view = { λ l. record { changes = changes_of (reverse l.steps.items) l.refs.items l.cells.items; marks = reverse l.marks.items } };
 
-    ghost invariant = { λ l. AreSteps (reverse l.steps.items) (length l.refs.items) (length l.cells.items) };
+    ghost invariant = { λ l. ArePlaced (reverse l.steps.items) l.refs.items l.cells.items l.commands };
 }
 
 impl UndoLog {
@@ -129,17 +77,18 @@ impl UndoLog {
     {
         UndoLog {
             steps: Vec::new(alloc),
+            commands: 0,
             refs: Vec::new(alloc),
             cells: Vec::new(alloc),
             marks: Vec::new(alloc),
         }
     }
 
-    /// How many steps there are.
+    /// How many commands there are.
     pub fn len(&self) -> usize
         ensures { result ≡ length self.now.changes }
     {
-        self.steps.len()
+        self.commands
     }
 
     /// How many transactions are open.
@@ -155,11 +104,11 @@ impl UndoLog {
         ensures opened { OnOk result (self.new.marks ≡ length self.old.changes ∷ self.old.marks) }
         ensures unchanged { OnErr result (self.new ≡ self.old) }
     {
-        self.marks.push(self.steps.len())?;
+        self.marks.push(self.commands)?;
         Ok(())
     }
 
-    /// Closes the innermost transaction, and tells how many steps there were when it began.
+    /// Closes the innermost transaction, and tells how many commands there were when it began.
     pub fn close(&mut self) -> Option<usize>
         ensures changes { self.new.changes ≡ self.old.changes }
         ensures closed { MatchOption result ((self.old.marks ≡ []) × (self.new ≡ self.old)) (λ mark. self.old.marks ≡ mark ∷ self.new.marks) }
@@ -177,6 +126,7 @@ impl UndoLog {
             empty_list(&mut self.steps);
             empty_list(&mut self.refs);
             empty_list(&mut self.cells);
+            self.commands = 0;
         }
     }
 
@@ -210,13 +160,14 @@ impl UndoLog {
         make_room(&mut self.steps, &mut self.refs, 1)?;
         let r = catalog.insert_row(table, values)?;
         let step = Step {
-            kind: Kind::Came,
+            kind: Kind::Came { more: 0 },
             table,
             start: self.refs.len(),
             cells_start: self.cells.len(),
         };
         self.refs.push_reserved(r);
-        self.steps.push_reserved(step);
+        note(&mut self.steps, step, 1);
+        self.commands += 1;
         Ok(())
     }
 
@@ -238,12 +189,15 @@ impl UndoLog {
         let start = self.refs.len();
         let cells_start = self.cells.len();
         catalog.load_listed(table, rows, &mut self.refs)?;
-        self.steps.push_reserved(Step {
-            kind: Kind::Came,
+        let end = self.refs.len();
+        let step = Step {
+            kind: Kind::Came { more: 0 },
             table,
             start,
             cells_start,
-        });
+        };
+        note(&mut self.steps, step, end - start);
+        self.commands += 1;
         Ok(())
     }
 
@@ -268,12 +222,14 @@ impl UndoLog {
         let start = self.refs.len();
         let cells_start = self.cells.len();
         note_rows(&mut self.refs, rows);
-        self.steps.push_reserved(Step {
-            kind: Kind::Went,
+        let step = Step {
+            kind: Kind::Went { more: 0 },
             table,
             start,
             cells_start,
-        });
+        };
+        note(&mut self.steps, step, rows.len());
+        self.commands += 1;
         Ok(())
     }
 
@@ -299,14 +255,17 @@ impl UndoLog {
         let cells_start = self.cells.len();
         catalog.update_noted(table, rows, assignments, &mut self.cells)?;
         note_rows(&mut self.refs, rows);
-        self.steps.push_reserved(Step {
+        let step = Step {
             kind: Kind::Updated {
                 width: assignments.len(),
+                more: 0,
             },
             table,
             start,
             cells_start,
-        });
+        };
+        note(&mut self.steps, step, rows.len());
+        self.commands += 1;
         Ok(())
     }
 
@@ -328,12 +287,14 @@ impl UndoLog {
         let gained = catalog.create_noted(name, schema)?;
         let start = self.refs.len();
         let cells_start = self.cells.len();
-        self.steps.push_reserved(Step {
+        let step = Step {
             kind: Kind::TableDeclared { gained },
             table,
             start,
             cells_start,
-        });
+        };
+        note(&mut self.steps, step, 0);
+        self.commands += 1;
         Ok(())
     }
 
@@ -352,21 +313,24 @@ impl UndoLog {
         let start = self.refs.len();
         let cells_start = self.cells.len();
         catalog.empty_table(table, &mut self.refs)?;
-        self.steps.push_reserved(Step {
-            kind: Kind::Went,
+        let end = self.refs.len();
+        let went = Step {
+            kind: Kind::Went { more: 0 },
             table,
             start,
             cells_start,
-        });
+        };
+        note(&mut self.steps, went, end - start);
         a_catalog_is_consistent(catalog);
         let dropped = lodging.put(catalog.take_table_out(table, room));
-        let end = self.refs.len();
-        self.steps.push_reserved(Step {
+        let step = Step {
             kind: Kind::TableDropped { dropped },
             table,
             start: end,
             cells_start,
-        });
+        };
+        note(&mut self.steps, step, 0);
+        self.commands += 2;
         Ok(())
     }
 
@@ -388,12 +352,14 @@ impl UndoLog {
         catalog.add_index(table, column, kind)?;
         let start = self.refs.len();
         let cells_start = self.cells.len();
-        self.steps.push_reserved(Step {
+        let step = Step {
             kind: Kind::IndexDeclared { column, kind },
             table,
             start,
             cells_start,
-        });
+        };
+        note(&mut self.steps, step, 0);
+        self.commands += 1;
         Ok(())
     }
 
@@ -420,25 +386,26 @@ impl UndoLog {
         let dropped = lodging.put(catalog.take_index_out(table, column, kind)?);
         let start = self.refs.len();
         let cells_start = self.cells.len();
-        self.steps.push_reserved(Step {
+        let step = Step {
             kind: Kind::IndexDropped { dropped },
             table,
             start,
             cells_start,
-        });
+        };
+        note(&mut self.steps, step, 0);
+        self.commands += 1;
         Ok(())
     }
 
-    // Undoes the newest step. It takes no memory.
+    // Undoes the newest command. It takes no memory.
     fn undo_newest(&mut self, catalog: &mut Catalog) -> bool
         requires some { 0 < length self.old.changes }
         requires ready { CanUndo self.old.changes (outline_of catalog.old) }
         ensures undone { IsUndone (outline_of catalog.old) (outline_of catalog.new) self.old self.new }
         ensures tables { result ≡ true → HaveSameTables (outline_of catalog.old) (outline_of catalog.new) }
     {
-        let Some(step) = self.steps.pop() else {
-            unreachable!();
-        };
+        let step = take_newest(&mut self.steps, self.refs.len(), self.cells.len());
+        self.commands -= 1;
         let keeps = step.kind.keeps_tables();
         let rows = &self.refs[step.start..];
         let cells = &mut self.cells[step.cells_start..];
@@ -448,7 +415,7 @@ impl UndoLog {
         keeps
     }
 
-    /// Undoes steps, the newest first, until so many are left. It takes no memory, and never fails. It tells whether which tables
+    /// Undoes commands, the newest first, until so many are left. It takes no memory, and never fails. It tells whether which tables
     /// there are, and their columns, stayed as they were, which is so where none was declared or dropped.
     pub fn undo_to(&mut self, catalog: &mut Catalog, mark: usize) -> bool
         requires within { mark ≤ length self.old.changes }
@@ -467,7 +434,7 @@ impl UndoLog {
     }
 }
 
-// Undoes what a step did to a table, and to these rows of it, in which these cells stood. It takes no memory.
+// Undoes what a command did to a table, and to these rows of it, in which these cells stood. It takes no memory.
 fn undo_step(
     catalog: &mut Catalog,
     kind: Kind,
@@ -481,9 +448,9 @@ fn undo_step(
 {
     a_catalog_is_consistent(catalog);
     match kind {
-        Kind::Came => catalog.take_back(table, rows),
-        Kind::Went => catalog.show(table, rows),
-        Kind::Updated { width } => catalog.change_back(table, rows, width, cells),
+        Kind::Came { .. } => catalog.take_back(table, rows),
+        Kind::Went { .. } => catalog.show(table, rows),
+        Kind::Updated { width, .. } => catalog.change_back(table, rows, width, cells),
         Kind::TableDeclared { gained } => catalog.take_back_table(gained.as_slice()),
         Kind::TableDropped { dropped } => catalog.put_table_back(dropped.take()),
         Kind::IndexDeclared { column, kind } => catalog.drop_index(table, column, kind),

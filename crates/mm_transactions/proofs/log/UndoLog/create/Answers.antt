@@ -1,25 +1,39 @@
-use Rattle.std.proofs.Common.{◌≡◌, ◌∷◌, [], ◌++◌, refl, sym, ap, ◌∙◌, arith, length, map, append-nil}
+use Rattle.std.proofs.Common.{◌≡◌, ◌+◌, ◌∷◌, [], refl, sym, arith, length, map, reverse, append-nil}
 use Rattle.mm_transactions.specs.Undoing.{TableDeclared}
-use Rattle.mm_transactions.specs.declared.log.Kind.TheVariants as kind
-use Rattle.mm_transactions.specs.declared.log.Step.{Step}
-use Rattle.mm_transactions.proofs.Steps.{noted_change}
+use Rattle.mm_transactions.specs.Log.{ArePlaced, changes_of}
+use Rattle.mm_transactions.specs.declared.step.Kind.TheVariants as kind
+use Rattle.mm_transactions.specs.declared.step.Step.{Step}
+use Rattle.mm_transactions.proofs.Steps.{few_commands, noted_so}
 use Rattle.mm_transactions.proofs.log.UndoLog.create.Goals as goal
+use Rattle.mm_transactions.proofs.log.UndoLog.create.Goals.{After-note}
 
-pub returns-clause-noted : goal.returns-clause-noted
-returns-clause-noted c =
+both : (c : After-note) → (changes_of (reverse c.note.new.steps.items) c.self.inside.refs.items c.self.inside.cells.items ≡ TableDeclared (map (λ t. t.0) c.in_ok-gained.gained.items) ∷ changes_of (reverse c.self.inside.steps.items) c.self.inside.refs.items c.self.inside.cells.items)
+    × ArePlaced (reverse c.note.new.steps.items) c.self.inside.refs.items c.self.inside.cells.items (c.self.inside.commands + 1)
+both c =
     let steps = c.self.inside.steps.items in
     let refs = c.self.inside.refs.items in
     let cells = c.self.inside.cells.items in
-    let more = c.in_ok-gained.ensures.made in
     let step : Step = record { kind = kind.TableDeclared c.in_ok-gained.gained; table = record { 0 = c.table_count.result }; start = c.len-start.result; cells_start = c.len-cells_start.result } in
     let start : c.len-start.result ≡ length refs = omega (arith, c.len-start.ensures, c.self.inside.refs.ok.0) in
     let from : c.len-cells_start.result ≡ length cells = omega (arith, c.len-cells_start.ensures, c.self.inside.cells.ok.0) in
+    noted_so steps c.reserve.new.self.items c.note.new.steps.items step 0 c.note.ensures.noted c.in_ok-reserve.ensures.items
+    refs refs [] cells cells [] (sym (append-nil refs)) (sym (append-nil cells)) start from refl refl c.self.inside.commands c.self.invariant
+
+pub overflow_add-self : goal.overflow_add-self
+overflow_add-self c =
+    let log = c.self.inside in
+    omega (arith, few_commands log.steps.items log.refs.items log.cells.items log.commands c.self.invariant, log.steps.ok.0, log.steps.ok.1, log.steps.small, log.refs.ok.0, log.refs.ok.1, log.refs.small)
+
+pub invariant_of-self-2 : goal.invariant_of-self-2
+invariant_of-self-2 c = (both (goal.at.invariant_of-self-2 c).After-note).1
+
+pub returns-clause-noted : goal.returns-clause-noted
+returns-clause-noted c =
+    let more = c.in_ok-gained.ensures.made in
     rw (← c.self.view_is) (record {
       change = TableDeclared (map (λ t. t.0) c.in_ok-gained.gained.items);
       ready = (more.last, more.before_last);
       undone = more.others;
-      changes =
-          noted_change c.push_reserved.new.self.items steps step refs refs [] cells cells []
-          (c.push_reserved.ensures.items ∙ ap (λ ss. ss ++ step ∷ []) c.in_ok-reserve.ensures.items) (sym (append-nil refs)) start (sym (append-nil cells)) from;
+      changes = (both (goal.at.returns-clause-noted c).After-note).0;
       marks = refl;
     })

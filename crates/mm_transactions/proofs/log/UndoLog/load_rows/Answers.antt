@@ -1,28 +1,44 @@
-use Rattle.std.proofs.Common.{◌≡◌, ◌∷◌, [], ◌++◌, refl, sym, ap, ◌∙◌, arith, length, append-nil}
+use Rattle.std.proofs.Common.{◌≡◌, ◌+◌, ◌-◌, ◌∷◌, [], ◌++◌, refl, sym, ap, ◌∙◌, arith, length, reverse, append-nil, length-append}
 use Rattle.mm_transactions.specs.Undoing.{Came}
-use Rattle.mm_transactions.specs.declared.log.Kind.TheVariants as kind
-use Rattle.mm_transactions.specs.declared.log.Step.{Step}
-use Rattle.mm_transactions.proofs.Steps.{noted_change}
+use Rattle.mm_transactions.specs.Log.{ArePlaced, changes_of}
+use Rattle.mm_transactions.specs.declared.step.Kind.TheVariants as kind
+use Rattle.mm_transactions.specs.declared.step.Step.{Step}
+use Rattle.mm_transactions.proofs.Steps.{few_commands, noted_so}
 use Rattle.mm_transactions.proofs.log.UndoLog.load_rows.Goals as goal
+use Rattle.mm_transactions.proofs.log.UndoLog.load_rows.Goals.{After-note}
 
-pub returns-clause-noted : goal.returns-clause-noted
-returns-clause-noted c =
+both : (c : After-note) → (changes_of (reverse c.note.new.steps.items) c.load_listed.new.came.items c.self.inside.cells.items ≡ Came c.args.table.0 c.in_ok-load_listed.ensures.came.refs ∷ changes_of (reverse c.self.inside.steps.items) c.self.inside.refs.items c.self.inside.cells.items)
+    × ArePlaced (reverse c.note.new.steps.items) c.load_listed.new.came.items c.self.inside.cells.items (c.self.inside.commands + 1)
+both c =
     let steps = c.self.inside.steps.items in
     let refs = c.self.inside.refs.items in
     let cells = c.self.inside.cells.items in
     let come = c.in_ok-load_listed.ensures.came in
-    let step : Step = record { kind = kind.Came; table = c.args.table; start = c.len-start.result; cells_start = c.len-cells_start.result } in
-    let old_steps = c.in_ok-make_room.ensures.steps in
+    let step : Step = record { kind = kind.Came 0; table = c.args.table; start = c.len-start.result; cells_start = c.len-cells_start.result } in
     let old_refs = c.in_ok-make_room.ensures.refs in
     let start : c.len-start.result ≡ length refs = omega (arith, c.len-start.ensures, c.make_room.new.refs.ok.0, ap length old_refs) in
     let from : c.len-cells_start.result ≡ length cells = omega (arith, c.len-cells_start.ensures, c.self.inside.cells.ok.0) in
+    let list = come.list ∙ ap (λ rs. rs ++ come.refs) old_refs in
+    let rows = c.len-end.result - c.len-start.result in
+    let count : length come.refs ≡ rows = omega (arith, c.len-end.ensures, c.load_listed.new.came.ok.0, ap length list, length-append refs come.refs, start) in
+    noted_so steps c.make_room.new.steps.items c.note.new.steps.items step rows c.note.ensures.noted c.in_ok-make_room.ensures.steps
+    refs c.load_listed.new.came.items come.refs cells cells [] list (sym (append-nil cells)) start from count (omega arith) c.self.inside.commands c.self.invariant
+
+pub overflow_add-self : goal.overflow_add-self
+overflow_add-self c =
+    let log = c.self.inside in
+    omega (arith, few_commands log.steps.items log.refs.items log.cells.items log.commands c.self.invariant, log.steps.ok.0, log.steps.ok.1, log.steps.small, log.refs.ok.0, log.refs.ok.1, log.refs.small)
+
+pub invariant_of-self-2 : goal.invariant_of-self-2
+invariant_of-self-2 c = (both (goal.at.invariant_of-self-2 c).After-note).1
+
+pub returns-clause-noted : goal.returns-clause-noted
+returns-clause-noted c =
+    let come = c.in_ok-load_listed.ensures.came in
     rw (← c.self.view_is) (record {
       change = Came c.args.table.0 come.refs;
       ready = come.more.held;
       undone = come.more.others;
-      changes =
-          noted_change c.push_reserved.new.self.items steps step refs c.load_listed.new.came.items come.refs cells cells []
-          (c.push_reserved.ensures.items ∙ ap (λ ss. ss ++ step ∷ []) old_steps)
-          (come.list ∙ ap (λ rs. rs ++ come.refs) old_refs) start (sym (append-nil cells)) from;
+      changes = (both (goal.at.returns-clause-noted c).After-note).0;
       marks = refl;
     })
