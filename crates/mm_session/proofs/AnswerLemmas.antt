@@ -1,5 +1,5 @@
 -- Answers that are written out, and the effects that they answer.
-use Rattle.std.proofs.Common.{◌≡◌, ℕ, ◌<◌, ◌≤◌, true, false, List, [], length, refl, sym, subst, ◌∙◌, Result, Ok, Err, IfErr, inl, inr}
+use Rattle.std.proofs.Common.{◌≡◌, ℕ, ◌<◌, ◌≤◌, true, false, List, [], length, refl, sym, subst, ◌∙◌, inl, inr}
 use Rattle.std.specs.Fmt.{digits}
 use Rattle.std.specs.Str.{IsUtf8}
 use lib.Chars.{codes}
@@ -18,6 +18,7 @@ use Rattle.plain_streams.specs.Requests.{Request, IsReadable, is_silent}
 use Rattle.plain_streams.specs.Runs.{Answers, HasBlock, line_of}
 use Rattle.plain_streams.specs.Runs as runs
 use Rattle.mm_session.specs.Answered.{DoesNothing, Obeys, Declines, no_memory, not_a_command, refuses}
+use Rattle.mm_session.specs.Reads.{IsTold}
 
 pub answer_text-one : answer_text (Changed 1) ≡ codes "ok 1\n"
 unfolding digits
@@ -32,12 +33,11 @@ unfolding digits
 refusal_text-not_utf8 = refl
 
 -- a command that was not done declines the line that spells it
-pub declines : (records : List Record) (limits : Limits) (old new : Database) (line : List ℕ) (c : Command) (result : Result (Unit {0}) Refusal) → Spells line c
-    → IfErr result (DoesNothing (effect_of records limits old c) old new) → IfErr result (Declines records limits old line)
-declines records limits old new line c (Ok x) spells h = tt
-declines records limits old new line c (Err r) spells h = elim h.1 [
+pub declines : (records : List Record) (limits : Limits) (old new : Database) (line : List ℕ) (c : Command) (why : Refusal) → Spells line c
+    → DoesNothing (effect_of records limits old c) old new why → Declines records limits old line why
+declines records limits old new line c why spells h = elim h.1 [
   | inl none ↦ subst (Declines records limits old line) (sym none) no_memory
-  | inr refuses_so ↦ refuses c r spells refuses_so
+  | inr refuses_so ↦ refuses c why spells refuses_so
 ]
 
 module _ (limits : Limits) (tables : Database) (request : Request) where
@@ -76,3 +76,9 @@ module _ (limits : Limits) (tables : Database) (request : Request) where
       pub answers-declined : (refusal : Refusal) (answer : List ℕ) → Declines records limits tables (line_of request) refusal → answer ≡ refusal_text refusal
           → AnswersSo tables answer
       answers-declined refusal answer why is = subst (AnswersSo tables) (sym is) (declined refusal why)
+
+      pub answers-told : (answer : List ℕ) → IsTold records limits tables (line_of request) answer → AnswersSo tables answer
+      answers-told answer told = elim told [
+        | inl obeyed ↦ answers-obeyed tables answer obeyed
+        | inr (why, declined, is) ↦ answers-declined why answer declined is
+      ]

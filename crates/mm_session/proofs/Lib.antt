@@ -4,6 +4,7 @@ pub mod AskLemmas
 pub mod BatchLemmas
 pub mod BesideLemmas
 pub mod ColumnLawLemmas
+pub mod CountLemmas
 pub mod DumpLemmas
 pub mod EachLemmas
 pub mod IndexLemmas
@@ -19,6 +20,7 @@ pub mod PlaceLemmas
 pub mod PlacedLemmas
 pub mod PlannedLemmas
 pub mod QueryLemmas
+pub mod ReadLemmas
 pub mod RefusedLemmas
 pub mod RequestLemmas
 pub mod ResultLemmas

@@ -4,6 +4,7 @@ pub mod Buffers
 pub mod Changing
 pub mod ColumnLaws
 pub mod Columns
+pub mod Counting
 pub mod Dumps
 pub mod Each
 pub mod IndexAnswers
@@ -18,6 +19,7 @@ pub mod OnlyRow
 pub mod Passing
 pub mod Performed
 pub mod Planned
+pub mod Reads
 pub mod Refused
 pub mod Responding
 pub mod Sessions

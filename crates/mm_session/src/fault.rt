@@ -1,5 +1,6 @@
-//! Why a session or a run stopped, and what is no request.
+//! Why a session or a run stopped, what is no request, and why rows were not counted.
 
+use no_memory::NoMemory;
 use thiserror::Error;
 
 /// Why a piece was not taken to its end.
@@ -32,3 +33,36 @@ pub enum RunFault {
 #[derive(Clone, Copy, Debug, PartialEq, Eq, Error)]
 #[error("not one whole request")]
 pub struct NotOneRequest;
+
+/// Why a request is not answered where tables are only read. Nothing has changed.
+#[derive(Clone, Copy, Debug, PartialEq, Eq, Error)]
+pub enum ReadFault {
+    /// The line and the block are not one whole request.
+    #[error("not one whole request")]
+    NotOneRequest,
+    /// The line spells a command that would change tables, and its names and values don't refuse it.
+    #[error("a change")]
+    Changes,
+}
+
+/// Why the rows that a select shows were not counted.
+#[derive(Clone, Copy, Debug, PartialEq, Eq, Error)]
+pub enum CountFault {
+    /// A growth was refused.
+    #[error("no memory")]
+    NoMemory(NoMemory),
+    /// They are 2^64 or more.
+    #[error("too many rows")]
+    TooMany,
+}
+
+impl From<NoMemory> for CountFault {
+    ghost use Rattle.std.specs.Prelude.{◌≡◌};
+    ghost use Rattle.mm_session.specs.declared.fault.CountFault.TheVariants as fault;
+
+    ghost from_gives = { λ refused e. e ≡ fault.NoMemory refused };
+
+    fn from(refused: NoMemory) -> CountFault {
+        CountFault::NoMemory(refused)
+    }
+}

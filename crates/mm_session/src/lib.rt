@@ -3,9 +3,9 @@
 //! ```text
 //!  pieces of bytes ──▶ requests ──▶ command ──▶ effect on the tables ──▶ answer ──▶ bytes
 //!   session             stream:      execute:    execute: search, query,   answer:    stream:
-//!   stream: whole_run   responder,   respond     select, listing, blocks   records    writing
-//!    outlet             lines, kept, and parse   and mm_catalog            and mm_csv
-//!                       pending_block
+//!   stream: whole_run   responder,   respond,    select, listing, blocks   records    writing
+//!    outlet             lines, kept, reads and   and mm_catalog            and mm_csv
+//!                       pending_block parse
 //! ```
 //!
 //! It doesn't care how a line spells its command, how a record is quoted, nor how tables are kept and what a command may do
@@ -18,9 +18,10 @@
 //! - A whole run reads only while the outlet of its answers holds nothing back.
 //! - An answer is whole before its first byte is written, so that a refusal can still stand in its place.
 //! - A session that met a write fault has ended, and writes nothing more.
-//! - A request can be asked by itself, with its answer in a buffer of the caller's. It leaves the stream where it is.
+//! - A request can be asked by itself, with its answer in a buffer of the caller's. It leaves the stream where it is. One that changes
+//!   no tables can be asked where these are only lent.
 //! - So can a resolved command be done, without a line and an answer: it tells how many rows it changed, or puts the values that it
-//!   shows, or what tells their columns, into cells of the caller's.
+//!   shows, or what tells their columns, into cells of the caller's. Or the rows of a select are counted, and none is kept.
 #![tactic(auto)]
 
 mod answer;
@@ -33,7 +34,7 @@ mod stream;
 pub use answer::Answer;
 pub use execute::search::rows_passing;
 pub use execute::told::{NextJoin, ToldPlan, Way};
-pub use fault::{NotOneRequest, RunFault, SessionFault};
+pub use fault::{CountFault, NotOneRequest, ReadFault, RunFault, SessionFault};
 pub use session::Session;
 pub use stream::lines::{Judged, LONGEST_LINE, judge_line, split_line};
 pub use stream::outlet::{Outlet, PromptRead};

@@ -1,11 +1,11 @@
 //! A session: tables, and a stream of requests that comes in pieces.
 
-ghost use Rattle.std.specs.Prelude.{◌≡◌, ◌≢◌, ◌<◌, ◌≤◌, ◌+◌, ◌++◌, ◌∷◌, ◌↔◌, [], ℕ, List, Err, Ok, true, false, length, map, IsTrue, IsErrOf, IfNone, IfOk, IfErr, IfSome, OnOk, OnErr};
+ghost use Rattle.std.specs.Prelude.{◌≡◌, ◌≢◌, ◌<◌, ◌≤◌, ◌+◌, ◌^◌, ◌++◌, ◌∷◌, ◌↔◌, [], ℕ, List, Err, Ok, true, false, length, map, IsTrue, IsErrOf, IfNone, IfOk, IfErr, IfSome, OnOk, OnErr};
 ghost use Rattle.std.specs.Io.KnownBytes.{Keeps};
 
 use crate::answer::Answer;
 use crate::execute::told::ToldPlan;
-use crate::fault::{NotOneRequest, SessionFault};
+use crate::fault::{CountFault, NotOneRequest, ReadFault, SessionFault};
 use crate::stream::outlet::{Lent, Outlet};
 use crate::stream::responder::Responder;
 use mm_catalog::Catalog;
@@ -52,6 +52,8 @@ impl Session {
     ghost use Rattle.mm_session.specs.Responding.{waits};
     ghost use Rattle.mm_session.specs.OneRequest.{AnswersOne, IsAtSamePlace, StaysInStream, GoesBetween};
     ghost use Rattle.mm_session.specs.IndexAnswers.{AnswersIndexes};
+    ghost use Rattle.mm_session.specs.Reads.{WouldChange};
+    ghost use Rattle.mm_session.specs.declared.fault.ReadFault.TheVariants as read_fault;
     ghost use Rattle.plain_tables.specs.Doing.{done};
     ghost use Rattle.plain_tables.specs.Transactions.{begun, committed, rolled_back};
     ghost use Rattle.mm_transactions.specs.Log.{AreSettled};
@@ -60,6 +62,7 @@ impl Session {
     ghost use Rattle.plain_tables.specs.declared.resolved.Resolved.TheVariants as resolved;
     ghost use Rattle.mm_session.specs.Changing.{HasChanged, HasDeclined, IsChange, IsDeleteByKey, ShowsValues};
     ghost use Rattle.mm_session.specs.Columns.{columns_told};
+    ghost use Rattle.mm_session.specs.Counting.{HasRows};
     ghost use Rattle.mm_session.specs.Told.{IsPlanOf};
     ghost use Rattle.mm_session.specs.Sessions.{State, Gains, Feeds, Finishes, BreaksOff, new_session, tables_of};
 
@@ -169,6 +172,30 @@ impl Session {
         self.responder.answer_request(line, block, answer)
     }
 
+    /// Answers one request that changes no tables, as `answer_request` does: a select, a dump, a listing of the tables, a silent line, and
+    /// what is refused by the line and its block, by names and by values. What would change tables is declined, though they might refuse it.
+    pub fn read_request(
+        &self,
+        line: &[u8],
+        block: &[u8],
+        answer: &mut Answer,
+    ) -> Result<(), ReadFault>
+        // The request is one, and was answered. The tables are as before.
+        ensures ok { OnOk result (AnswersOne self.now.limits self.now.database (record { line = line.now; block = block.now }) answer.new self.now.database) }
+
+        // It isn't: the line has a line feed in it, or takes another number of bytes than the block has.
+        ensures err { IsErrOf result read_fault.NotOneRequest → ¬ (IsWhole (record { line = line.now; block = block.now })) }
+
+        // It is, and means a change.
+        ensures changes { IsErrOf result read_fault.Changes → WouldChange self.now.database (record { line = line.now; block = block.now }) }
+        ensures unchanged { OnErr result (answer.new ≡ answer.old) }
+
+        // The request stands behind what of the stream was answered.
+        ensures run { OnOk result (GoesBetween self.now self.now (record { line = line.now; block = block.now }) answer.new) }
+    {
+        self.responder.read_request(line, block, answer)
+    }
+
     /// Takes the next bytes of the stream up to the end of a request, makes its answer, and gives the bytes behind it. Where no
     /// request ends in them, it takes them all. It is `feed` request by request, and writes nothing.
     pub fn answer_next<'a>(&mut self, bytes: &'a [u8], answer: &mut Answer) -> Option<&'a [u8]>
@@ -241,6 +268,18 @@ impl Session {
         executor
             .reading()
             .select_values(executor.tables.catalog(), query, cells)
+    }
+
+    /// How many rows a select shows. They are counted as they are found, and none of their values is kept.
+    pub fn count(&self, query: &Query) -> Result<u64, CountFault>
+        requires { IsMeant self.now.limits self.now.database (resolved.Select query.now) }
+        ensures counted { IfOk result (λ count. HasRows (done self.now.limits self.now.database (resolved.Select query.now)).outcome (λ n. count ≡ n)) }
+        ensures too_many { IsErrOf result CountFault.TooMany → HasRows (done self.now.limits self.now.database (resolved.Select query.now)).outcome (λ n. 2 ^ 64 ≤ n) }
+    {
+        let executor = &self.responder.executor;
+        executor
+            .reading()
+            .count_rows(executor.tables.catalog(), query)
     }
 
     /// Makes the cells the columns of what a select shows: of each its name, behind its table's, and then the number of the kind of

@@ -1,43 +1,16 @@
 //! The answer to one request: a line, and the block behind it.
 
-ghost use Rattle.std.specs.Prelude.{◌≡◌};
-ghost use Rattle.plain_tables.specs.AnswerText.{refusal_text};
-
+use super::Executor;
 use crate::answer::Answer;
-use crate::execute::Executor;
 use crate::stream::lines::Judged;
-use mm_lang::{Line, ParseRefusal, parse};
-use plain_tables::Refusal;
-
-const LINE_TOO_LONG: &[u8] = b"error 10 line too long\n";
-
-const NOT_UTF8: &[u8] = b"error 11 not UTF-8\n";
 
 impl Executor {
-    ghost use Rattle.std.specs.Prelude.{◌≡◌, ℕ, List, OnOk, IfOk, IfErr, OnErr, ◌<◌};
-    ghost use Rattle.mm_csv.specs.BlockReading.{block_records};
+    ghost use Rattle.std.specs.Prelude.{◌≡◌, ℕ, List, IfOk, IfErr, OnErr, ◌<◌};
     ghost use Rattle.plain_streams.specs.Requests.{Asks};
     ghost use Rattle.plain_streams.specs.Runs.{Answers, HasBlock};
     ghost use Rattle.mm_catalog.specs.Seen.{database_of};
     ghost use Rattle.mm_transactions.specs.State.{saved_of};
-    ghost use Rattle.mm_session.specs.Answered.{Obeys, Declines};
     ghost use Rattle.mm_session.specs.Judging.{IsJudged, AnswersIn};
-
-    // Reads a line as a command, does what it says with the block behind it, and makes its answer.
-    fn obey(&mut self, line: &Line<'_>, block: &[u8], answer: &mut Answer) -> Result<(), Refusal>
-        ensures ok { OnOk result (Obeys (block_records block.now) self.old.tables.catalog.limits (database_of self.old.tables.catalog) line.now (database_of self.new.tables.catalog) answer.new) }
-        ensures err { IfErr result (Declines (block_records block.now) self.old.tables.catalog.limits (database_of self.old.tables.catalog) line.now) }
-        ensures unchanged { OnErr result (database_of self.new.tables.catalog ≡ database_of self.old.tables.catalog) }
-        ensures limits { self.new.tables.catalog.limits ≡ self.old.tables.catalog.limits }
-        ensures saved { saved_of self.new.tables ≡ saved_of self.old.tables }
-    {
-        let command = match parse(self.alloc, line) {
-            Ok(command) => command,
-            Err(ParseRefusal::Syntax) => return Err(Refusal::NotACommand),
-            Err(ParseRefusal::NoMemory) => return Err(Refusal::NoMemory),
-        };
-        self.execute(command, block, answer)
-    }
 
     /// Answers a line that has ended, and the block behind it. A silent line has the empty answer.
     pub fn respond(&mut self, line: &Judged<'_>, block: &[u8], answer: &mut Answer)
@@ -46,15 +19,12 @@ impl Executor {
         ensures limits { self.new.tables.catalog.limits ≡ self.old.tables.catalog.limits }
         ensures saved { saved_of self.new.tables ≡ saved_of self.old.tables }
     {
-        match line {
-            Judged::TooLong => answer.set(LINE_TOO_LONG),
-            Judged::NotUtf8 => answer.set(NOT_UTF8),
-            Judged::Silent => answer.clear(),
-            Judged::Text(text) => {
-                if let Err(refusal) = self.obey(text, block, answer) {
-                    answer.refuse(refusal);
-                }
-            }
+        let reading = self.reading();
+        let Err(change) = reading.respond(self.tables.catalog(), line, block, answer) else {
+            return;
+        };
+        if let Err(refusal) = self.perform(change, answer) {
+            answer.refuse(refusal);
         }
     }
 

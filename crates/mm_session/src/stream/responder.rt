@@ -2,7 +2,7 @@
 
 use crate::answer::Answer;
 use crate::execute::Executor;
-use crate::fault::NotOneRequest;
+use crate::fault::{NotOneRequest, ReadFault};
 use crate::stream::kept::Kept;
 use crate::stream::lines::{judge, judge_whole, split_line};
 use crate::stream::pending_block::{PendingBlock, Unkept};
@@ -27,7 +27,7 @@ pub struct Responder {
 }
 
 impl Responder {
-    ghost use Rattle.std.specs.Prelude.{◌≡◌, ◌≢◌, ◌<◌, ◌≤◌, ◌+◌, ◌++◌, ◌∷◌, [], ℕ, List, Some, None, IfOk, OnOk, OnErr, IfSome, true, false, length, is_some, if◌then◌else◌, codes};
+    ghost use Rattle.std.specs.Prelude.{◌≡◌, ◌≢◌, ◌<◌, ◌≤◌, ◌+◌, ◌++◌, ◌∷◌, [], ℕ, List, Some, None, IfOk, IsErrOf, OnOk, OnErr, IfSome, true, false, length, is_some, if◌then◌else◌, codes};
     ghost use Rattle.std.specs.Option.{option_copied};
     ghost use Rattle.plain_streams.specs.Requests.{Asks};
     ghost use Rattle.plain_streams.specs.Division.{IsUnbroken, IsWhole};
@@ -37,6 +37,8 @@ impl Responder {
     ghost use Rattle.mm_session.specs.Buffers.{kept_of};
     ghost use Rattle.mm_session.specs.Kept.{KeepsBlock, nothing};
     ghost use Rattle.mm_session.specs.OneRequest.{AnswersOne};
+    ghost use Rattle.mm_session.specs.Reads.{WouldChange};
+    ghost use Rattle.mm_session.specs.declared.fault.ReadFault.TheVariants as read_fault;
     ghost use Rattle.mm_session.specs.Responding.{IsRest, IsRestWith, IsLoadLine, IsLineWith, Responds, Takes, Ends, waits};
 
     /// A responder over the tables of a catalog, to which nothing has come.
@@ -234,5 +236,30 @@ impl Responder {
         }
         self.executor.respond(&judged, block, answer);
         Ok(())
+    }
+    /// Answers one request that changes no tables.
+    pub fn read_request(
+        &self,
+        line: &[u8],
+        block: &[u8],
+        answer: &mut Answer,
+    ) -> Result<(), ReadFault>
+        ensures ok { OnOk result (AnswersOne self.now.executor.tables.catalog.limits (database_of self.now.executor.tables.catalog) (record { line = line.now; block = block.now }) answer.new (database_of self.now.executor.tables.catalog)) }
+        ensures err { IsErrOf result read_fault.NotOneRequest → ¬ (IsWhole (record { line = line.now; block = block.now })) }
+        ensures changes { IsErrOf result read_fault.Changes → WouldChange (database_of self.now.executor.tables.catalog) (record { line = line.now; block = block.now }) }
+        ensures unchanged { OnErr result (answer.new ≡ answer.old) }
+    {
+        let Some(judged) = judge_whole(line, block) else {
+            return Err(ReadFault::NotOneRequest);
+        };
+        if block.len() as u64 > self.executor.block_limit() {
+            answer.set(BLOCK_TOO_LONG);
+            return Ok(());
+        }
+        let reading = self.executor.reading();
+        match reading.respond(self.executor.tables.catalog(), &judged, block, answer) {
+            Ok(()) => Ok(()),
+            Err(_) => Err(ReadFault::Changes),
+        }
     }
 }
