@@ -18,7 +18,7 @@ use Rattle.plain_statements.specs.declared.resolution.Resolution.{Resolution}
 use Rattle.plain_statements.specs.declared.statement.Statement.{Statement}
 use Rattle.plain_statements.specs.Filling.{filled}
 use Rattle.plain_statements.specs.Finishing.{finished}
-use Rattle.plain_statements.specs.Laws.{Resolves}
+use Rattle.plain_statements.specs.Laws.{Refuses, Resolves}
 use Rattle.plain_statements.specs.StatementSpelling.{SpellsStatement}
 use Rattle.mm_cells.specs.declared.fault.CellFault.{CellFault}
 use Rattle.mm_cells.specs.declared.fault.CellFault.TheVariants as cells
@@ -34,14 +34,15 @@ use Rattle.mm_statements.specs.declared.faults.ChangeFault.TheVariants as changi
 use Rattle.mm_prepared.specs.Kept.{IsKnown, NamesNow, SameSeen, named, seen}
 use Rattle.mm_statements.specs.Resolving.{IsFinished, IsRefusing, IsUnfinished, IsUnmeant, IsUnresolved}
 use Rattle.mm_statements.specs.Resolving as resolving
-use Rattle.mm_statements.specs.Right.{AreRight, IsRight}
+use Rattle.mm_statements.specs.Right.{AreNoted, IsRight}
+use Rattle.mm_statements.specs.declared.noted.NotedTables.{NotedTables}
 use Rattle.mm_statements.specs.declared.faults.ExecuteFault.{ExecuteFault}
 use Rattle.mm_statements.specs.declared.faults.ExecuteFault.TheVariants as fault
 use Rattle.mm_prepared.specs.declared.kept.Prepared.{Prepared}
 use Rattle.mm_prepared.specs.declared.kept.Statements.{Statements}
 use Rattle.mm_statements.proofs.ChangeLemmas.{change-schemas}
 use Rattle.mm_statements.proofs.GivenLemmas.{filled-given}
-use Rattle.mm_statements.proofs.RightLemmas.{stays-right}
+use Rattle.mm_statements.proofs.NotedLemmas.{noted-stays}
 use Rattle.mm_statements.proofs.SeenLemmas.{same-seen, state_of, statement-seen}
 
 -- ---- the resolved command
@@ -119,6 +120,35 @@ same-finished tables old new number m same f =
     finished-as tables old number m f.prepared f.statement f.spelled f.means (named old number) refl
     (ap (option_map seen) (sym f.there) ∙ same number)
 
+-- and so it is where a statement is refused whatever is bound
+refusing-as : (tables : Database) (old : Statements) (number : ℕ) (why : Refusal) (p : Prepared) (s : Statement)
+    → SpellsStatement p.line s → Refuses tables s why → (o : Option Prepared) → named old number ≡ o
+    → Some (seen p) ≡ option_map seen o → IsRefusing tables old number why
+refusing-as tables old number why p s spelled refuses None there same = cc
+refusing-as tables old number why p s spelled refuses (Some q) there same =
+    let alike : seen p ≡ seen q = cc in
+    record {
+      prepared = q;
+      there = there;
+      statement = s;
+      spelled = subst (λ (k : KeptStatement). SpellsStatement k.line s) alike spelled;
+      refuses = refuses;
+    }
+
+pub none-seen-before : (old new : Option Prepared) → option_map seen new ≡ option_map seen old → new ≡ None → old ≡ None
+none-seen-before None new same none = refl
+none-seen-before (Some p) None same none = cc
+none-seen-before (Some p) (Some q) same none = cc
+
+pub same-unresolved : (tables : Database) (old new : Statements) (number : ℕ) (e : ExecuteFault) → SameSeen old new
+    → IsUnresolved tables new number e → IsUnresolved tables old number e
+same-unresolved tables old new number fault.NoSuchStatement same none = none-seen-before (named old number) (named new number) (same number) none
+same-unresolved tables old new number fault.TooLong same never = never
+same-unresolved tables old new number fault.Shared same never = never
+same-unresolved tables old new number (fault.Refused why) same says = λ other.
+    let r = says other in
+    refusing-as tables old number why r.prepared r.statement r.spelled r.refuses (named old number) refl (ap (option_map seen) (sym r.there) ∙ same number)
+
 pub same-unfinished : (tables : Database) (old new : Statements) (number : ℕ) (why : Refusal) → SameSeen old new
     → IsUnfinished tables new number (fault.Refused why) → IsUnfinished tables old number (fault.Refused why)
 same-unfinished tables old new number why same says other = same-finished tables old new number (Err why) same (says other)
@@ -182,12 +212,12 @@ unchanged before after old new same seen = record {
   statements = same-seen before after old new seen;
 }
 
-pub changed-right : (old new : State) (statements : Statements) (c : Resolved) (count : ℕ) → IsChange c
-    → HasChanged new (done old.limits old.database c) count → AreRight old.database statements → AreRight new.database statements
-changed-right old new statements c count change changed right =
+pub changed-noted : (old new : State) (noted : NotedTables) (statements : Statements) (c : Resolved) (count : ℕ) → IsChange c
+    → HasChanged new (done old.limits old.database c) count → AreNoted old.database noted statements → AreNoted new.database noted statements
+changed-noted old new noted statements c count change changed is =
     let same : new.database ≡ (done old.limits old.database c).database = sym (ap (λ (e : Effect). e.database) changed) in
-    stays-right old.database new.database statements
-    (sym (ap (map emptied) same ∙ change-schemas old.limits old.database c change)) right
+    noted-stays old.database new.database noted statements
+    (sym (ap (map emptied) same ∙ change-schemas old.limits old.database c change)) is
 
 -- a statement that was finished is there
 pub there-named : (tables : Database) (statements : Statements) (number : ℕ) (m : Result Resolved Refusal) → IsFinished tables statements number m
@@ -196,7 +226,12 @@ there-named tables statements number m f none = let e : None ≡ Some f.prepared
 
 -- ---- results
 
--- what holds anyway holds of an error
+-- what holds anyway holds of a value
+pub on-ok : {X E P : Type 0} (r : Result X E) → P → OnOk r P
+on-ok (Ok x) h = h
+on-ok (Err e) h = tt
+
+-- and of an error
 pub on-err : {X E P : Type 0} (r : Result X E) → P → OnErr r P
 on-err (Ok x) h = tt
 on-err (Err e) h = h

@@ -1,11 +1,13 @@
 pub mod ChangeLemmas
 mod ColumnLemmas
+pub mod CountingLemmas
 pub mod ExecuteLemmas
 pub mod FinishedLemmas
 pub mod GivenLemmas
 pub mod HeadingLemmas
 pub mod LineLemmas
 pub mod MarkLemmas
+pub mod NotedLemmas
 pub mod PrepareLemmas
 pub mod QueryLemmas
 pub mod RequestLemmas

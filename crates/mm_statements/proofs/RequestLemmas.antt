@@ -26,10 +26,11 @@ use Rattle.plain_streams.specs.Requests.{Request, without_return}
 use Rattle.plain_streams.specs.Runs.{Answers, IsEffect, line_of}
 use Rattle.plain_streams.specs.Runs as runs
 use Rattle.mm_prepared.specs.Declaring.{IsOfTables, declares}
-use Rattle.mm_statements.specs.Right.{AreRight}
+use Rattle.mm_statements.specs.Right.{AreNoted}
 use Rattle.mm_prepared.specs.declared.kept.Statements.{Statements}
+use Rattle.mm_statements.specs.declared.noted.NotedTables.{NotedTables}
 use Rattle.mm_statements.proofs.ChangeLemmas.{same_schemas}
-use Rattle.mm_statements.proofs.RightLemmas.{stays-right}
+use Rattle.mm_statements.proofs.NotedLemmas.{noted-stays}
 
 -- the tables have the same names and columns
 abbrev SameSchemas : Database → Database → Type 0
@@ -91,8 +92,8 @@ declares-none line block may says other c spells =
       | inr none ↦ none
     ]
 
--- Statements stay right over such a request.
-pub answered-right : (limits : Limits) (before : Database) (request : Request) (answer : List ℕ) (after : Database) (statements : Statements)
-    → Answers limits before request answer after → DeclaresNone request → AreRight before statements → AreRight after statements
-answered-right limits before request answer after statements answers none right =
-    stays-right before after statements (sym (answers-schemas limits before request answer after answers none)) right
+-- What is noted stays so over such a request.
+pub answered-noted : (limits : Limits) (before : Database) (request : Request) (answer : List ℕ) (after : Database) (noted : NotedTables) (statements : Statements)
+    → Answers limits before request answer after → DeclaresNone request → AreNoted before noted statements → AreNoted after noted statements
+answered-noted limits before request answer after noted statements answers none is =
+    noted-stays before after noted statements (sym (answers-schemas limits before request answer after answers none)) is

@@ -33,6 +33,14 @@ names-seen before after old new number what names = record {
   others = λ other apart. statement-seen after new other ∙ ap (option_map seen) (names.others other apart) ∙ sym (statement-seen before old other);
 }
 
+-- what is named after nothing else is seen is named before it
+pub names-before : (held : Held) (old mid new : Statements) (number : ℕ) (what : Option KeptStatement) → SameSeen old mid
+    → NowNames (state_of held mid) (state_of held new) number what → NowNames (state_of held old) (state_of held new) number what
+names-before held old mid new number what same names = record {
+  own = names.own;
+  others = λ other apart. names.others other apart ∙ same-seen held held old mid same other;
+}
+
 seen-unresolved : (p : Option Prepared) → option_map seen (option_map unresolved p) ≡ option_map seen p
 seen-unresolved None = refl
 seen-unresolved (Some p) = refl

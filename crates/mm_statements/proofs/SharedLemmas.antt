@@ -5,9 +5,13 @@ use Rattle.std.specs.Result.{IsErrOf}
 use Rattle.plain_streams.specs.Requests.{Request}
 use Rattle.mm_session.specs.OneRequest.{GoesBetween}
 use Rattle.mm_session.specs.Sessions.{BreaksOff, Finishes, Gains, State}
+use Rattle.mm_session.specs.declared.fault.ReadFault.{ReadFault}
+use Rattle.mm_session.specs.declared.fault.ReadFault.TheVariants as reading
 use Rattle.mm_session.specs.declared.fault.SessionFault.{SessionFault}
 use Rattle.mm_session.specs.declared.fault.SessionFault.TheVariants as session
-use Rattle.mm_statements.specs.Faults.{stream_fault_of}
+use Rattle.mm_statements.specs.Faults.{request_fault_of, stream_fault_of}
+use Rattle.mm_statements.specs.declared.faults.RequestFault.{RequestFault}
+use Rattle.mm_statements.specs.declared.faults.RequestFault.TheVariants as requesting
 use Rattle.mm_statements.specs.declared.faults.StreamFault.{StreamFault}
 use Rattle.mm_statements.specs.declared.faults.StreamFault.TheVariants as streaming
 
@@ -41,3 +45,8 @@ own-breaks-off value shared own new none before after piece finished h =
 pub write-fault : {T : Type 0} (f : SessionFault) → IsErrOf {T = T} {E = StreamFault} (Err (stream_fault_of f)) streaming.Write → f ≡ session.Write
 write-fault session.Write is = refl
 write-fault session.Ended is = cc
+
+-- a request is declined for what it would change, where tables are only read
+pub change-fault : {T : Type 0} (f : ReadFault) → IsErrOf {T = T} {E = RequestFault} (Err (request_fault_of f)) requesting.Shared → f ≡ reading.Changes
+change-fault reading.NotOneRequest is = cc
+change-fault reading.Changes is = refl

@@ -1,5 +1,5 @@
 -- Faults: what a refusal is among the faults of preparing, a fault of cells among those of executing and of querying, and a fault of a
--- session among those of a stream.
+-- session among those of a request and of a stream.
 use Rattle.plain_tables.specs.Effects.{Effect}
 use Rattle.plain_tables.specs.declared.refusal.Refusal.{Refusal}
 use Rattle.plain_tables.specs.declared.refusal.Refusal.TheVariants as refusal
@@ -7,6 +7,8 @@ use Rattle.mm_cells.specs.declared.fault.CellFault.{CellFault}
 use Rattle.mm_cells.specs.declared.fault.CellFault.TheVariants as cells
 use Rattle.mm_session.specs.Changing.{HasDeclined}
 use Rattle.mm_session.specs.Sessions.{State}
+use Rattle.mm_session.specs.declared.fault.ReadFault.{ReadFault}
+use Rattle.mm_session.specs.declared.fault.ReadFault.TheVariants as reading
 use Rattle.mm_session.specs.declared.fault.SessionFault.{SessionFault}
 use Rattle.mm_session.specs.declared.fault.SessionFault.TheVariants as session
 use Rattle.mm_statements.specs.declared.faults.ExecuteFault.{ExecuteFault}
@@ -15,6 +17,8 @@ use Rattle.mm_statements.specs.declared.faults.PrepareFault.{PrepareFault}
 use Rattle.mm_statements.specs.declared.faults.PrepareFault.TheVariants as fault
 use Rattle.mm_statements.specs.declared.faults.QueryFault.{QueryFault}
 use Rattle.mm_statements.specs.declared.faults.QueryFault.TheVariants as querying
+use Rattle.mm_statements.specs.declared.faults.RequestFault.{RequestFault}
+use Rattle.mm_statements.specs.declared.faults.RequestFault.TheVariants as requesting
 use Rattle.mm_statements.specs.declared.faults.StreamFault.{StreamFault}
 use Rattle.mm_statements.specs.declared.faults.StreamFault.TheVariants as streaming
 use Rattle.mm_statements.specs.declared.faults.ChangeFault.{ChangeFault}
@@ -34,6 +38,11 @@ execute_fault_of cells.TooLong = executing.TooLong
 abbrev pub query_fault_of : CellFault → QueryFault
 query_fault_of (cells.NoMemory refused) = querying.Refused refusal.NoMemory
 query_fault_of cells.TooLong = querying.TooLong
+
+-- a change is declined where the tables are only read
+abbrev pub request_fault_of : ReadFault → RequestFault
+request_fault_of reading.NotOneRequest = requesting.NotOneRequest
+request_fault_of reading.Changes = requesting.Shared
 
 -- a session's fault is the stream's
 abbrev pub stream_fault_of : SessionFault → StreamFault

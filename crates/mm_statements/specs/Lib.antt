@@ -1,10 +1,12 @@
 pub mod ColumnLaws
 pub mod Columns
+pub mod Counting
 pub mod Databases
 pub mod Executing
 pub mod Faults
 pub mod Held
 pub mod LineLaws
+pub mod Noted
 pub mod Planning
 pub mod Preparing
 pub mod Querying

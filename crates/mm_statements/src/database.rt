@@ -1,13 +1,15 @@
 //! A database with statements: a session, and the statements that are kept of its tables.
 
 use crate::columns::push_columns;
+use crate::counting::select_of;
 use crate::faults::{
     BeginFault, ExecuteFault, PrepareFault, QueryFault, RequestFault, ShareFault, StreamFault,
 };
+use crate::noted::NotedTables;
 use crate::planning::{PlannedSelect, plan_of_line};
 use crate::querying::command_of_line;
 use crate::reading::{count_marks, meaning, readable};
-use crate::resolving::{command_of, resolution_of, resolve};
+use crate::resolving::{command_of, resolution_of, resolve, settle};
 use crate::shared::SharedSession;
 use mm_cells::Cells;
 use mm_prepared::{Cell, Commands, Declined, Lent, Statements, may_declare};
@@ -54,6 +56,8 @@ pub struct Database {
     held: SharedSession,
     policy: Policy,
     statements: Statements,
+    // What is known of the statements' meaning is right by these.
+    noted: NotedTables,
     commands: Commands,
 }
 
@@ -62,7 +66,7 @@ impl Model for Database {
     ghost use Rattle.mm_session.specs.contracts.session.Session.{the_row as session_row};
     ghost use Rattle.mm_prepared.specs.Kept.{all_seen};
     ghost use Rattle.mm_statements.specs.Databases.{DatabaseState, database_code};
-    ghost use Rattle.mm_statements.specs.Right.{AreRight};
+    ghost use Rattle.mm_statements.specs.Right.{AreNoted};
 
     ghost Value = { DatabaseState };
 
@@ -70,7 +74,7 @@ impl Model for Database {
 
     ghost view = { λ d. record { session = d.held.session; shared = d.held.shared; statements = all_seen d.statements } };
 
-    ghost invariant = { λ d. AreRight d.held.session.database d.statements };
+    ghost invariant = { λ d. AreNoted d.held.session.database d.noted d.statements };
 }
 
 impl Database {
@@ -82,10 +86,12 @@ impl Database {
     ghost use Rattle.mm_cells.specs.Reading.{AreFull};
     ghost use Rattle.mm_cells.specs.Values.{values_of};
     ghost use Rattle.mm_session.specs.OneRequest.{AnswersOne, GoesBetween, IsAtSamePlace, StaysInStream};
+    ghost use Rattle.mm_session.specs.Reads.{WouldChange};
     ghost use Rattle.mm_session.specs.Sessions.{BreaksOff, Feeds, Finishes, Gains, new_session, tables_of};
     ghost use Rattle.plain_tables.specs.Transactions.{begun, committed, rolled_back};
     ghost use Rattle.mm_prepared.specs.Cells.{IsSmall, cell_value};
     ghost use Rattle.mm_prepared.specs.Kept.{KeptStatement};
+    ghost use Rattle.mm_statements.specs.Counting.{HasRowsOf, IsUncounted};
     ghost use Rattle.mm_statements.specs.Databases.{statement_at, IsUnchanged, NowNames, SameStatements, SharesMore};
     ghost use Rattle.mm_statements.specs.Executing.{HasGiven, IsDeclined, IsEffectOf, IsUntold, TellsColumns};
     ghost use Rattle.mm_statements.specs.Planning.{IsPlanOfLine, IsUnplanned};
@@ -112,6 +118,7 @@ impl Database {
             held: SharedSession::new(session),
             policy,
             statements: Statements::new(alloc),
+            noted: NotedTables::new(alloc),
             commands: Commands::new(alloc),
         })
     }
@@ -133,12 +140,14 @@ impl Database {
             held: self.held.another(alloc, self.policy)?,
             policy: self.policy,
             statements: Statements::new(alloc),
+            noted: NotedTables::new(alloc),
             commands: Commands::new(alloc),
         })
     }
 
     /// Has another database share the session, in the place of its own, which ends where no third shares it. The other's statements
-    /// and their values stay. What is known of their meaning is forgotten. In a transaction of either it is declined.
+    /// and their values stay. What is known of their meaning stays where the tables have the names and columns that it was worked out
+    /// by. In a transaction of either it is declined.
     pub fn share(&mut self, alloc: Global, other: &mut Database) -> Result<(), ShareFault>
         ensures session { OnOk result (other.new.session ≡ self.old.session) }
         ensures statements { OnOk result (SameStatements other.old other.new) }
@@ -153,14 +162,15 @@ impl Database {
             return Err(ShareFault::InTransaction);
         }
         let held = self.held.another(alloc, self.policy)?;
-        other.statements.forget();
         other.held = held;
+        other.noted.doubt();
         other.policy = self.policy;
         Ok(())
     }
 
     /// Leaves the session, which ends where no other database shares it, for one without tables. The statements and their values stay.
-    /// What is known of their meaning is forgotten. In a transaction it is declined. Only where nothing is shared it takes memory.
+    /// What is known of their meaning stays for the tables that are shared next. In a transaction it is declined. Only where nothing is
+    /// shared it takes memory.
     pub fn leave(&mut self, alloc: Global) -> Result<(), ShareFault>
         ensures session { OnOk result (self.new.session ≡ new_session self.old.session.limits [] self.new.session.catalog) }
         ensures statements { OnOk result (SameStatements self.old self.new) }
@@ -174,7 +184,7 @@ impl Database {
             return Err(ShareFault::InTransaction);
         }
         self.held.leave(alloc, self.policy)?;
-        self.statements.forget();
+        self.noted.doubt();
         Ok(())
     }
 
@@ -226,7 +236,8 @@ impl Database {
     }
 
     /// Ends the innermost transaction, and undoes what was done in it: the tables are those that it began with. It takes no memory.
-    /// The stream goes on as before. What is known of the statements' meaning is kept where no table was declared or dropped in it.
+    /// The stream goes on as before. Where no table was declared or dropped in it, what is known of the statements' meaning isn't even
+    /// compared with the tables.
     pub fn rollback(&mut self) -> Result<(), NoTransaction>
         ensures open { OnOk result (self.old.session.saved ≢ []) }
         ensures rolled_back { OnOk result (tables_of self.new.session ≡ rolled_back (tables_of self.old.session)) }
@@ -238,7 +249,7 @@ impl Database {
     {
         let kept = self.held.rollback()?;
         if !kept {
-            self.statements.forget();
+            self.noted.doubt();
         }
         Ok(())
     }
@@ -246,7 +257,7 @@ impl Database {
     /// Answers one request by itself, beside the stream: a line without its line feed, and the block behind it, which is empty
     /// for a line that asks for none. The stream goes on as if the request had not been there.
     ///
-    /// What is known of the statements' meaning is kept where the line can't change the names and columns of tables.
+    /// Where the line can't change the names and columns of tables, what is known of the statements' meaning isn't even compared with them.
     pub fn answer_request(
         &mut self,
         line: &[u8],
@@ -259,9 +270,10 @@ impl Database {
         // It isn't: the line has a line feed in it, or takes another number of bytes than the block has.
         ensures err { IsErrOf result request_fault.NotOneRequest → ¬ (IsWhole (record { line = line.now; block = block.now })) }
 
-        // Where it isn't, or another database shares the session, nothing has changed.
+        // Where it isn't, or would change tables that another database shares, nothing has changed.
         ensures unchanged { OnErr result ((self.new ≡ self.old) × (answer.new ≡ answer.old)) }
         ensures shared { IsErrOf result request_fault.Shared → IsTrue self.old.shared }
+        ensures change { IsErrOf result request_fault.Shared → WouldChange self.old.session.database (record { line = line.now; block = block.now }) }
         ensures keeps { self.new.shared ≡ self.old.shared }
 
         // The stream goes on as before, and the request stands behind what of it was answered.
@@ -273,7 +285,7 @@ impl Database {
     {
         self.held.answer_request(line, block, answer)?;
         if may_declare(line) {
-            self.statements.forget();
+            self.noted.doubt();
         }
         Ok(())
     }
@@ -306,7 +318,7 @@ impl Database {
         ensures statements { SameStatements self.old self.new }
     {
         let fed = self.held.feed(piece, w);
-        self.statements.forget();
+        self.noted.doubt();
         fed
     }
 
@@ -325,7 +337,7 @@ impl Database {
         ensures statements { SameStatements self.old self.new }
     {
         let ended = self.held.end(w);
-        self.statements.forget();
+        self.noted.doubt();
         ended
     }
 
@@ -362,6 +374,7 @@ impl Database {
         let line = readable(line)?;
         let resolution = meaning(alloc, self.held.catalog(), &line)?;
         let places = count_marks(line.as_str().as_bytes());
+        settle(self.held.catalog(), &mut self.noted, &mut self.statements)?;
         let statement = self
             .statements
             .prepare(alloc, line.as_str(), places, resolution)?;
@@ -415,7 +428,7 @@ impl Database {
         ensures keeps { self.new.shared ≡ self.old.shared }
     {
         shown.clear();
-        resolve(&self.held, &mut self.statements, number)?;
+        resolve(&self.held, &mut self.noted, &mut self.statements, number)?;
         let kept = self.commands.at(number);
         let lent = command_of(&self.statements, number, kept)?;
         let command = match lent {
@@ -443,13 +456,28 @@ impl Database {
         ensures unchanged { IsUnchanged self.old self.new }
     {
         cells.clear();
-        resolve(&self.held, &mut self.statements, number)?;
+        resolve(&self.held, &mut self.noted, &mut self.statements, number)?;
         let resolution = resolution_of(&self.statements, number);
         let Template::Select(query) = &resolution.template else {
             return Ok(());
         };
         push_columns(cells, self.held.catalog(), query)?;
         Ok(())
+    }
+
+    /// How many rows the select of a number shows with the values that are bound. They are counted, and none of their values is kept. It is
+    /// refused as an execution is. What is no select isn't done: it is refused by 20 once its names and its values are right.
+    pub fn count(&mut self, number: usize) -> Result<u64, ExecuteFault>
+        ensures counted { IfOk result (λ count. HasRowsOf self.old number (λ n. count ≡ n)) }
+        ensures missing { statement_at self.old number ≡ None → result ≡ Err fault.NoSuchStatement }
+        ensures declined { IfErr result (IsUncounted self.old number) }
+        ensures unchanged { IsUnchanged self.old self.new }
+    {
+        resolve(&self.held, &mut self.noted, &mut self.statements, number)?;
+        let kept = self.commands.at(number);
+        let lent = command_of(&self.statements, number, kept)?;
+        let query = select_of(&lent)?;
+        Ok(self.held.count(query)?)
     }
 
     /// Does the insert, the update, the delete or the select that a line spells, beside the stream. No statement is kept, and no

@@ -2,7 +2,7 @@
 //! a transaction neither begins nor ends.
 
 use mm_cells::CellFault;
-use mm_session::{NotOneRequest, SessionFault};
+use mm_session::{CountFault, NotOneRequest, ReadFault, SessionFault};
 use no_memory::NoMemory;
 use plain_tables::Refusal;
 
@@ -48,7 +48,8 @@ pub enum ExecuteFault {
     NoSuchStatement,
     /// The statement is refused with these values; 90 where a growth was refused.
     Refused(Refusal),
-    /// The texts of the rows that it shows are longer than 4 GiB together: cells have no numbers for them.
+    /// The texts of the rows that it shows are longer than 4 GiB together: cells have no numbers for them. Or the rows that are to be
+    /// counted are 2^64 or more.
     TooLong,
     /// It is an insert, an update or a delete, and another database shares the tables.
     Shared,
@@ -87,6 +88,20 @@ impl From<CellFault> for ExecuteFault {
         match why {
             CellFault::NoMemory(refused) => ExecuteFault::Refused(Refusal::from(refused)),
             CellFault::TooLong => ExecuteFault::TooLong,
+        }
+    }
+}
+
+impl From<CountFault> for ExecuteFault {
+    ghost use Rattle.std.specs.Prelude.{◌≡◌};
+    ghost use Rattle.mm_statements.specs.Counting.{execute_fault_of_count};
+
+    ghost from_gives = { λ why e. e ≡ execute_fault_of_count why };
+
+    fn from(why: CountFault) -> ExecuteFault {
+        match why {
+            CountFault::NoMemory(refused) => ExecuteFault::Refused(Refusal::from(refused)),
+            CountFault::TooMany => ExecuteFault::TooLong,
         }
     }
 }
@@ -132,7 +147,7 @@ impl From<CellFault> for QueryFault {
 pub enum RequestFault {
     /// The line has a line feed in it, or asks for another number of bytes than the block has.
     NotOneRequest,
-    /// Another database shares the tables.
+    /// It would change tables, which another database shares.
     Shared,
 }
 
@@ -144,6 +159,20 @@ impl From<NotOneRequest> for RequestFault {
 
     fn from(_: NotOneRequest) -> RequestFault {
         RequestFault::NotOneRequest
+    }
+}
+
+impl From<ReadFault> for RequestFault {
+    ghost use Rattle.std.specs.Prelude.{◌≡◌};
+    ghost use Rattle.mm_statements.specs.Faults.{request_fault_of};
+
+    ghost from_gives = { λ why e. e ≡ request_fault_of why };
+
+    fn from(why: ReadFault) -> RequestFault {
+        match why {
+            ReadFault::NotOneRequest => RequestFault::NotOneRequest,
+            ReadFault::Changes => RequestFault::Shared,
+        }
     }
 }
 

@@ -12,8 +12,8 @@
 //!
 //! - A number names one statement from the call that gives it to the one that frees it.
 //! - A statement has as many values as holes, each null until one is bound, and it stays until another is.
-//! - What is known of a statement's meaning is right by the tables as they are. Where their names or columns may have changed it is
-//!   forgotten, and worked out anew from the line when the statement is executed next.
+//! - What is known of a statement's meaning is right by names and columns that are noted beside it. Where those of the tables may have
+//!   changed, they are compared when a statement is executed next. Only if they differ it is worked out anew from the line.
 //! - What is declined changes nothing.
 //! - Several databases may share a session. Each reads its tables by statements of its own, and none changes them while another is there.
 //!   A database that shares none has it for itself, and is never declined because of others.
@@ -22,9 +22,11 @@
 #![tactic(auto)]
 
 mod columns;
+mod counting;
 mod database;
 mod faults;
 pub mod laws;
+mod noted;
 mod planning;
 mod querying;
 mod reading;

@@ -1,22 +1,51 @@
 //! From the statement of a number to the resolved command that it is with its values.
-ghost use Rattle.std.specs.Prelude.{◌≡◌, Err, IfErr, IfOk, None, OnOk, Ok, Some};
+ghost use Rattle.std.specs.Prelude.{◌≡◌, Err, IfErr, IfOk, IsOk, None, OnOk, Ok, Some, map, true};
 ghost use Rattle.plain_tables.specs.Databases.{Database};
-ghost use Rattle.plain_tables.specs.ResolvedLaws.{IsMeant};
+ghost use Rattle.plain_tables.specs.ResolvedLaws.{IsMeant, emptied};
 ghost use Rattle.plain_tables.specs.declared.command.Limits.{Limits};
 ghost use Rattle.mm_prepared.specs.Kept.{IsKnown, SameSeen, named};
 ghost use Rattle.mm_prepared.specs.Lent.{lent_command};
+ghost use Rattle.mm_catalog.specs.Seen.{database_of};
+ghost use Rattle.mm_statements.specs.Noted.{noted_tables};
 ghost use Rattle.mm_statements.specs.Resolving.{IsFinished, IsOfRows, IsUnfinished, IsUnresolved};
-ghost use Rattle.mm_statements.specs.Right.{AreRight};
+ghost use Rattle.mm_statements.specs.Right.{AreNoted, AreRight};
 ghost use Rattle.mm_prepared.specs.declared.kept.Prepared.{Prepared as PlainPrepared};
 ghost use Rattle.mm_statements.specs.declared.faults.ExecuteFault.TheVariants as fault;
 
 use crate::faults::ExecuteFault;
+use crate::noted::NotedTables;
 use crate::reading::meaning;
 use crate::shared::SharedSession;
+use mm_catalog::Catalog;
 use mm_lang::Line;
 use mm_prepared::{Lent, Statements, lend};
+use no_memory::NoMemory;
 use plain_statements::Resolution;
 use plain_tables::{Refusal, Resolved};
+
+/// Sees to it that what is known of the statements is right by the tables of a catalog. It is kept where these have the names and columns
+/// that are noted, and else forgotten.
+pub fn settle(
+    catalog: &Catalog,
+    noted: &mut NotedTables,
+    statements: &mut Statements,
+) -> Result<(), NoMemory>
+    requires { AreNoted (database_of catalog.now) noted.old statements.old }
+    ensures noted { AreNoted (database_of catalog.now) noted.new statements.new }
+    ensures current { OnOk result (noted.new.current ≡ true) }
+    ensures right { OnOk result (AreRight (database_of catalog.now) statements.new) }
+    ensures same { SameSeen statements.old statements.new }
+    ensures stays { noted_tables noted.old ≡ map emptied (database_of catalog.now) → IsOk result × (statements.new ≡ statements.old) }
+{
+    if noted.are_current() {
+        return Ok(());
+    }
+    let others = noted.renew(catalog)?;
+    if others {
+        statements.forget();
+    }
+    Ok(())
+}
 
 // Works out what the statement of a number means of the tables.
 fn resolve_anew(
@@ -41,9 +70,9 @@ fn resolve_anew(
     Ok(())
 }
 
-/// Works out what the statement of a number means of the tables, where that isn't known.
+// Works out what the statement of a number means of the tables, where that isn't known.
 #[inline]
-pub fn resolve(
+fn resolve_settled(
     held: &SharedSession,
     statements: &mut Statements,
     number: usize,
@@ -61,6 +90,29 @@ pub fn resolve(
         }
     }
     resolve_anew(held, statements, number)
+}
+
+/// Works out what the statement of a number means of the tables, where that isn't known by the tables as they are.
+#[inline]
+pub fn resolve(
+    held: &SharedSession,
+    noted: &mut NotedTables,
+    statements: &mut Statements,
+    number: usize,
+) -> Result<(), ExecuteFault>
+    requires { AreNoted held.now.session.database noted.old statements.old }
+    ensures noted { AreNoted held.now.session.database noted.new statements.new }
+    ensures right { OnOk result (AreRight held.now.session.database statements.new) }
+    ensures same { SameSeen statements.old statements.new }
+    ensures known { OnOk result (IsKnown statements.new number) }
+    ensures missing { named statements.old number ≡ None → result ≡ Err fault.NoSuchStatement }
+    ensures refused { IfErr result (IsUnresolved held.now.session.database statements.old number) }
+{
+    if statements.get(number).is_none() {
+        return Err(ExecuteFault::NoSuchStatement);
+    }
+    settle(held.catalog(), noted, statements)?;
+    resolve_settled(held, statements, number)
 }
 
 /// What the statement of a number means of the tables, whatever values are bound.

@@ -1,6 +1,6 @@
 //! A session that databases share.
 
-ghost use Rattle.std.specs.Prelude.{◌≡◌, ◌≢◌, ◌<◌, ◌↔◌, [], Err, Ok, false, length, map, true, IfErr, IfOk, IsErrOf, IsTrue, OnErr, OnOk};
+ghost use Rattle.std.specs.Prelude.{◌≡◌, ◌≢◌, ◌<◌, ◌≤◌, ◌↔◌, ◌^◌, [], Err, Ok, false, length, map, true, IfErr, IfOk, IsErrOf, IsTrue, OnErr, OnOk};
 ghost use Rattle.std.specs.Io.KnownBytes.{Keeps};
 ghost use Rattle.plain_tables.specs.Doing.{done};
 ghost use Rattle.plain_tables.specs.ResolvedLaws.{IsMeant, emptied};
@@ -11,7 +11,9 @@ ghost use Rattle.mm_catalog.specs.Seen.{database_of};
 ghost use Rattle.mm_cells.specs.Reading.{AreFull};
 ghost use Rattle.mm_cells.specs.Values.{values_of};
 ghost use Rattle.mm_session.specs.Changing.{HasChanged, IsChange, ShowsValues};
+ghost use Rattle.mm_session.specs.Counting.{HasRows};
 ghost use Rattle.mm_session.specs.OneRequest.{AnswersOne, GoesBetween, IsAtSamePlace, StaysInStream};
+ghost use Rattle.mm_session.specs.Reads.{WouldChange};
 ghost use Rattle.mm_transactions.specs.Log.{AreSettled};
 ghost use Rattle.mm_session.specs.Sessions.{BreaksOff, Feeds, Finishes, Gains, new_session, tables_of};
 ghost use Rattle.mm_statements.specs.Faults.{IsUndone};
@@ -24,7 +26,7 @@ use crate::faults::{BeginFault, ChangeFault, RequestFault, StreamFault};
 use mm_catalog::Catalog;
 use mm_catalog::laws::a_catalog_is_consistent;
 use mm_cells::{CellFault, Cells};
-use mm_session::{Answer, Session};
+use mm_session::{Answer, CountFault, Session};
 use mm_transactions::NoTransaction;
 use no_memory::NoMemory;
 use plain_tables::{Query, Resolved, TableNumber, Value};
@@ -230,6 +232,15 @@ impl SharedSession {
         self.session().select(query, cells)
     }
 
+    /// How many rows a select shows, as the session counts them.
+    pub fn count(&self, query: &Query) -> Result<u64, CountFault>
+        requires { IsMeant self.now.session.limits self.now.session.database (resolved.Select query.now) }
+        ensures counted { IfOk result (λ count. HasRows (done self.now.session.limits self.now.session.database (resolved.Select query.now)).outcome (λ n. count ≡ n)) }
+        ensures too_many { IsErrOf result CountFault.TooMany → HasRows (done self.now.session.limits self.now.session.database (resolved.Select query.now)).outcome (λ n. 2 ^ 64 ≤ n) }
+    {
+        self.session().count(query)
+    }
+
     /// Does an insert, an update or a delete, as the session does, where nobody else holds it.
     pub fn change(&mut self, command: &Resolved) -> Result<usize, ChangeFault>
         requires meant { IsMeant self.old.session.limits self.old.session.database command.now }
@@ -269,7 +280,7 @@ impl SharedSession {
         }
     }
 
-    /// Answers one request by itself, as the session does, where nobody else holds it.
+    /// Answers one request by itself, as the session does. Where somebody else holds that, it declines what would change tables.
     pub fn answer_request(
         &mut self,
         line: &[u8],
@@ -282,6 +293,7 @@ impl SharedSession {
         ensures stream { StaysInStream self.old.session self.new.session }
         ensures run { OnOk result (GoesBetween self.old.session self.new.session (record { line = line.now; block = block.now }) answer.new) }
         ensures shared { IsErrOf result request_fault.Shared → IsTrue self.old.shared }
+        ensures change { IsErrOf result request_fault.Shared → WouldChange self.old.session.database (record { line = line.now; block = block.now }) }
         ensures keeps { self.new.shared ≡ self.old.shared }
     {
         let Some(shared) = &mut self.shared else {
@@ -289,7 +301,7 @@ impl SharedSession {
         };
         match Arc::get_mut(shared) {
             Some(session) => Ok(session.answer_request(line, block, answer)?),
-            None => Err(RequestFault::Shared),
+            None => Ok(shared.read_request(line, block, answer)?),
         }
     }
 

@@ -2,15 +2,19 @@ use Rattle.std.proofs.lemmas.Result.{MatchResult-weaker, on_ok_weaker, on_err_we
 use Rattle.std.proofs.Common.{refl}
 use Rattle.mm_prepared.specs.Cells.{cell_value}
 use Rattle.mm_prepared.specs.declared.declined.Declined.TheVariants as declined
+use Rattle.mm_statements.specs.Noted.{noted_tables}
 use Rattle.mm_statements.proofs.ExecuteLemmas.{unchanged}
 use Rattle.mm_statements.proofs.RightLemmas.{bind-right}
 use Rattle.mm_statements.proofs.SeenLemmas.{bound-seen, named-seen, past-seen}
 use Rattle.mm_statements.proofs.database.Database.bind.Goals as goal
 
 pub invariant_of-self : goal.invariant_of-self
-invariant_of-self c =
-    bind-right c.self.inside.held.session.database c.self.inside.statements c.bind.new.self c.args.number c.args.place (cell_value c.args.cell) declined.NoSuchStatement c.bind.result
-    c.bind.ensures.bound c.bind.ensures.unchanged c.bind.ensures.missing c.self.invariant
+invariant_of-self c = record {
+  right =
+      bind-right (noted_tables c.self.inside.noted) c.self.inside.statements c.bind.new.self c.args.number c.args.place (cell_value c.args.cell) declined.NoSuchStatement c.bind.result
+      c.bind.ensures.bound c.bind.ensures.unchanged c.bind.ensures.missing c.self.invariant.right;
+  current = c.self.invariant.current;
+}
 
 pub returns-clause-bound : goal.returns-clause-bound
 returns-clause-bound c =

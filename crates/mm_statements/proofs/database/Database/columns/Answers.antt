@@ -47,7 +47,7 @@ returns-in_default-clause-told c =
     let template = c.resolution_of-resolution.result.now.template in
     rw (← c.self.view_is)
     (known-told s c.self.inside.statements c.resolve.new.statements c.args.number c.resolution_of-resolution.result.now (values_of c.clear.new.self) c.in_ok-resolve.ensures.known
-    c.resolve.ensures.right c.resolve.ensures.same c.resolution_of-resolution.ensures (c.clear.ensures ∙ sym (none-told s.session.database template c.in_default.not-Select)))
+    c.in_ok-resolve.ensures.right c.resolve.ensures.same c.resolution_of-resolution.ensures (c.clear.ensures ∙ sym (none-told s.session.database template c.in_default.not-Select)))
 
 pub returns-in_default-clause-unchanged : goal.returns-in_default-clause-unchanged
 returns-in_default-clause-unchanged c =
@@ -65,7 +65,7 @@ returns-clause-told c =
     ∙ sym (ap (columns_of_template s.session.database) c.in-Select.is) in
     rw (← c.self.view_is)
     (known-told s c.self.inside.statements c.resolve.new.statements c.args.number c.resolution_of-resolution.result.now (values_of c.push_columns.new.cells) c.in_ok-resolve.ensures.known
-    c.resolve.ensures.right c.resolve.ensures.same c.resolution_of-resolution.ensures told)
+    c.in_ok-resolve.ensures.right c.resolve.ensures.same c.resolution_of-resolution.ensures told)
 
 pub returns-clause-unchanged : goal.returns-clause-unchanged
 returns-clause-unchanged c =

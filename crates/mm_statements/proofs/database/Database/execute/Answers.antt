@@ -8,7 +8,7 @@ use Rattle.mm_cells.specs.Values.{values_of}
 use Rattle.mm_statements.specs.Faults.{execute_fault_of}
 use Rattle.mm_statements.specs.Resolving.{IsFinished, IsOfRows}
 use Rattle.mm_statements.specs.declared.faults.ExecuteFault.TheVariants as fault
-use Rattle.mm_statements.proofs.ExecuteLemmas.{cells-declined, change-undone, changed-right, effect-of, full-cells, on-err, same-finished, same-unfinished, unchanged, unfinished-declined, unresolved-apart, unresolved-unfinished}
+use Rattle.mm_statements.proofs.ExecuteLemmas.{cells-declined, change-undone, changed-noted, effect-of, full-cells, on-err, same-finished, same-unfinished, unchanged, unfinished-declined, unresolved-apart, unresolved-unfinished}
 use Rattle.mm_statements.proofs.FinishedLemmas.{rows-change}
 use Rattle.mm_statements.proofs.SeenLemmas.{same-seen, statement-none}
 use Rattle.mm_statements.proofs.database.Database.execute.Goals as goal
@@ -56,7 +56,7 @@ returns-in_err-lent-clause-declined c =
     rw (← c.self.view_is, e.1, e.2)
     (unfinished-declined s old c.args.number (fault.Refused c.in_err-lent.field-0.0)
     (same-unfinished s.session.database old c.resolve.new.statements c.args.number _ c.resolve.ensures.same
-    (c.in_err-lent.ensures.refused s.session.database c.resolve.ensures.right)))
+    (c.in_err-lent.ensures.refused s.session.database c.in_ok-resolve.ensures.right)))
 
 pub returns-in_err-lent-clause-unchanged : goal.returns-in_err-lent-clause-unchanged
 returns-in_err-lent-clause-unchanged c =
@@ -72,7 +72,7 @@ returns-in_err-lent-clause-statements c =
 pub insert-requires : goal.insert-requires
 insert-requires c =
     let s = c.self.inside.held in
-    rw c.in-Insert.is at (c.in_ok-lent.ensures.meant s.session.limits s.session.database c.resolve.ensures.right)
+    rw c.in-Insert.is at (c.in_ok-lent.ensures.meant s.session.limits s.session.database c.in_ok-resolve.ensures.right)
 
 pub returns-in_err-insert-in-Insert-clause-declined : goal.returns-in_err-insert-in-Insert-clause-declined
 returns-in_err-insert-in-Insert-clause-declined c =
@@ -80,7 +80,7 @@ returns-in_err-insert-in-Insert-clause-declined c =
     let old = c.self.inside.statements in
     let command = resolved.Insert c.in-Insert.table c.in-Insert.row.now in
     let finished : IsFinished s.session.database c.resolve.new.statements c.args.number (Ok command) =
-    rw c.in-Insert.is at (c.in_ok-lent.ensures.finished s.session.database c.resolve.ensures.right) in
+    rw c.in-Insert.is at (c.in_ok-lent.ensures.finished s.session.database c.in_ok-resolve.ensures.right) in
     let e = err_from_is_err_and c.from_residual-in_err-insert-in-Insert.result c.from_residual-in_err-insert-in-Insert.ensures.1 in
     rw (← c.self.view_is, e.1, e.2)
     (change-undone s c.insert.new.self.session old c.args.number command _
@@ -105,7 +105,7 @@ returns-in-Insert-clause-done c =
     let old = c.self.inside.statements in
     let command = resolved.Insert c.in-Insert.table c.in-Insert.row.now in
     let finished : IsFinished s.session.database c.resolve.new.statements c.args.number (Ok command) =
-    rw c.in-Insert.is at (c.in_ok-lent.ensures.finished s.session.database c.resolve.ensures.right) in
+    rw c.in-Insert.is at (c.in_ok-lent.ensures.finished s.session.database c.in_ok-resolve.ensures.right) in
     rw (← c.self.view_is) (
       done s.session.limits s.session.database command,
       effect-of s old c.args.number (Ok command) (same-finished s.session.database old c.resolve.new.statements c.args.number (Ok command) c.resolve.ensures.same finished),
@@ -121,7 +121,7 @@ pub select-requires : goal.select-requires
 select-requires c =
     let s = c.self.inside.held in
     let meant : IsMeant s.session.limits s.session.database c.in-Command.command.now =
-    rw c.in-Command.is at (c.in_ok-lent.ensures.meant s.session.limits s.session.database c.resolve.ensures.right) in
+    rw c.in-Command.is at (c.in_ok-lent.ensures.meant s.session.limits s.session.database c.in_ok-resolve.ensures.right) in
     subst (IsMeant s.session.limits s.session.database) c.in-Select.is meant
 
 pub returns-in_err-columns-clause-declined : goal.returns-in_err-columns-clause-declined
@@ -154,7 +154,7 @@ returns-in-Select-clause-done c =
     let old = c.self.inside.statements in
     let command = resolved.Select c.in-Select.query in
     let lent : IsFinished s.session.database c.resolve.new.statements c.args.number (Ok c.in-Command.command.now) =
-    rw c.in-Command.is at (c.in_ok-lent.ensures.finished s.session.database c.resolve.ensures.right) in
+    rw c.in-Command.is at (c.in_ok-lent.ensures.finished s.session.database c.in_ok-resolve.ensures.right) in
     let finished : IsFinished s.session.database c.resolve.new.statements c.args.number (Ok command) = rw c.in-Select.is at lent in
     rw (← c.self.view_is) (
       done s.session.limits s.session.database command,
@@ -175,7 +175,7 @@ pub change-requires : goal.change-requires
 change-requires c =
     let s = c.self.inside.held in
     let command = c.in-Command.command.now in
-    let meant : IsMeant s.session.limits s.session.database command = rw c.in-Command.is at (c.in_ok-lent.ensures.meant s.session.limits s.session.database c.resolve.ensures.right) in
+    let meant : IsMeant s.session.limits s.session.database command = rw c.in-Command.is at (c.in_ok-lent.ensures.meant s.session.limits s.session.database c.in_ok-resolve.ensures.right) in
     let rows : IsOfRows command = rw c.in-Command.is at c.in_ok-lent.ensures.rows in
     record { meant = meant; change = rows-change command rows c.in_default.not-Select }
 
@@ -185,7 +185,7 @@ returns-in_err-count-clause-declined c =
     let old = c.self.inside.statements in
     let command = c.in-Command.command.now in
     let finished : IsFinished s.session.database c.resolve.new.statements c.args.number (Ok command) =
-    rw c.in-Command.is at (c.in_ok-lent.ensures.finished s.session.database c.resolve.ensures.right) in
+    rw c.in-Command.is at (c.in_ok-lent.ensures.finished s.session.database c.in_ok-resolve.ensures.right) in
     let rows : IsOfRows command = rw c.in-Command.is at c.in_ok-lent.ensures.rows in
     let e = err_from_is_err_and c.from_residual-in_err-count.result c.from_residual-in_err-count.ensures.1 in
     rw (← c.self.view_is, e.1, e.2)
@@ -212,7 +212,7 @@ returns-clause-done c =
     let old = c.self.inside.statements in
     let command = c.in-Command.command.now in
     let finished : IsFinished s.session.database c.resolve.new.statements c.args.number (Ok command) =
-    rw c.in-Command.is at (c.in_ok-lent.ensures.finished s.session.database c.resolve.ensures.right) in
+    rw c.in-Command.is at (c.in_ok-lent.ensures.finished s.session.database c.in_ok-resolve.ensures.right) in
     rw (← c.self.view_is) (
       done s.session.limits s.session.database command,
       effect-of s old c.args.number (Ok command) (same-finished s.session.database old c.resolve.new.statements c.args.number (Ok command) c.resolve.ensures.same finished),
@@ -226,12 +226,12 @@ returns-clause-statements c =
 
 pub invariant_of-self-in-Insert : goal.invariant_of-self-in-Insert
 invariant_of-self-in-Insert c =
-    changed-right c.self.inside.held.session c.insert.new.self.session c.resolve.new.statements (resolved.Insert c.in-Insert.table c.in-Insert.row.now) 1 tt
-    c.in_ok-insert-in-Insert.ensures.done c.resolve.ensures.right
+    changed-noted c.self.inside.held.session c.insert.new.self.session c.resolve.new.noted c.resolve.new.statements (resolved.Insert c.in-Insert.table c.in-Insert.row.now) 1 tt
+    c.in_ok-insert-in-Insert.ensures.done c.resolve.ensures.noted
 
 pub invariant_of-self-2 : goal.invariant_of-self-2
 invariant_of-self-2 c =
     let command = c.in-Command.command.now in
     let rows : IsOfRows command = rw c.in-Command.is at c.in_ok-lent.ensures.rows in
-    changed-right c.self.inside.held.session c.change.new.self.session c.resolve.new.statements command c.in_ok-count.count
-    (rows-change command rows c.in_default.not-Select) c.in_ok-count.ensures.done c.resolve.ensures.right
+    changed-noted c.self.inside.held.session c.change.new.self.session c.resolve.new.noted c.resolve.new.statements command c.in_ok-count.count
+    (rows-change command rows c.in_default.not-Select) c.in_ok-count.ensures.done c.resolve.ensures.noted

@@ -1,16 +1,10 @@
-use Rattle.mm_statements.proofs.RightLemmas.{forgotten-right}
-use Rattle.mm_statements.proofs.SeenLemmas.{forgotten-seen, same-seen}
+use Rattle.mm_statements.proofs.NotedLemmas.{doubted-noted}
 use Rattle.mm_statements.proofs.database.Database.feed.Goals as goal
 
 pub invariant_of-self : goal.invariant_of-self
 invariant_of-self g c =
-    forgotten-right c.self.inside.held.session.database c.feed-fed.new.self.session.database c.self.inside.statements c.forget.new.self c.forget.ensures c.self.invariant
+    doubted-noted c.self.inside.held.session.database c.feed-fed.new.self.session.database c.self.inside.noted c.doubt.new.self c.self.inside.statements c.doubt.ensures
+    c.self.invariant
 
 pub returns-clause-write : goal.returns-clause-write
 returns-clause-write g c = rw (← c.self.view_is) c.feed-fed.ensures.write
-
-pub returns-clause-statements : goal.returns-clause-statements
-returns-clause-statements g c =
-    rw (← c.self.view_is)
-    (same-seen c.self.inside.held c.feed-fed.new.self c.self.inside.statements c.forget.new.self
-    (forgotten-seen c.self.inside.statements c.forget.new.self c.forget.ensures))

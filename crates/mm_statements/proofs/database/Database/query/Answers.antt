@@ -7,7 +7,7 @@ use Rattle.mm_cells.specs.Values.{values_of}
 use Rattle.mm_statements.specs.Faults.{query_fault_of}
 use Rattle.mm_statements.specs.Querying.{IsMeaningOfLine}
 use Rattle.mm_statements.specs.declared.faults.QueryFault.TheVariants as fault
-use Rattle.mm_statements.proofs.ExecuteLemmas.{changed-right, on-err, unchanged}
+use Rattle.mm_statements.proofs.ExecuteLemmas.{changed-noted, on-err, unchanged}
 use Rattle.mm_statements.proofs.FinishedLemmas.{rows-change}
 use Rattle.mm_statements.proofs.QueryLemmas.{cells-unanswered, change-unanswered, effect-of-line, full-cells}
 use Rattle.mm_statements.proofs.database.Database.query.Goals as goal
@@ -63,5 +63,5 @@ returns-clause-done c =
 pub invariant_of-self-2 : goal.invariant_of-self-2
 invariant_of-self-2 c =
     let command = c.in_ok-command.command in
-    changed-right c.self.inside.held.session c.change.new.self.session c.self.inside.statements command c.in_ok-count.count
+    changed-noted c.self.inside.held.session c.change.new.self.session c.self.inside.noted c.self.inside.statements command c.in_ok-count.count
     (rows-change command c.in_ok-command.ensures.rows c.in_default.not-Select) c.in_ok-count.ensures.done c.self.invariant
