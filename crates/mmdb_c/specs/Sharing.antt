@@ -1,6 +1,7 @@
 -- Sharing: what a database has once it shares the tables of another, once it has left them, and why it changes none meanwhile.
 use Rattle.std.specs.Prelude.{◌≡◌, ℕ, Bool, List, [], Option, Some, None, IsTrue, false, true}
-use Rattle.plain_streams.specs.Requests.{without_return}
+use Rattle.plain_streams.specs.Requests.{Request, without_return}
+use Rattle.mm_session.specs.Reads.{WouldChange}
 use Rattle.mm_session.specs.Sessions.{State, new_session}
 use Rattle.mm_statements.specs.Databases.{IsUnchanged, SameStatements, statement_at}
 use Rattle.mm_statements.specs.Databases as databases
@@ -66,3 +67,8 @@ pub record IsLineKeptOff (line : List ℕ) (old new : Database) : Type 0 where
   pub shared : IsShared old
   pub change : IsChangeOfLine old.inner.session.database (without_return line)
   pub answer : new.answer ≡ []
+
+-- The session is shared, and the request would change tables.
+pub record IsRequestKeptOff (asked : Request) (d : Database) : Type 0 where
+  pub shared : IsShared d
+  pub change : WouldChange d.inner.session.database asked

@@ -27,7 +27,7 @@ pub struct Database {
 
 impl Database {
     ghost use Rattle.mmdb_c.specs.Calls.{request, IsNew, AnswersRequest, TellsIndexes, TakesPiece, LosesStream, IsAsBefore};
-    ghost use Rattle.mmdb_c.specs.Sharing.{IsShared, LosesAnswer};
+    ghost use Rattle.mmdb_c.specs.Sharing.{IsRequestKeptOff, IsShared, LosesAnswer};
 
     /// A database with no tables and no statements, an empty answer and an empty reason.
     pub fn new(alloc: Global, policy: Policy, limits: Limits) -> Result<Database, NoMemory>
@@ -48,7 +48,7 @@ impl Database {
     pub fn answer_request(&mut self, line: &[u8], block: &[u8]) -> Result<(), RequestFault>
         ensures ok { OnOk result (AnswersRequest (request line.now block.now) self.old self.new) }
         ensures err { IsErrOf result request_fault.NotOneRequest → ¬ (IsWhole (request line.now block.now)) }
-        ensures sharing { IsErrOf result request_fault.Shared → IsShared self.old }
+        ensures kept_off { IsErrOf result request_fault.Shared → IsRequestKeptOff (request line.now block.now) self.old }
         ensures unchanged { OnErr result (self.new ≡ self.old) }
     {
         self.inner.answer_request(line, block, &mut self.answer)

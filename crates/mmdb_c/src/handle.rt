@@ -27,6 +27,9 @@ impl Model for Handle {
     ghost also_owns = { λ h. holds the_row h.at h.database };
 }
 
+// What it owns may be used and freed by any thread.
+unsafe impl Send for Handle {}
+
 impl Handle {
     /// A handle of no database.
     pub fn closed() -> Handle

@@ -4,6 +4,7 @@
 //! the database out of the handle, does what the call of the session or the statements does, and puts it back. The header that C reads is `include/mmdb.h`.
 //!
 //! - A handle that is closed owns nothing, and a call on it does nothing.
+//! - A handle may go from thread to thread: `Send` is proved of it.
 //! - Several handles may share a session. Each has statements, answers and rows of its own. While they share it none of them changes its
 //!   tables. `SHARED` comes only of a handle that has shared its tables and not left them since, and never in a transaction.
 //! - In a transaction all is done that is done outside, by lines, statements and pieces of the stream. `IN_TRANSACTION` refuses only
@@ -16,8 +17,10 @@ ghost use Rattle.std.specs.Vec.{vec_ptr, vec_len};
 ghost use Rattle.plain_streams.specs.Division.{IsWhole};
 ghost use Rattle.mm_session.specs.Refused.{TellsRefusal};
 ghost use Rattle.mmdb_c.specs.Calls.{AreLimits, IsNew, request, Becomes, AnswersRequest, TellsIndexes, TakesPiece, LosesStream, IsAsBefore};
-ghost use Rattle.mmdb_c.specs.Sharing.{IsShared, LosesAnswer};
+ghost use Rattle.mmdb_c.specs.Sharing.{IsRequestKeptOff, IsShared, LosesAnswer};
 
+pub mod count_calls;
+mod counts;
 mod database;
 mod handle;
 pub mod plan_calls;
@@ -145,7 +148,7 @@ fn answer_request(
     ensures not_one_request { result ≡ NOT_ONE_REQUEST → IsSome handle.old.database × (line.now ≢ []) × ¬ (IsWhole (request line.now block.now)) }
     ensures one_request { IsSome handle.old.database × (line.now ≢ []) × IsWhole (request line.now block.now) → (result ≡ DONE) ⊎ (result ≡ SHARED) }
     ensures judged { IsSome handle.old.database × (line.now ≢ []) → (result ≡ DONE) ⊎ ((result ≡ NOT_ONE_REQUEST) ⊎ (result ≡ SHARED)) }
-    ensures sharing { result ≡ SHARED → IsSomeAnd handle.old.database IsShared }
+    ensures kept_off { result ≡ SHARED → IsSomeAnd handle.old.database (IsRequestKeptOff (request line.now block.now)) }
     ensures done { result ≡ DONE → Becomes handle.old.database handle.new.database (AnswersRequest (request line.now block.now)) }
     ensures told { result ≡ DONE → IsSomeAnd handle.new.database (λ d. answer.new.length ≡ length d.answer) }
     ensures unchanged { result ≢ DONE → (handle.new.database ≡ handle.old.database) × (answer.new ≡ answer.old) }
@@ -169,7 +172,8 @@ fn answer_request(
     }
 }
 
-/// Answers one command line, given without its line feed, beside the stream.
+/// Answers one command line, given without its line feed, beside the stream. Where another handle shares the tables, one that would change
+/// them is declined.
 #[unsafe(no_mangle)]
 pub extern "C" fn mmdb_command(
     alloc: Global,
@@ -182,7 +186,7 @@ pub extern "C" fn mmdb_command(
     ensures not_one_request { result ≡ NOT_ONE_REQUEST → IsSome handle.old.database × (line.now ≢ []) × ¬ (IsWhole (request line.now [])) }
     ensures one_request { IsSome handle.old.database × (line.now ≢ []) × IsWhole (request line.now []) → (result ≡ DONE) ⊎ (result ≡ SHARED) }
     ensures judged { IsSome handle.old.database × (line.now ≢ []) → (result ≡ DONE) ⊎ ((result ≡ NOT_ONE_REQUEST) ⊎ (result ≡ SHARED)) }
-    ensures sharing { result ≡ SHARED → IsSomeAnd handle.old.database IsShared }
+    ensures kept_off { result ≡ SHARED → IsSomeAnd handle.old.database (IsRequestKeptOff (request line.now [])) }
     ensures done { result ≡ DONE → Becomes handle.old.database handle.new.database (AnswersRequest (request line.now [])) }
     ensures told { result ≡ DONE → IsSomeAnd handle.new.database (λ d. answer.new.length ≡ length d.answer) }
     ensures unchanged { result ≢ DONE → (handle.new.database ≡ handle.old.database) × (answer.new ≡ answer.old) }
@@ -190,7 +194,8 @@ pub extern "C" fn mmdb_command(
     answer_request(alloc, handle, line, &[], answer)
 }
 
-/// Answers a command line and the block that it asks for, beside the stream.
+/// Answers a command line and the block that it asks for, beside the stream. Where another handle shares the tables, a load that its line and
+/// its block don't refuse is declined.
 #[unsafe(no_mangle)]
 pub extern "C" fn mmdb_load(
     alloc: Global,
@@ -204,7 +209,7 @@ pub extern "C" fn mmdb_load(
     ensures not_one_request { result ≡ NOT_ONE_REQUEST → IsSome handle.old.database × (line.now ≢ []) × ¬ (IsWhole (request line.now block.now)) }
     ensures one_request { IsSome handle.old.database × (line.now ≢ []) × IsWhole (request line.now block.now) → (result ≡ DONE) ⊎ (result ≡ SHARED) }
     ensures judged { IsSome handle.old.database × (line.now ≢ []) → (result ≡ DONE) ⊎ ((result ≡ NOT_ONE_REQUEST) ⊎ (result ≡ SHARED)) }
-    ensures sharing { result ≡ SHARED → IsSomeAnd handle.old.database IsShared }
+    ensures kept_off { result ≡ SHARED → IsSomeAnd handle.old.database (IsRequestKeptOff (request line.now block.now)) }
     ensures done { result ≡ DONE → Becomes handle.old.database handle.new.database (AnswersRequest (request line.now block.now)) }
     ensures told { result ≡ DONE → IsSomeAnd handle.new.database (λ d. answer.new.length ≡ length d.answer) }
     ensures unchanged { result ≢ DONE → (handle.new.database ≡ handle.old.database) × (answer.new ≡ answer.old) }
