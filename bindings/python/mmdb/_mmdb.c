@@ -34,6 +34,34 @@ static void give(Turn *turn)
     PyThread_release_lock(lock_of(turn));
 }
 
+/* A new lock in the place of one that is taken, which can't be freed. */
+static int renew(PyThread_type_lock *lock)
+{
+    if (PyThread_acquire_lock(*lock, NOWAIT_LOCK)) {
+        PyThread_release_lock(*lock);
+        return 0;
+    }
+    PyThread_type_lock fresh = PyThread_allocate_lock();
+    if (fresh == NULL) {
+        PyErr_NoMemory();
+        return -1;
+    }
+    *lock = fresh;
+    return 0;
+}
+
+/* In a child of fork: the threads that had the turn aren't here, but for this one. */
+static int renew_turn(Turn *turn)
+{
+    if (turn->keeper == PyThread_get_thread_ident())
+        return renew(&turn->own);
+    if (renew(&turn->lock) < 0 || renew(&turn->own) < 0)
+        return -1;
+    turn->keeper = 0;
+    turn->depth = 0;
+    return 0;
+}
+
 static PyObject *new_turn(void)
 {
     Turn *turn = (Turn *)PyType_GenericAlloc(turn_type, 0);
@@ -278,6 +306,14 @@ static PyObject *handle_done_many(PyObject *self, PyObject *words)
     return done_anyhow(self, &given, "_stored_rows", statement_done_many);
 }
 
+static PyObject *handle_count(PyObject *self, PyObject *words)
+{
+    Given given;
+    if (!PyArg_ParseTuple(words, "OO!O!", &given.line, &PyTuple_Type, &given.placed, &PyTuple_Type, &given.values))
+        return NULL;
+    return done_anyhow(self, &given, "_stored_values", statement_count);
+}
+
 /* The bytes of an answer, or none of an empty line; or null, and what a status says is raised. */
 static PyObject *told(Handle *handle, uint32_t status, mmdb_bytes answer)
 {
@@ -417,6 +453,11 @@ static PyObject *handle_leave(PyObject *self, PyObject *Py_UNUSED(none))
     return stepped(self, mmdb_leave);
 }
 
+static PyObject *handle_renew_turn(PyObject *self, PyObject *Py_UNUSED(none))
+{
+    return renew_turn(((Handle *)self)->turn) < 0 ? NULL : none();
+}
+
 static PyObject *handle_share(PyObject *self, PyObject *given)
 {
     Handle *handle = (Handle *)self;
@@ -481,6 +522,8 @@ static PyMethodDef handle_methods[] = {
     { "_done", handle_done, METH_VARARGS, "Does a statement, which is kept by its line, with these values." },
     { "_done_many", handle_done_many, METH_VARARGS,
       "Does a statement, which is kept by its line, with each of these rows of values." },
+    { "_count", handle_count, METH_VARARGS,
+      "How many rows a select shows, which is kept by its line, with these values." },
     { "_command", handle_command, METH_VARARGS, "What is answered to a line." },
     { "_load", handle_load, METH_VARARGS, "What is answered to a line with its block." },
     { "_indexes", handle_indexes, METH_VARARGS, "What is answered to who asks how the indexes of a table stand." },
@@ -493,6 +536,8 @@ static PyMethodDef handle_methods[] = {
     { "_transactions", handle_transactions, METH_NOARGS, "How many transactions are open." },
     { "_keep", handle_keep, METH_NOARGS, "Has other threads wait with their calls. It wants no turn." },
     { "_end_keeping", handle_end_keeping, METH_NOARGS, "Ends that." },
+    { "_renew_turn", handle_renew_turn, METH_NOARGS,
+      "Gives a new turn in a child of fork, where the threads that had the turn aren't, but for this one." },
     { "_share", handle_share, METH_VARARGS, "Has another handle share the tables, in the place of its own." },
     { "_leave", handle_leave, METH_NOARGS, "Leaves the tables, and has none then." },
     { "_forget", handle_forget, METH_NOARGS, "Forgets what is known of the columns of statements." },
@@ -694,6 +739,11 @@ static PyObject *prepared_done_many(PyObject *self, PyObject *rows)
     return prepared_done_anyhow(self, rows, "_stored_rows", statement_done_many);
 }
 
+static PyObject *prepared_count(PyObject *self, PyObject *values)
+{
+    return prepared_done_anyhow(self, values, "_stored_values", statement_count);
+}
+
 static PyObject *prepared_names(PyObject *self, PyObject *Py_UNUSED(none))
 {
     Prepared *prepared = (Prepared *)self;
@@ -713,6 +763,7 @@ static PyMethodDef prepared_methods[] = {
       "Does it with these parameters, and gives its rows, or how many rows it was about." },
     { "_done", prepared_done, METH_O, "Does it with these values." },
     { "_done_many", prepared_done_many, METH_O, "Does it with each of these rows of values." },
+    { "_count", prepared_count, METH_O, "How many rows it shows with these values." },
     { "_names", prepared_names, METH_NOARGS, "The names of its columns, whatever its parameters are." },
     { NULL, NULL, 0, NULL },
 };

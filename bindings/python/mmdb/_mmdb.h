@@ -105,6 +105,10 @@ PyObject *statement_done(Handle *handle, Statement *statement, PyObject *values)
 PyObject *statement_done_by(Handle *handle, Statement *statement, PyObject *const *parameters, Py_ssize_t count,
                             PyObject *keywords);
 
+/* Counts the rows that a select shows with the values of a tuple. Gives null, and nothing is raised, where one of the values
+   isn't stored as it is. */
+PyObject *statement_count(Handle *handle, Statement *statement, PyObject *values);
+
 /* Does an insert, an update or a delete with each row of a list of tuples, and gives how many rows all were about. Gives
    null, and nothing is raised or done, where one of the values isn't stored as it is. */
 PyObject *statement_done_many(Handle *handle, Statement *statement, PyObject *rows);

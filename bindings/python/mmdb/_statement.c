@@ -486,6 +486,37 @@ PyObject *statement_done(Handle *handle, Statement *statement, PyObject *tuple)
     return given;
 }
 
+/* Counts the rows of a select whose values are bound, while other threads go on. */
+static PyObject *counted(Handle *handle, Statement *statement, PyObject *const *values, Py_ssize_t count)
+{
+    uint32_t number = statement->given.number, status;
+    uint64_t rows;
+    Py_BEGIN_ALLOW_THREADS
+    status = mmdb_count(&handle->db, number, &rows);
+    Py_END_ALLOW_THREADS
+    if (status == MMDB_DONE)
+        return PyLong_FromUnsignedLongLong(rows);
+    refused(handle, statement, status, values, count);
+    return NULL;
+}
+
+PyObject *statement_count(Handle *handle, Statement *statement, PyObject *tuple)
+{
+    PyObject *room[MOST_VALUES], *given = NULL;
+    Py_ssize_t count;
+    size_t size = 0;
+    PyObject **values = values_of(tuple, room, &count);
+    if (values == NULL)
+        return NULL;
+    if (prepare(handle, statement, values, count) == 0 && bind_all(handle, statement, values, count, &size) == MMDB_DONE)
+        given = counted(handle, statement, values, count);
+    if (size > HELD)
+        statement_finalize(handle, statement);
+    if (values != room)
+        PyMem_Free(values);
+    return given;
+}
+
 /* Looks at all values of rows: gives MMDB_DONE, NO_VALUE or RAISED. */
 static int check_rows(PyObject *rows)
 {

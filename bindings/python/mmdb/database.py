@@ -5,7 +5,9 @@ from __future__ import annotations
 import contextlib
 import functools
 import itertools
+import os
 import sys
+import weakref
 from typing import (
     TYPE_CHECKING,
     Any,
@@ -27,7 +29,7 @@ from .csvs import Picked, Readable, Watch, cut, front_of, pieces_of
 from .errors import InTransaction, NoMemory, NoTransaction, OperationalError, Refused, Shared, WrongType, WrongUse, refusal_of
 from .handles import Handle
 from .indexes import Index, indexes_of
-from .lines import CHANGES, Placed, check_kind, check_line, one_line, placed
+from .lines import CHANGES, CHANGING, Placed, check_kind, check_line, one_line, placed
 from .loads import CHUNK, Arrange, blocks_of_rows, by_name, by_order, chunked, header_of, in_whole, kept_names
 from .quotes import Form, form_of
 from .rows import Rows, Shape, shape_of
@@ -50,6 +52,19 @@ _TAKEN = {"select": ("select",), "change": CHANGES}
 _NOT_OPEN, _NOT_ONE_REQUEST, _NO_MEMORY, _NO_SUCH_STATEMENT, _TOO_LARGE = 1, 6, 7, 9, 13
 _SHARED, _NO_TRANSACTION, _IN_TRANSACTION = 14, 15, 16
 
+# The databases of this process, which a child of fork has copies of.
+_DATABASES: weakref.WeakSet[Database] = weakref.WeakSet()
+
+
+def _begin_child() -> None:
+    """Renews the turns of all databases in a child of fork, which has none of the threads that had them."""
+    for database in list(_DATABASES):
+        database._renew_turn()
+
+
+if hasattr(os, "register_at_fork"):
+    os.register_at_fork(after_in_child=_begin_child)
+
 
 class Database(Handle):
     """A database in main memory, without tables at first.
@@ -70,6 +85,7 @@ class Database(Handle):
         self._converters: Dict[str, Converter] = {}
         self._block = block
         super().__init__(POLICIES.index(policy), rows, block)
+        _DATABASES.add(self)
 
     def __enter__(self) -> Database:
         return self
@@ -119,6 +135,16 @@ class Database(Handle):
         the word of another command.
         """
         return Statement(self, line)
+
+    def count(self, line: str, /, *parameters: Any, **named: Any) -> int:
+        """How many rows a select shows: they are counted, and none is made.
+
+        Raises what `select` raises.
+        """
+        check_kind("count", line, "select")
+        at = placed(line)
+        count: int = self._count(str.__str__(line), at, at.fitting(parameters, named))
+        return count
 
     def executemany(self, line: str, rows: Iterable[Parameters]) -> int:
         """Executes an insert, an update or a delete with each row of parameters, and returns the number of all rows.
@@ -458,7 +484,8 @@ class Database(Handle):
         if status == _NOT_ONE_REQUEST:
             raise WrongUse("mmdb: a line has no line feed, and a load has a block as long as it says")
         if status == _TOO_LARGE:
-            raise OperationalError("mmdb: the texts of the rows are more than 4 GiB, or there are 4294967296 statements")
+            many = "the texts of the rows are more than 4 GiB, or there are 4294967296 statements, or 2^64 rows to count"
+            raise OperationalError(f"mmdb: {many}")
         if status == _SHARED:
             raise Shared("mmdb: readers share the tables, and nothing changes them until all have left")
         if status == _NO_TRANSACTION:
@@ -510,18 +537,9 @@ class Database(Handle):
 
     def _named(self, table: str) -> str:
         """The name of a table that is there, without blanks around it. The library says what is wrong with another."""
-        try:
-            if self._columns(table):
-                return table
-            return self._accepted(encoded(f"dump {table}")).decode().split(" ", 2)[1]
-        except Shared:
-            # (no line is answered while tables are shared)
-            return self._named_by_indexes(table)
-
-    def _named_by_indexes(self, table: str) -> str:
-        name = table.strip(" \t")
-        self._indexes_of(name)
-        return name
+        if self._columns(table):
+            return table
+        return self._accepted(encoded(f"dump {table}")).decode().split(" ", 2)[1]
 
     def _indexes_of(self, table: str) -> List[Index]:
         """The state of the indexes of a table."""
@@ -545,10 +563,11 @@ class Database(Handle):
 
 
 class Reader(Database):
-    """A handle that shares the tables of a database, for selects in another thread at the same time.
+    """A handle that shares the tables of a database, to read them in another thread at the same time.
 
-    `Database.reader` makes one. It has the calls of a database, but changes nothing and answers no lines: these raise
-    `Shared`. It reads columns as that database did when it was made. Used as a context manager, it is closed at the end.
+    `Database.reader` makes one. It has the calls of a database, but changes nothing: these raise `Shared`, also for a line
+    that begins as one that declares, drops or loads. It reads columns as that database did when it was made. Used as a
+    context manager, it is closed at the end.
     """
 
     def __init__(self, database: Database) -> None:
@@ -582,13 +601,13 @@ class Reader(Database):
         raise WrongUse("mmdb: a reader has no readers: its database has")
 
     def _command(self, line: bytes) -> bytes:
-        self._failed(_NOT_OPEN if self.closed else _SHARED)
+        # (it would be done where nobody else shares the tables)
+        if CHANGING.match(line):
+            self._failed(_NOT_OPEN if self.closed else _SHARED)
+        return super()._command(line)
 
     def _load(self, line: bytes, block: bytes) -> bytes:
         self._failed(_NOT_OPEN if self.closed else _SHARED)
-
-    def _named(self, table: str) -> str:
-        return self._named_by_indexes(table)
 
 
 def _shape_with(converters: Dict[str, Converter], names: Tuple[str, ...], kinds: Tuple[int, ...]) -> Shape:

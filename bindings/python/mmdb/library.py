@@ -135,6 +135,7 @@ _BIND_TEXT = _call(_LIBRARY, "mmdb_bind_text", _NUMBER, _ADDRESS, _NUMBER, _NUMB
 _BIND_NULL = _call(_LIBRARY, "mmdb_bind_null", _NUMBER, _ADDRESS, _NUMBER, _NUMBER)
 _EXECUTE = _call(_LIBRARY, "mmdb_execute", _NUMBER, _ADDRESS, _NUMBER, _ADDRESS)
 _COLUMNS = _call(_LIBRARY, "mmdb_columns", _NUMBER, _ADDRESS, _NUMBER, _ADDRESS)
+_COUNT = _call(_LIBRARY, "mmdb_count", _NUMBER, _ADDRESS, _NUMBER, _ADDRESS)
 _FINALIZE = _call(_LIBRARY, "mmdb_finalize", _NUMBER, _ADDRESS, _NUMBER)
 
 
@@ -202,6 +203,13 @@ class Handle:
             self._keeper = 0
             self._lock.release()
 
+    def _renew_turn(self) -> None:
+        """Gives a new turn in a child of fork, where the threads that had the turn aren't, but for this one."""
+        if self._keeper != threading.get_ident():
+            self._keeper = self._depth = 0
+            self._lock = threading.Lock()
+        self._own_lock = threading.Lock()
+
     def close(self) -> None:
         """Gives all memory of the database back. A second call does nothing."""
         with self._turn:
@@ -240,6 +248,14 @@ class Handle:
         rows = stored_rows(rows)
         with self._turn:
             return self._statement(line, placed).done_many(self, rows)
+
+    def _count(self, line: str, placed: Placed, values: Tuple[Any, ...]) -> int:
+        """How many rows a select shows, which is kept by its line, with these values."""
+        try:
+            with self._turn:
+                return self._statement(line, placed).count(self, values)
+        except _Unstored:
+            return self._count(line, placed, stored_values(values))
 
     def _statement(self, line: str, placed: Placed) -> _Statement:
         """The statement that is kept by this line. The longest unused one goes where they are too many."""
@@ -364,6 +380,18 @@ class _Statement:
             self.execute(handle, values)
             count += handle._cells.changed
         return count
+
+    def count(self, handle: Handle, values: Tuple[Any, ...]) -> int:
+        """Counts the rows that it shows with these values."""
+        self.prepare(handle, values)
+        size = self.bind(handle, values)
+        given = ctypes.c_uint64(0)
+        status = _COUNT(handle._at, self.number, ctypes.addressof(given))
+        if status:
+            self.failed(handle, status, values)
+        if size > _HELD:
+            self.finalize(handle)
+        return given.value
 
     def prepare(self, handle: Handle, values: Sequence[Any]) -> None:
         """Prepares it where it isn't. The values are for the words of a refusal."""
@@ -550,6 +578,15 @@ class Prepared:
         handle = self._open_handle()
         with handle._turn:
             return self._statement.done_many(handle, rows)
+
+    def _count(self, values: Tuple[Any, ...]) -> int:
+        """How many rows it shows with these values."""
+        handle = self._open_handle()
+        try:
+            with handle._turn:
+                return self._statement.count(handle, values)
+        except _Unstored:
+            return self._count(stored_values(values))
 
     def _names(self) -> Tuple[str, ...]:
         """The names of its columns, whatever its parameters are."""

@@ -31,6 +31,9 @@ _LONGEST = 8192 + 1
 CHANGES = ("insert", "update", "delete")
 STATEMENTS = (*CHANGES, "select")
 
+#: How a line begins that would change tables.
+CHANGING = re.compile(rb"[ \t]*(?:table|drop|index|insert|update|delete|load)\b")
+
 
 class Placed(NamedTuple):
     """A line, and where its parameters are. (The extension reads its fields by their order.)"""

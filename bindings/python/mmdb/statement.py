@@ -35,6 +35,16 @@ class Statement(Prepared):
             Raises what `Database.execute` raises.
             """
 
+    def count(self, /, *parameters: Any, **named: Any) -> int:
+        """How many rows the select shows with these parameters: they are counted, and none is made.
+
+        Raises what `Database.count` raises.
+        """
+        check_kind("count", self.line, "select")
+        self._check()
+        count: int = self._count(self._placed.fitting(parameters, named))
+        return count
+
     def executemany(self, rows: Iterable[Parameters]) -> int:
         """Executes an insert, an update or a delete with each row of parameters, and returns the number of all rows.
 
