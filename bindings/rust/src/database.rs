@@ -6,7 +6,7 @@ use std::sync::Arc;
 use crate::columns::Tables;
 use crate::error::{Error, Result};
 use crate::index::{indexes_of, Index};
-use crate::kept::{why_not_kept, why_not_prepared, Kept, Lines};
+use crate::kept::{why_not_kept, why_not_prepared, InUse, Kept, Lines};
 use crate::known::Known;
 use crate::library::{Declined, Handle};
 use crate::limits::{Limits, Policy};
@@ -239,6 +239,22 @@ impl Database {
         self.select(line, params, |rows| rows.first(read))
     }
 
+    /// How many rows a select shows, which are counted and not made. [`Error::NotASelect`] says that the line is none.
+    ///
+    /// ```
+    /// let db = mmdb::Database::open_in_memory()?;
+    /// db.execute("table t (id int, s text)", [])?;
+    /// db.load("t", [(1, "a"), (2, "b"), (3, "b")])?;
+    ///
+    /// assert_eq!(db.count("select * from t where s = ?", ["b"])?, 2);
+    /// assert_eq!(db.count("select distinct s from t", [])?, 2);
+    /// # Ok::<(), mmdb::Error>(())
+    /// ```
+    pub fn count<P: Params>(&self, line: &str, params: P) -> Result<usize> {
+        let (mut kept, params) = self.kept_select(line, params)?;
+        kept.count(self.handle(), params)
+    }
+
     /// Does any command, and gives what it answers.
     pub fn command<P: Params>(&self, line: &str, params: P) -> Result<Outcome> {
         if is_select(line) {
@@ -412,20 +428,26 @@ impl Database {
         self.session.ask(line, params, |answer| count_of(answer).unwrap_or(0))
     }
 
+    /// The statement of a select, which is kept by its line, and the parameters for it.
+    fn kept_select<P: Params>(&self, line: &str, params: P) -> Result<(InUse<'_>, P)> {
+        let handle = self.handle();
+        match self.lines.find(handle, line) {
+            Some(kept) => Ok((kept, params)),
+            None if !is_select(line) => Err(Error::NotASelect),
+            None => match self.lines.keep(handle, line) {
+                Ok(kept) => Ok((kept, params)),
+                Err(declined) => Err(why_not_kept(handle, line, params, declined)),
+            },
+        }
+    }
+
     /// What is made of the rows of a select, which its statement lends. Where they are many, their room isn't kept.
     fn select<P, T>(&self, line: &str, params: P, make: impl FnOnce(RowsRef<'_>) -> Result<T>) -> Result<T>
     where
         P: Params,
     {
         let handle = self.handle();
-        let mut kept = match self.lines.find(handle, line) {
-            Some(kept) => kept,
-            None if !is_select(line) => return Err(Error::NotASelect),
-            None => match self.lines.keep(handle, line) {
-                Ok(kept) => kept,
-                Err(declined) => return Err(why_not_kept(handle, line, params, declined)),
-            },
-        };
+        let (mut kept, params) = self.kept_select(line, params)?;
         let rows = kept.rows(handle, params, self.known.declared())?;
         let are_many = rows.are_many();
         let made = make(rows);

@@ -129,9 +129,11 @@ pub enum Error {
     },
     /// What the program's own type says, in its [`ToValue`](crate::ToValue), or a closure of it.
     Other(String),
-    /// The texts of the rows that a select gives are more than 4 GiB together, or the database has 4294967296 statements.
+    /// The texts of the rows that a select gives are more than 4 GiB together, the database has 4294967296 statements, or there are
+    /// 2^64 rows or more to count.
     TooLarge,
-    /// A reader of the tables was forgotten and never dropped ([`std::mem::forget`]), so that nobody may change them.
+    /// Readers share the tables, so that nobody may change them: a reader was asked to, or one was forgotten and never dropped
+    /// ([`std::mem::forget`]).
     Shared,
     /// A transaction was to be ended, and none is open.
     NoTransaction,
@@ -225,9 +227,9 @@ impl fmt::Display for Error {
             Error::Other(text) => to.write_str(text),
             Error::TooLarge => write!(
                 to,
-                "the texts of the rows are more than 4 GiB, or there are 4294967296 statements"
+                "the texts of the rows are more than 4 GiB, or there are 4294967296 statements, or 2^64 rows to count"
             ),
-            Error::Shared => write!(to, "a reader that was forgotten shares the tables"),
+            Error::Shared => write!(to, "readers share the tables"),
             Error::NoTransaction => write!(to, "no transaction is open"),
             Error::InTransaction => write!(to, "this is not done in a transaction, and one is open"),
             Error::Status(status) => write!(to, "the library answers {status}"),

@@ -95,6 +95,19 @@ impl Kept {
         }
     }
 
+    /// How many rows a select shows.
+    pub(crate) fn count<P: Params>(&mut self, handle: &Handle, params: P) -> Result<usize> {
+        if !self.is_select {
+            return Err(Error::NotASelect);
+        }
+        self.bind(handle, params)?;
+        let number = self.prepared.number();
+        match handle.count(&mut self.prepared) {
+            Ok(count) => Ok(count as usize),
+            Err(declined) => Err(self.written.why(handle, number, declined)),
+        }
+    }
+
     /// The names of the columns that its rows have, whatever its values are. There are none of a change.
     pub(crate) fn names(&mut self, handle: &Handle, declared: u64) -> Result<&[String]> {
         if self.is_select && self.named_at != Some(declared) {

@@ -109,6 +109,7 @@ extern "C" {
     fn mmdb_bind_null(db: *mut Inside, statement: u32, place: u32) -> u32;
     fn mmdb_execute(db: *mut Inside, statement: u32, rows: *mut Found) -> u32;
     fn mmdb_columns(db: *mut Inside, statement: u32, columns: *mut Found) -> u32;
+    fn mmdb_count(db: *mut Inside, statement: u32, count: *mut u64) -> u32;
     fn mmdb_finalize(db: *mut Inside, statement: u32) -> u32;
     fn mmdb_indexes(db: *mut Inside, table: *const u8, length: usize, answer: *mut Told) -> u32;
     fn mmdb_plan(db: *mut Inside, line: *const u8, length: usize, answer: *mut Told) -> u32;
@@ -154,7 +155,7 @@ pub(crate) enum Declined {
     Refused,
     /// There is no memory.
     NoMemory,
-    /// The texts of its rows are more than 4 GiB, or there are too many statements.
+    /// The texts of its rows are more than 4 GiB, its rows are too many to be counted, or there are too many statements.
     TooLarge,
     /// It is a change, and a reader shares the tables.
     Shared,
@@ -332,6 +333,14 @@ impl Handle {
             _ => None,
         });
         Ok(texts.collect())
+    }
+
+    /// How many rows a statement of this handle shows. What it has shown stays.
+    pub(crate) fn count(&self, statement: &mut Prepared) -> Result<u64, Declined> {
+        let mut count = 0;
+        // SAFETY: as of `execute`.
+        done(unsafe { mmdb_count(self.inside.get(), statement.0, &mut count) })?;
+        Ok(count)
     }
 
     /// Frees a statement, which is none of the handle's then.

@@ -8,6 +8,7 @@ use crate::database::Database;
 use crate::error::{Error, Result};
 use crate::index::Index;
 use crate::line::is_select;
+use crate::outcome::Outcome;
 use crate::params::Params;
 use crate::row::Row;
 use crate::rows::{MappedRows, Rows};
@@ -39,7 +40,8 @@ impl<'db> Readers<'db> {
 }
 
 /// A reader of the tables of a database, with statements and rows of its own. It can be sent to another thread, and reads while
-/// other readers do. Its calls are those of [`Database`] for selects; [`Error::NotASelect`] says that a line is another command.
+/// other readers do. Its calls are those of [`Database`] that change nothing. [`Error::NotASelect`] says that a line is another
+/// command than a select where that is wanted, and [`Error::Shared`] that a line would change the tables.
 pub struct Reader<'r> {
     database: Database,
     /// It ends before what made it.
@@ -90,6 +92,21 @@ impl Reader<'_> {
         F: FnOnce(&Row<'_>) -> Result<T>,
     {
         self.database.query_row(line, params, read)
+    }
+
+    /// Does a command that changes nothing, and gives what it answers.
+    pub fn command<P: Params>(&self, line: &str, params: P) -> Result<Outcome> {
+        self.database.command(line, params)
+    }
+
+    /// All rows of a table by rising keys, with the bare names of its columns.
+    pub fn dump(&self, table: &str) -> Result<Rows> {
+        self.database.dump(table)
+    }
+
+    /// How many rows a select shows, which are counted and not made.
+    pub fn count<P: Params>(&self, line: &str, params: P) -> Result<usize> {
+        self.database.count(line, params)
     }
 
     /// The plan of a select, a step in each line.

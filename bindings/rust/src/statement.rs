@@ -154,6 +154,21 @@ impl<'db> Statement<'db> {
         self.query(params)?.first(read)
     }
 
+    /// How many rows the select shows, which are counted and not made.
+    /// [`Error::NotASelect`](crate::Error::NotASelect) says that it is none.
+    ///
+    /// ```
+    /// # let db = mmdb::Database::open_in_memory()?;
+    /// # db.execute("table t (id int, s text)", [])?;
+    /// # db.load("t", [(1, "a"), (2, "b")])?;
+    /// let mut after = db.prepare("select * from t where id > ?")?;
+    /// assert_eq!((after.count([0])?, after.count([1])?), (2, 1));
+    /// # Ok::<(), mmdb::Error>(())
+    /// ```
+    pub fn count<P: Params>(&mut self, params: P) -> Result<usize> {
+        self.kept.count(self.db.handle(), params)
+    }
+
     /// The number of a column of its rows, counted from 0, by its name as for [`Row::get`]. A program that reads many rows
     /// asks for it once.
     ///

@@ -5,7 +5,7 @@ mod common;
 use std::thread;
 
 use common::{row, selected, with_rows};
-use mmdb::{Error, IndexShape, Reader, Readers};
+use mmdb::{Error, IndexShape, Outcome, Reader, Readers};
 
 fn is_send<T: Send>() {}
 
@@ -61,6 +61,8 @@ fn a_reader_has_the_calls_of_selects() {
         reader.plan("select s from t where id = ?", [1]).unwrap()[0],
         "search of t by the key, 2 rows"
     );
+    assert_eq!(reader.count("select s from t where id > ?", [1]), Ok(1));
+    assert_eq!(reader.count("delete t", []), Err(Error::NotASelect));
     assert_eq!(reader.prepare("select nothing from t").unwrap_err().number(), Some(32));
     for line in [
         "insert t (3, 'c')",
@@ -75,6 +77,34 @@ fn a_reader_has_the_calls_of_selects() {
     drop((reader, other));
     assert_eq!(db.execute("delete t where id = 1", []), Ok(1));
     assert_eq!(selected(&db, "select * from t", []), [row(2, "b")]);
+}
+
+#[test]
+fn a_reader_does_commands_that_change_nothing() {
+    let mut db = with_rows();
+    let readers = db.readers();
+    let (reader, _other) = (readers.reader().unwrap(), readers.reader().unwrap());
+    let text = |line| match reader.command(line, []) {
+        Ok(Outcome::Text(text)) => text,
+        other => panic!("{line}: {other:?}"),
+    };
+    assert_eq!(text("tables"), "table t (id int, s text)\n");
+    assert_eq!(text("dump t"), "load t 13\nid,s\n1,a\n2,b\n");
+    assert_eq!(reader.command("# of t", []), Ok(Outcome::Done));
+    let rows = reader.command("select s from t where id > ?", [1]).unwrap().into_rows();
+    assert_eq!(rows.unwrap().len(), 1);
+    assert_eq!(reader.dump("t").unwrap().len(), 2);
+    assert_eq!(reader.command("drop table u", []).unwrap_err().number(), Some(30));
+    assert_eq!(reader.command("delete u", []).unwrap_err().number(), Some(30));
+    for line in [
+        "insert t (3, 'c')",
+        "delete t",
+        "table u (id int)",
+        "index t s hash",
+        "drop table t",
+    ] {
+        assert_eq!(reader.command(line, []).unwrap_err(), Error::Shared, "{line}");
+    }
 }
 
 /// What is forgotten is never dropped, and so the tables stay shared.

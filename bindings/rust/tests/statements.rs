@@ -45,6 +45,38 @@ fn statements_are_there_at_once() {
 }
 
 #[test]
+fn rows_are_counted() {
+    let db = with_rows();
+    assert_eq!(db.count("select * from t", []), Ok(2));
+    assert_eq!(db.count("select id from t where id > ?", [1]), Ok(1));
+    assert_eq!(
+        db.count("select id from t where id > :id", named_params! { ":id": 2 }),
+        Ok(0)
+    );
+    let mut select = db.prepare("select distinct s from t where id < ?").unwrap();
+    assert_eq!(select.count([2]), Ok(1));
+    assert_eq!(db.execute("insert t (3, 'b')", []), Ok(1));
+    assert_eq!((select.count([9]), db.count("select * from t", [])), (Ok(2), Ok(3)));
+    assert_eq!(select.query([9]).unwrap().len(), 2);
+}
+
+#[test]
+fn counts_that_are_refused() {
+    let db = with_rows();
+    let mut insert = db.prepare("insert t (?, 'c')").unwrap();
+    assert_eq!(insert.count([3]), Err(Error::NotASelect));
+    assert_eq!(db.count("delete t", []), Err(Error::NotASelect));
+    assert_eq!(db.count("select * from none", []).unwrap_err().number(), Some(30));
+    let refused = db.count("select * from t where id = ?", ["a"]).unwrap_err();
+    assert_eq!(
+        (refused.number(), refused.line()),
+        (Some(35), Some("select * from t where id = 'a' "))
+    );
+    assert!(refused.reason().unwrap().starts_with("column 28: "));
+    assert_eq!(db.count("select * from t", []), Ok(2));
+}
+
+#[test]
 fn rows_are_lent() {
     let db = with_rows();
     let mut select = db.prepare("select s, id from t where id < ?").unwrap();
