@@ -3,12 +3,10 @@
 import random
 import unittest
 
-from support import harness, model, sizes
+from support import chosen, harness, model, sizes
 
 COUNT = sizes.size(1_000, 100_000)
 MEETING = sizes.size(1_000, 20_000)
-FIRST_HASH = 14695981039346656037
-FACTOR = 1099511628211
 # The hash of this text is 0, and stays 0 with each byte 0 behind it.
 HASHED_TO_0 = b"\x15?\t5?\t\x04\x02\x16\x030\tx\x0c"
 
@@ -34,20 +32,13 @@ ORDERS = {
 }
 
 
-def hash_of(content):
-    number = FIRST_HASH
-    for byte in content:
-        number = (number ^ byte) * FACTOR % 2**64
-    return number
-
-
 def meeting_integers(draw, count):
     """Integers whose hashes are equal in their 12 lowest bits. A last byte can be chosen that makes eight of them 0."""
     keys = set()
     while len(keys) < count:
         front = b"\0" + draw.randbytes(7)
-        content = front + bytes([hash_of(front) % 256])
-        if hash_of(content) % 2**12 == 0:
+        content = front + bytes([chosen.hash_of(front) % 256])
+        if chosen.hash_of(content) % 2**12 == 0:
             keys.add(int.from_bytes(content[1:], "big", signed=True))
     return list(keys)
 
@@ -127,5 +118,5 @@ class ChosenKeys(unittest.TestCase):
 
     def test_texts_of_one_hash(self):
         keys = [HASHED_TO_0 + bytes(count) for count in range(model.LONGEST_TEXT - len(HASHED_TO_0) + 1)]
-        self.assertEqual({hash_of(b"\1" + key) for key in keys}, {0})
+        self.assertEqual({chosen.hash_of(b"\1" + key) for key in keys}, {0})
         self.check(b"text", keys)

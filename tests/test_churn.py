@@ -1,20 +1,22 @@
 """A table of sessions at full speed: they arrive, are touched and looked up, and expire by ranges, under a declared tree and a hash. The
-number of sessions is the same after each round, and so is, about, the memory. The same holds for keys that were chosen against both
-indexes.
+number of sessions is the same after each round, and so are, about, the memory and the instructions. The same holds for keys that were
+chosen against both indexes, and where half of the sessions have one token and eight readers look them up beside.
 
-In large sizes (`tests/fire churn`) it runs the commands of a day from C and from Python, and prints how long each kind of command took,
-beside SQLite. It asserts no time.
+In large sizes (`tests/fire churn`) it runs the commands of a day from C and from Python, and prints how long each kind of command took in
+either half, beside SQLite. It asserts no time.
 """
 
 import gc
+import os
 import random
 import re
+import shutil
 import sqlite3
 import subprocess
 import time
 import unittest
 
-from support import compiling, embedded, holding, sizes, tested
+from support import compiling, embedded, growth, holding, sizes, tested
 
 SEED = 19861101
 ROWS = sizes.size(2_000, 50_000)
@@ -25,9 +27,15 @@ STEPS = 20
 LONGEST_LIFE = 2 * STEPS
 MOST_GROWTH = 1.1
 # The words of tests/support/programs/churn.c: rounds, seconds of a round, and the longest life in seconds. There are 200 commands to a
-# second, so that a day has 17,280,000. Chains are walked where keys meet, so that there are fewer then.
+# second, so that a day has 17,280,000. Chains are walked where keys meet, so that there are fewer then. With readers eight threads wait
+# for each other twice in each second.
 OF_A_DAY = sizes.size(("12", "100", "50"), ("24", "3600", "1800"))
 OF_CHOSEN_KEYS = sizes.size(("12", "20", "10"), ("24", "600", "300"))
+OF_READERS = sizes.size(("12", "20", "10"), ("24", "3600", "1800"), ("8", "20", "10"))
+COUNTED = sizes.size(("8", "10", "5"), ("12", "100", "50"))
+READERS = "8"
+# Blocks that a thread keeps for itself aren't counted as held.
+UNKEPT = {**os.environ, "GLIBC_TUNABLES": "glibc.malloc.tcache_count=0"}
 # From which round on the table is as full as it will be.
 FULL = 2
 TABLE = ["table session (id int, token text, visits int, until int)", "index session until tree", "index session token hash"]
@@ -207,26 +215,32 @@ class InC(unittest.TestCase):
         cls.room = compiling.Room()
         cls.addClassCleanup(cls.room.close)
 
-    def compiled(self, engine, linked):
-        words = ["cc", "-std=c99", *compiling.WARNINGS, "-O2", f"-I{compiling.PROGRAMS}"]
+    def compiled(self, engine, linked, *more):
+        words = ["cc", "-std=c99", "-pthread", *compiling.WARNINGS, "-O2", *more, f"-I{compiling.PROGRAMS}"]
         return self.room.linked(engine, compiling.PROGRAMS / "churn.c", words, [compiling.PROGRAMS / f"churn_{engine}.c", *linked])
 
-    def run_mmdb(self, words, is_chosen):
-        """Runs the sessions, and checks that no round holds much more than that from which on the table is full."""
-        self.told(self.compiled("mmdb", [tested.library() / "libmmdb.a"]), words, is_chosen)
-        full, rest = self.held[FULL - 1], self.held[FULL:]
-        self.assertLessEqual(max(rest), MOST_GROWTH * full, self.held)
+    def mmdb(self, *more):
+        return self.compiled("mmdb", [tested.library() / "libmmdb.a"], *more)
 
-    def run_sqlite(self, words, is_chosen):
+    def run_mmdb(self, words, tokens, readers="0"):
+        """Runs the sessions, and checks that no round holds much more than that from which on the table is full."""
+        self.told(self.mmdb(), words, tokens, readers)
+        self.check_flat(self.held)
+
+    def check_flat(self, listed):
+        full, rest = listed[FULL - 1], listed[FULL:]
+        self.assertLessEqual(max(rest), MOST_GROWTH * full, listed)
+
+    def run_sqlite(self, words, tokens):
         try:
             program = self.compiled("sqlite", ["-lsqlite3"])
         except subprocess.CalledProcessError:
             self.skipTest("SQLite's library is not installed")
-        self.told(program, words, is_chosen)
+        self.told(program, words, tokens, "0")
 
-    def told(self, program, words, is_chosen):
+    def told(self, program, words, *others):
         """Keeps what was held behind each round, and tells the times in large sizes."""
-        ended = compiling.ran([program, str(SEED), *words, str(int(is_chosen))])
+        ended = compiling.ran([program, str(SEED), *words, *others], env=UNKEPT)
         self.assertEqual((ended.status, ended.err), (0, b""))
         self.held = [int(held) for held in re.findall(rb"held (\d+)\n", ended.out)]
         self.assertEqual(len(self.held), int(words[0]))
@@ -235,16 +249,43 @@ class InC(unittest.TestCase):
             full, rest = self.held[FULL - 1], self.held[FULL:]
             print(f"holds {full} bytes after round {FULL}, then {min(rest)} to {max(rest)}", flush=True)
 
+    def instructions(self, words, *others):
+        """What the commands of each round take."""
+        counts = self.room.path / "counts"
+        marks = [f"--{what}" for what in ("toggle-collect=changes", "toggle-collect=looks_up", "dump-after=ends_round")]
+        watched = ["valgrind", "-q", "--tool=callgrind", *marks, f"--callgrind-out-file={counts}", self.mmdb("-DIN_TURN")]
+        ended = compiling.ran([*watched, str(SEED), *words, *others])
+        self.assertEqual((ended.status, ended.err), (0, b""))
+        # (the first dump is of none)
+        return [growth.total(f"{counts}.{number}") for number in range(2, int(words[0]) + 2)]
+
     def test_a_day(self):
-        self.run_mmdb(OF_A_DAY, False)
+        self.run_mmdb(OF_A_DAY, "differing")
 
     def test_chosen_keys(self):
-        self.run_mmdb(OF_CHOSEN_KEYS, True)
+        self.run_mmdb(OF_CHOSEN_KEYS, "chosen")
+
+    def test_half_with_one_token_and_readers(self):
+        self.run_mmdb(OF_READERS, "half", READERS)
+
+    @unittest.skipUnless(sizes.is_large or shutil.which("valgrind"), "valgrind is not installed")
+    def test_each_round_takes_as_many_instructions(self):
+        for tokens, readers in (("differing", "0"), ("half", READERS)):
+            with self.subTest(tokens=tokens, readers=readers):
+                counted = self.instructions(COUNTED, tokens, readers)
+                self.check_flat(counted)
+                if sizes.is_large:
+                    full, rest = counted[FULL - 1], counted[FULL:]
+                    print(f"{tokens}, {readers} readers: {full} instructions in round {FULL}, then {min(rest)} to {max(rest)}", flush=True)
 
     @unittest.skipUnless(sizes.is_large, "times are measured in large sizes only")
     def test_a_day_of_sqlite(self):
-        self.run_sqlite(OF_A_DAY, False)
+        self.run_sqlite(OF_A_DAY, "differing")
+
+    @unittest.skipUnless(sizes.is_large, "times are measured in large sizes only")
+    def test_half_with_one_token_of_sqlite(self):
+        self.run_sqlite(OF_READERS, "half")
 
     @unittest.skipUnless(sizes.is_large, "times are measured in large sizes only")
     def test_chosen_keys_of_sqlite(self):
-        self.run_sqlite(OF_CHOSEN_KEYS, True)
+        self.run_sqlite(OF_CHOSEN_KEYS, "chosen")

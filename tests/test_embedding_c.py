@@ -13,7 +13,10 @@ from support import compiling, harness, refusing, tested
 
 EXAMPLES = harness.ROOT / "examples" / "c"
 PAGE = harness.ROOT / "docs" / "c.md"
-STATEMENTS = {"mmdb_prepare", "mmdb_bind_integer", "mmdb_bind_text", "mmdb_bind_null", "mmdb_execute", "mmdb_columns", "mmdb_finalize"}
+STATEMENTS = {
+    *("mmdb_prepare", "mmdb_bind_integer", "mmdb_bind_text", "mmdb_bind_null"),
+    *("mmdb_execute", "mmdb_columns", "mmdb_count", "mmdb_finalize"),
+}
 LINES = {"mmdb_command", "mmdb_load", "mmdb_query", "mmdb_feed", "mmdb_indexes", "mmdb_plan", "mmdb_answer", "mmdb_refusal"}
 REASONS = {"mmdb_reason", "mmdb_prepare_reason", "mmdb_statement_reason"}
 SHARING = {"mmdb_share", "mmdb_leave"}
@@ -158,6 +161,9 @@ class Embedding(compiling.Programs):
 
     def test_each_status_of_statements_is_met(self):
         self.check_program("statements")
+
+    def test_each_select_is_counted(self):
+        self.check_program("counts")
 
     def test_each_status_of_queries_is_met(self):
         self.check_program("queries")

@@ -235,6 +235,36 @@ class Calls(binding.WithDatabase):
         self.assertEqual((type(found), found.names, found), (mmdb.Rows, ("t.s",), [["b"]]))
         self.assertEqual(self.db.change("delete t where id > 1"), 0)
 
+    def test_count(self):
+        self.db.execute("table t (id int, s text)")
+        self.db.load("t", [(id, f"text {id % 3}") for id in range(200)])
+        self.assertEqual([self.db.count(f"select {what} from t") for what in ("*", "id", "distinct s")], [200, 200, 3])
+        for most in (0, 7, 200):
+            self.assertEqual(self.db.count("select * from t where id < ? and s = ?", most, "text 1"), (most + 1) // 3)
+            self.assertEqual(self.db.count("select *\n# all\nfrom t where id < :most", most=most), most)
+        with self.db.prepare("select distinct s from t where id >= :id") as select:
+            rows = select.execute(id=198)
+            self.assertEqual((select.count(id=0), select.count({"id": 199}), rows), (3, 1, [("text 0",), ("text 1",)]))
+        with self.assertRaisesRegex(ValueError, "closed"):
+            select.count(id=0)
+        self.assertEqual(self.db.count("select * from t where id = ?", True), 1)
+
+    def test_a_count_that_is_refused(self):
+        self.db.execute("table t (id int)")
+        for line in ("delete t", "insert t (2)", "tables", "# select", ""):
+            with self.subTest(line=line), self.assertRaisesRegex(TypeError, "count takes a line that begins with select"):
+                self.db.count(line)
+        insert = self.db.prepare("insert t (1)")
+        with self.assertRaisesRegex(TypeError, "count takes a line that begins with select"):
+            insert.count()
+        self.refused(30, self.db.count, "select * from u")
+        refused = self.refused(35, self.db.count, "select * from t where id = ?", "a")
+        self.assertEqual(refused.line, "select * from t where id = 'a'")
+        self.assertRegex(refused.reason, "^column 28: ")
+        with self.assertRaises(ValueError):
+            self.db.count("select * from t where id = ?", 1, 2)
+        self.assertEqual(self.db.count("select * from t"), 0)
+
     def test_lines_of_another_kind(self):
         self.db.execute("table t (id int)")
         self.db.execute("insert t (1)")
@@ -249,7 +279,7 @@ class Calls(binding.WithDatabase):
                 with self.subTest(line=line), self.assertRaises((mmdb.Refused, ValueError)):
                     call(line)
         for line in (b"delete t", None, 5, ["delete t"]):
-            for call in (self.db.execute, self.db.select, self.db.change):
+            for call in (self.db.execute, self.db.select, self.db.count, self.db.change):
                 with self.subTest(line=line), self.assertRaisesRegex(TypeError, "a line is a str"):
                     call(line)
         self.assertEqual(self.db.dump("t"), [[1]])
@@ -306,6 +336,7 @@ class Calls(binding.WithDatabase):
             lambda: self.db.execute("tables"),
             lambda: self.db.execute(""),
             lambda: self.db.select("select * from t"),
+            lambda: self.db.count("select * from t"),
             lambda: self.db.change("insert t (:id)", id=1),
             lambda: self.db.executemany("insert t (?)", [(1,)]),
             lambda: self.db.load_dicts("t", [{"id": 1}]),

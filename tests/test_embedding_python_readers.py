@@ -37,8 +37,8 @@ class Readers(binding.WithDatabase):
             lambda: database.change("delete t where id > ?", 3),
             lambda: database.executemany("insert t (?, ?)", [(100, "a")]),
             lambda: database.execute("table u (id int)"),
-            lambda: database.execute("drop table ?", None),
-            lambda: database.answer("tables"),
+            lambda: database.answer("drop table t"),
+            lambda: database.answer("load t 9", "id,s\n9,a\n"),
             lambda: database.load("t", [(100, "a")]),
             lambda: database.load("t", ((number, "a") for number in range(100, 2_000))),
             lambda: database.load_dicts("t", [{"id": 100, "s": "a"}]),
@@ -66,9 +66,15 @@ class Readers(binding.WithDatabase):
                 self.assertEqual((handle.dump(name), handle.dump(name).names), (self.rows, ("id", "s")))
             self.assertEqual([index.rows for index in handle.indexes("t")], [10])
             self.assertEqual(handle.plan("select s from t where id = ?", 3)[0], "search of t by the key, 10 rows")
+            self.assertEqual((handle.count(ALL), handle.count("select s from t where id < ?", 3)), (10, 3))
             self.refused(30, handle.select, "select * from u")
-            for name in ("u", "t t", "", "t join t"):
-                self.refused_somehow(30, handle.dump, name)
+            self.assertEqual(handle.execute("tables"), "table t (id int, s text)\n")
+            self.assertEqual(handle.execute("dump t")[:16], "load t 85\nid,s\n0")
+            self.assertEqual(handle.answer("select s from t where id = 3"), b"rows 1\nt.s\nrow 3\n")
+            self.assertEqual((handle.answer(" # of t"), handle.answer("dump u")), (b"", b"error 30 no such table\n"))
+            self.assertRegex(handle.reason("dump u"), "^u is no table")
+            for name, number in (("u", 30), ("t t", 20), ("", 20), ("t join t", 20)):
+                self.refused_somehow(number, handle.dump, name)
                 self.refused_somehow(30, handle.indexes, name)
 
     def test_nothing_is_changed(self):
@@ -107,7 +113,12 @@ class Readers(binding.WithDatabase):
             self.refused(30, insert.execute, 1, "a")
             self.refused(30, reader.select, ALL)
             self.refused(30, reader.dump, "t")
-            for call in (lambda: reader.execute("table t (id int)"), lambda: reader.answer("tables"), lambda: reader.load("t", [(1,)])):
+            self.assertEqual(reader.answer("tables"), b"ok 0\n")
+            for call in (
+                lambda: reader.execute("table t (id int)"),
+                lambda: reader.answer("drop table t"),
+                lambda: reader.load("t", [(1,)]),
+            ):
                 self.assertRaises(mmdb.Shared, call)
             self.db.share(reader)
             self.assertEqual((find.execute(number), len(reader.select(ALL))), ([(str(number),)], number + 1))

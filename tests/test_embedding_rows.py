@@ -1,5 +1,5 @@
-"""The rows of tests/rows through the library, those with limits of their own too: request by request, fed in pieces, both ways alternating,
-and with each of the library's calls for memory refused in turn.
+"""The rows of tests/rows through the library, those with limits of their own too. Each goes request by request, by a handle that shares the
+tables, fed in pieces, both ways alternating, and with each of the library's calls for memory refused in turn.
 """
 
 import itertools
@@ -46,16 +46,20 @@ class Answered(unittest.TestCase):
 
     @classmethod
     def setUpClass(cls):
-        source = compiling.PROGRAMS / "requests.c"
-        cls.program = ROOM.compiled("requests", source, [*compiling.C, *compiling.SANITIZED])
+        cls.program, cls.shared = (
+            ROOM.compiled(name, compiling.PROGRAMS / f"{name}.c", [*compiling.C, *compiling.SANITIZED])
+            for name in ("requests", "shared_requests")
+        )
 
-    def check(self, words, calls, answers):
-        ended = compiling.ran([self.program, *words], b"".join(calls))
+    def check(self, words, calls, answers, program=None):
+        ended = compiling.ran([program or self.program, *words], b"".join(calls))
         self.assertEqual((ended.status, ended.out, ended.err), (0, answers, b""))
 
     def check_row(self, words, stream, answers):
         with self.subTest("line by line"):
             self.check(words, line_by_line(stream), answers)
+        with self.subTest("by a handle that shares the tables"):
+            self.check(words, line_by_line(stream), answers, self.shared)
         with self.subTest("by turns"):
             self.check(words, by_turns(stream), answers)
         for size in PIECES:

@@ -1,6 +1,7 @@
 """Very many random streams in one process over the library, judged by plain lists of rows: whole under each policy, in pieces, line by
 line and as statements. Line by line each refusal has its number and a reason. As statements values are bound and rows are cells. In
-transactions, whose ends are drawn, all of this is mixed, and after each rollback all tables and indexes are looked at.
+transactions, whose ends are drawn, all of this is mixed, and after each rollback all tables and indexes are looked at. Between them readers
+are drawn, which share the tables for a while.
 
 In large sizes (`tests/fire many_streams`) the environment selects streams: MMDB_FIRST is the number of the first, MMDB_STREAMS how many,
 MMDB_SEED the seed, MMDB_JOBS the number of processes. MMDB_KEPT names a file that keeps the progress, so that a run can go on later.
@@ -10,6 +11,7 @@ What must hold: a stream depends on the seed and its number alone.
 
 import collections
 import concurrent.futures
+import functools
 import json
 import os
 import pathlib
@@ -17,9 +19,10 @@ import random
 import re
 import time
 import unittest
+import unittest.mock
 
 import test_referee
-from support import covered, embedded, harness, joined, model, prepared, random_streams, shapes, sizes, streams, texts, transacted
+from support import covered, embedded, harness, joined, model, prepared, random_streams, shapes, shared, sizes, streams, texts, transacted
 
 SEED = sizes.said("MMDB_SEED", 20261127)
 FIRST = sizes.said("MMDB_FIRST", 0)
@@ -169,9 +172,11 @@ def in_transactions(stream):
     policy = "auto" if stream.policy == "scan" else stream.policy
     with embedded.Handle(policy, stream.limits) as handle:
         statements = prepared.Statements(handle, stream.draw, collections.Counter())
-        run = transacted.Run(handle, transacted.Lists(stream.limits), stream.draw, [handle.ask, statements.ask])
-        found = run.differences(stream.units) + [f"the rows of {text!r} changed" for text in statements.changed()]
-    stream.count.update(run.count)
+        judge = transacted.Lists(stream.limits)
+        readers = shared.Readers(handle, judge, stream.draw)
+        run = transacted.Run(handle, judge, stream.draw, [handle.ask, statements.ask], readers=readers)
+        found = run.differences(stream.units) + readers.end() + [f"the rows of {text!r} changed" for text in statements.changed()]
+    stream.count.update(run.count + readers.count)
     return [f"in transactions under {policy}: {misfit}" for misfit in found]
 
 
@@ -268,5 +273,33 @@ class Judged(unittest.TestCase):
         self.assertEqual([number for number in REFUSALS if not progress.count["refusals", number]], [])
         self.assertEqual([what for what in covered.SHAPED if not progress.count["shapes", what]], [])
         self.assertEqual([what for what in transacted.COVERED if not progress.count["transactions", what]], [])
+        self.assertEqual([what for what in shared.COVERED if not progress.count["readers", what]], [])
         chosen = {kind.split()[1] for what, kind in progress.count if what.startswith("joins")}
         self.assertEqual(chosen, set(METHODS))
+
+
+def is_open(handle):
+    return bool(embedded.ctypes.c_void_p.from_address(handle).value)
+
+
+def own_tables(reader):
+    return embedded.OPEN(reader, 0, model.Limits().rows, model.Limits().block)
+
+
+class Planted(unittest.TestCase):
+    """Mistakes of calls that readers make are seen within a few streams."""
+
+    STREAMS = 30
+    MISTAKES = {
+        "a handle stays that leaves": ("LEAVE", lambda call, reader: 0),
+        "one that has left shares nothing again": ("SHARE", lambda call, db, reader: 0 if is_open(reader) else call(db, reader)),
+        "a new one has tables of its own": ("SHARE", lambda call, db, reader: call(db, reader) if is_open(reader) else own_tables(reader)),
+        "a change is told as done": ("QUERY", lambda call, db, *given: 0 * call(db, *given)),
+        "a transaction begins": ("BEGIN", lambda call, db: 0 * call(db)),
+    }
+
+    def test_mistakes_are_seen(self):
+        for mistake, (name, wrong) in self.MISTAKES.items():
+            call = getattr(embedded, name)
+            with self.subTest(mistake=mistake), unittest.mock.patch.object(embedded, name, functools.partial(wrong, call)):
+                self.assertTrue(any(in_transactions(stream_at(number)) for number in range(self.STREAMS)))

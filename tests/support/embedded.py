@@ -47,7 +47,7 @@ class Rows(ctypes.Structure):
 
 CELL = struct.Struct("=qIHH")
 INTEGER, TEXT = 1, 2
-NO_MEMORY, REFUSED = 7, 12
+NO_MEMORY, REFUSED, SHARED = 7, 12, 14
 
 
 def call(name, result, *arguments):
@@ -74,12 +74,15 @@ BIND_TEXT = call("mmdb_bind_text", NUMBER, ADDRESS, NUMBER, NUMBER, ADDRESS, SIZ
 BIND_NULL = call("mmdb_bind_null", NUMBER, ADDRESS, NUMBER, NUMBER)
 EXECUTE = call("mmdb_execute", NUMBER, ADDRESS, NUMBER, ADDRESS)
 COLUMNS = call("mmdb_columns", NUMBER, ADDRESS, NUMBER, ADDRESS)
+COUNT = call("mmdb_count", NUMBER, ADDRESS, NUMBER, ADDRESS)
 FINALIZE = call("mmdb_finalize", NUMBER, ADDRESS, NUMBER)
 QUERY = call("mmdb_query", NUMBER, ADDRESS, ADDRESS, SIZE, ADDRESS)
 BEGIN = call("mmdb_begin", NUMBER, ADDRESS)
 COMMIT = call("mmdb_commit", NUMBER, ADDRESS)
 ROLLBACK = call("mmdb_rollback", NUMBER, ADDRESS)
 TRANSACTIONS = call("mmdb_transactions", SIZE, ADDRESS)
+SHARE = call("mmdb_share", NUMBER, ADDRESS, ADDRESS)
+LEAVE = call("mmdb_leave", NUMBER, ADDRESS)
 CLOSE = call("mmdb_close", None, ADDRESS)
 
 
@@ -98,19 +101,25 @@ def through(library):
 
 
 class Handle:
-    """An open database, which is closed at the end of its `with`."""
+    """An open database, which is closed at the end of its `with`, or a handle that shares the tables of another."""
 
-    def __init__(self, policy="auto", limits=model.Limits()):
+    def __init__(self, policy="auto", limits=model.Limits(), shares=None):
         self.inside = ctypes.c_void_p(None)
         self.at = ctypes.addressof(self.inside)
         self.told = Bytes(None, 0)
         self.told_at = ctypes.addressof(self.told)
-        self.done(OPEN(self.at, harness.POLICIES.index(policy), limits.rows, limits.block))
+        if shares is None:
+            self.done(OPEN(self.at, harness.POLICIES.index(policy), limits.rows, limits.block))
+        else:
+            shares.share(self)
 
     def __enter__(self):
         return self
 
     def __exit__(self, *_):
+        self.close()
+
+    def close(self):
         CLOSE(self.at)
 
     @staticmethod
@@ -185,6 +194,12 @@ class Handle:
         self.done(COLUMNS(self.at, statement.number, ctypes.addressof(columns)))
         return columns.values()
 
+    def count(self, statement):
+        """How many rows a statement shows."""
+        count = ctypes.c_uint64()
+        self.done(COUNT(self.at, statement.number, ctypes.addressof(count)))
+        return count.value
+
     def finalize(self, statement):
         self.done(FINALIZE(self.at, statement.number))
 
@@ -200,6 +215,19 @@ class Handle:
     def transactions(self):
         """How many transactions are open."""
         return TRANSACTIONS(self.at)
+
+    def share(self, reader):
+        self.done(SHARE(self.at, reader.at))
+
+    def leave(self):
+        self.done(LEAVE(self.at))
+
+    def declines(self, change):
+        """Whether a change is declined in each way, and a transaction too, since another handle shares the tables."""
+        rows = Rows()
+        commanded = COMMAND(self.at, change, len(change), self.told_at)
+        queried = QUERY(self.at, change, len(change), ctypes.addressof(rows))
+        return {commanded, queried, BEGIN(self.at)} == {SHARED}
 
 
 def answers_to(pieces, policy="auto", limits=model.Limits()):

@@ -102,6 +102,8 @@ class Statements:
         values = rows.values()
         self.rows[text] = rows, values
         self.count["statements", "rows read"] += len(values)
+        if self.handle.count(statement) != rows.rows:
+            return b"the rows are counted otherwise\n"
         columns = self.handle.columns(statement)
         if not all({*map(type, listed)} <= {TYPES[kind], type(None)} for (_, kind), listed in zip(columns, zip(*values))):
             return b"the kinds of columns are otherwise\n"

@@ -13,6 +13,32 @@ class Tape:
 
     def __init__(self):
         self.calls = []
+        # The handles by their addresses, each with its number. That which was opened last has the number 0.
+        self.handles = {}
+        self.current = 0
+
+    def number(self, at):
+        """The number of a handle, which has one from its first call until it is closed."""
+        free = set(range(len(self.handles) + 1)) - set(self.handles.values())
+        return self.handles.setdefault(at, min(free))
+
+    def be_on(self, at):
+        """Writes down which handle the next call is on, where the last one was on another."""
+        number = self.number(at)
+        if number != self.current:
+            self.add(b"on", number)
+            self.current = number
+
+    def open(self, at, policy, rows, block):
+        self.handles, self.current = {at: 0}, 0
+        self.add(b"open", policy, rows, block)
+
+    def share(self, _, reader):
+        self.add(b"share", self.number(reader))
+
+    def close(self, at):
+        self.add(b"close")
+        del self.handles[at]
 
     def add(self, name, *numbers, behind=b""):
         first, second, third = (*numbers, 0, 0, 0)[:3]
@@ -21,7 +47,7 @@ class Tape:
     def written(self):
         """What writes each call down, by the name that embedded.py has for it."""
         return {
-            "OPEN": lambda at, policy, rows, block: self.add(b"open", policy, rows, block),
+            "OPEN": self.open,
             "COMMAND": lambda at, line, length, to: self.add(b"command+", length, behind=line),
             "LOAD": lambda at, line, length, block, more, to: self.add(b"load+", length, more, behind=line + block),
             "FEED": lambda at, piece, length: self.add(b"feed+", length, behind=piece),
@@ -37,11 +63,16 @@ class Tape:
             "BIND_NULL": lambda at, *numbers: self.add(b"null", *numbers),
             "EXECUTE": lambda at, of, to: self.add(b"execute", of),
             "COLUMNS": lambda at, of, to: self.add(b"columns", of),
+            "COUNT": lambda at, of, to: self.add(b"count", of),
             "FINALIZE": lambda at, of: self.add(b"finalize", of),
             "BEGIN": lambda at: self.add(b"begin"),
             "COMMIT": lambda at: self.add(b"commit"),
             "ROLLBACK": lambda at: self.add(b"rollback"),
             "TRANSACTIONS": lambda at: self.add(b"transactions"),
+            "SHARE": self.share,
+            "LEAVE": lambda at: self.add(b"leave"),
+            "QUERY": lambda at, line, length, to: self.add(b"query+", length, behind=line),
+            "CLOSE": self.close,
         }
 
 
@@ -51,12 +82,20 @@ def recorded():
     tape, before = Tape(), {}
     for name, write in tape.written().items():
         before[name] = getattr(embedded, name)
-        setattr(embedded, name, both(write, before[name]))
+        setattr(embedded, name, both(write if name == "OPEN" else on_its_handle(tape, write), before[name]))
     try:
         yield tape
     finally:
         for name, call in before.items():
             setattr(embedded, name, call)
+
+
+def on_its_handle(tape, write):
+    def written(at, *given):
+        tape.be_on(at)
+        write(at, *given)
+
+    return written
 
 
 def both(write, call):

@@ -1,5 +1,5 @@
 """Streams in transactions: begin, commit and rollback are drawn among their units, nested to three, and a judge does the same. A unit is
-asked for in one of several ways, or fed in two pieces, between which transactions begin and end.
+asked for in one of several ways, or fed in two pieces, between which transactions begin and end. Outside of them readers may come.
 
 What must hold: every unit is answered in a transaction as it is outside, and a rollback undoes it, drops and fed units too.
 """
@@ -16,6 +16,8 @@ FED = 0.1
 # The chance that something is changed that is there: a stream's own deletes and updates mostly find no rows, and its tables are mostly
 # there.
 CHANGED = 0.24
+# The chances that readers share the tables for a while where no transaction is open, before a unit and between its two pieces.
+VISITED, VISITED_BETWEEN = 0.06, 0.3
 # The names of tables that are made then.
 MADE = ("made", "more")
 # The chances that a declaration is dropped then instead of another change, and that such a one is declared again.
@@ -90,13 +92,16 @@ def change_of(line):
 class Run:
     """The units of a stream on a handle, in transactions, beside a judge. Each way asks for the answer to a unit."""
 
-    def __init__(self, handle, judge, draw, ways, feeds=True, looks_always=False):
+    def __init__(self, handle, judge, draw, ways, feeds=True, looks_always=False, readers=None):
         self.handle = handle
         self.judge = judge
         self.draw = draw
         self.ways = ways
         self.feeds = feeds
         self.looks_always = looks_always
+        self.readers = readers
+        # Whether the first piece of a unit was fed, and not yet its second.
+        self.is_feeding = False
         self.open = 0
         # For each open transaction the words of the changes in it.
         self.changed = []
@@ -119,7 +124,8 @@ class Run:
     # ---- transactions
 
     def turn(self):
-        """Begins a transaction, ends one, changes something in one, or does none of these."""
+        """Begins a transaction, ends one, changes something in one, has readers come, or does none of these."""
+        self.have_visit(VISITED)
         luck = self.draw.random()
         if luck < BEGUN:
             if self.open < MOST_OPEN:
@@ -129,6 +135,10 @@ class Run:
         elif luck > 1 - CHANGED and self.open:
             is_drop = self.draw.random() < DROPPED
             self.change(self.drop_some if is_drop else self.draw.choice([self.take_some, self.set_some, self.declare_some]))
+
+    def have_visit(self, chance):
+        if self.readers and not self.open and self.draw.random() < chance:
+            self.readers.visit(self.is_feeding)
 
     def change(self, some):
         """Changes a table, which has rows unless something is declared or dropped."""
@@ -241,6 +251,9 @@ class Run:
         is_fed = self.feeds and self.draw.random() < FED
         answer = self.fed(line, block, left) if is_fed else self.draw.choice(self.ways)(line, block)
         self.compare(line, block, answer)
+        if self.readers and line.startswith(b"select") and b"?" not in line:
+            # (one with a place of its own can't be done by a statement)
+            self.readers.selects.append(line)
         if self.open:
             self.note_change(line, answer, is_fed)
         if self.looks_always:
@@ -264,7 +277,8 @@ class Run:
 
     def do_between(self, left):
         self.count["transactions", "fed around"] += 1
-        self.feeds = False
+        self.feeds, self.is_feeding = False, True
+        self.have_visit(VISITED_BETWEEN)
         if self.open < MOST_OPEN:
             self.begin()
         for unit in itertools.islice(left, self.draw.randrange(1, 6)):
@@ -272,7 +286,7 @@ class Run:
             self.turn()
         if self.draw.random() < 0.5:
             self.end_all()
-        self.feeds = True
+        self.feeds, self.is_feeding = True, False
 
     # ---- what is compared
 

@@ -5,7 +5,7 @@
 #include <stdlib.h>
 
 static sqlite3 *db;
-static sqlite3_stmt *insert, *touch, *look_up, *expire;
+static sqlite3_stmt *insert, *touch_by_token, *touch_by_number, *by_token, *by_number, *count, *expire;
 
 static void done(int status)
 {
@@ -27,8 +27,11 @@ const char *engine_open(void)
     done(sqlite3_exec(db, "create index until on session (until)", NULL, NULL, NULL));
     done(sqlite3_exec(db, "create index token on session (token)", NULL, NULL, NULL));
     insert = prepared("insert into session values (?, ?, 0, ?)");
-    touch = prepared("update session set visits = ?, until = ? where token = ?");
-    look_up = prepared("select id, until from session where token = ?");
+    touch_by_token = prepared("update session set visits = ?, until = ? where token = ?");
+    touch_by_number = prepared("update session set visits = ?, until = ? where id = ?");
+    by_token = prepared("select id, until from session where token = ?");
+    by_number = prepared("select id, until from session where id = ?");
+    count = prepared("select count(*) from session where token = ?");
     expire = prepared("delete from session where until < ?");
     return "SQLite " SQLITE_VERSION;
 }
@@ -48,18 +51,30 @@ int64_t engine_insert(int64_t number, const char *token, int64_t until)
     return changed(insert);
 }
 
-int64_t engine_touch(const char *token, int64_t visits, int64_t until)
+/* Binds what names a session to a place of one of two statements, and gives that. */
+static sqlite3_stmt *bound(sqlite3_stmt *number_in, sqlite3_stmt *token_in, int place, int64_t number, const char *token)
 {
+    if (*token == '\0')
+        done(sqlite3_bind_int64(number_in, place, number));
+    else
+        done(sqlite3_bind_text(token_in, place, token, -1, SQLITE_STATIC));
+    return *token == '\0' ? number_in : token_in;
+}
+
+int64_t engine_touch(int64_t number, const char *token, int64_t visits, int64_t until)
+{
+    sqlite3_stmt *const touch = bound(touch_by_number, touch_by_token, 3, number, token);
     done(sqlite3_bind_int64(touch, 1, visits));
     done(sqlite3_bind_int64(touch, 2, until));
-    done(sqlite3_bind_text(touch, 3, token, -1, SQLITE_STATIC));
     return changed(touch);
 }
 
-int64_t engine_look_up(const char *token, session *found)
+int64_t engine_look_up(int view, int64_t number, const char *token, session *found)
 {
+    sqlite3_stmt *const look_up = bound(by_number, by_token, 1, number, token);
     int64_t rows = 0;
-    done(sqlite3_bind_text(look_up, 1, token, -1, SQLITE_STATIC));
+    if (view != 0)
+        return -1;
     while (sqlite3_step(look_up) == SQLITE_ROW) {
         found->number = sqlite3_column_int64(look_up, 0);
         found->until = sqlite3_column_int64(look_up, 1);
@@ -69,17 +84,35 @@ int64_t engine_look_up(const char *token, session *found)
     return rows;
 }
 
+int64_t engine_count(int view, const char *token)
+{
+    int64_t rows;
+    done(sqlite3_bind_text(count, 1, token, -1, SQLITE_STATIC));
+    rows = view == 0 && sqlite3_step(count) == SQLITE_ROW ? sqlite3_column_int64(count, 0) : -1;
+    done(sqlite3_reset(count));
+    return rows;
+}
+
 int64_t engine_expire(int64_t before)
 {
     done(sqlite3_bind_int64(expire, 1, before));
     return changed(expire);
 }
 
+int engine_share(int readers)
+{
+    return readers == 0;
+}
+
+void engine_leave(int readers)
+{
+    (void)readers;
+}
+
 void engine_close(void)
 {
-    sqlite3_finalize(insert);
-    sqlite3_finalize(touch);
-    sqlite3_finalize(look_up);
-    sqlite3_finalize(expire);
+    sqlite3_stmt *const all[] = { insert, touch_by_token, touch_by_number, by_token, by_number, count, expire };
+    for (size_t i = 0; i < sizeof all / sizeof *all; i++)
+        sqlite3_finalize(all[i]);
     done(sqlite3_close(db));
 }

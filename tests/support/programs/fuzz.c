@@ -3,7 +3,7 @@
    closed, null or open. The words are the SEED and the number of CALLS.
 
    Each status must be one that the header names, and NOT_OPEN, NO_LINE, NO_SUCH_STATEMENT and NO_SUCH_PLACE come exactly where they
-   must. So do IN_TRANSACTION, and SHARED but for statements. Answers are read to their end. The rows of each statement stay until it is
+   must. So do IN_TRANSACTION, and SHARED of a piece and of a transaction. Answers are read to their end. The rows of each statement stay until it is
    executed again, and those of a line until the next query. */
 #include "checking.h"
 
@@ -217,16 +217,22 @@ static int is_shared(const handle *of)
     return of->is_open && others > 0;
 }
 
-/* What a call may give of a line or a piece: whatever it says, it is declined where tables are shared. */
-static uint32_t unless_shared(const handle *of, uint32_t allowed)
+/* What more a call may give where tables are shared, if it would change them. */
+static uint32_t if_shared(const handle *of)
 {
-    return is_shared(of) ? only(MMDB_SHARED) : allowed;
+    return is_shared(of) ? only(MMDB_SHARED) : 0;
+}
+
+/* What a line may give. */
+static uint32_t of_line(const handle *of)
+{
+    return only(MMDB_DONE) | only(MMDB_NOT_ONE_REQUEST) | if_shared(of);
 }
 
 /* What a statement or a query may give. */
 static uint32_t of_statement(const handle *of)
 {
-    return only(MMDB_DONE) | only(MMDB_REFUSED) | (is_shared(of) ? only(MMDB_SHARED) : 0);
+    return only(MMDB_DONE) | only(MMDB_REFUSED) | if_shared(of);
 }
 
 static int is_null(bytes of)
@@ -309,7 +315,7 @@ static void commands(handle *of)
     mmdb_bytes answer;
     const mmdb_status status = mmdb_command(&of->db, line.at, line.length, is_drawn(95) ? &answer : NULL);
     const int is_none = line.at == NULL || line.length == 0;
-    const uint32_t allowed = is_none ? only(MMDB_NO_LINE) : unless_shared(of, only(MMDB_DONE) | only(MMDB_NOT_ONE_REQUEST));
+    const uint32_t allowed = is_none ? only(MMDB_NO_LINE) : of_line(of);
     if (is_within(status, of->is_open ? allowed : only(MMDB_NOT_OPEN), "command") && status == MMDB_DONE &&
         mmdb_answer(&of->db, &answer) == MMDB_DONE)
         reads_answer(of, answer);
@@ -322,7 +328,7 @@ static void loads(handle *of)
     char line[64];
     mmdb_bytes answer;
     mmdb_status status;
-    uint32_t allowed = unless_shared(of, only(MMDB_DONE) | only(MMDB_NOT_ONE_REQUEST));
+    uint32_t allowed = of_line(of);
     sprintf(line, "load %s %zu", is_drawn(50) ? "t" : "u", is_drawn(90) ? with.length : (size_t)drawn(40));
     status = mmdb_load(&of->db, line, strlen(line), with.at, with.length, &answer);
     if (is_null(with))
@@ -336,7 +342,8 @@ static void feeds(handle *of)
 {
     const bytes piece = given_bytes_to(is_drawn(80) ? "\n" : "");
     const mmdb_status status = mmdb_feed(&of->db, piece.at, piece.length);
-    const uint32_t allowed = is_null(piece) ? only(MMDB_NO_LINE) : unless_shared(of, only(MMDB_DONE));
+    /* (whatever it says, it is declined where tables are shared) */
+    const uint32_t allowed = only(is_null(piece) ? MMDB_NO_LINE : is_shared(of) ? MMDB_SHARED : MMDB_DONE);
     mmdb_bytes answer;
     if (is_within(status, of->is_open ? allowed : only(MMDB_NOT_OPEN), "feed") && status == MMDB_DONE) {
         GIVES(mmdb_answer(&of->db, &answer), MMDB_DONE);
@@ -464,6 +471,16 @@ static void asks_columns(handle *of)
     sum_of(&rows);
 }
 
+static void counts(handle *of)
+{
+    const statement *to = any_statement(of);
+    uint64_t count = 7;
+    const mmdb_status status = mmdb_count(&of->db, to ? to->of.number : no_statement(of), is_drawn(10) ? NULL : &count);
+    const uint32_t allowed = to ? only(MMDB_DONE) | only(MMDB_REFUSED) : only(MMDB_NO_SUCH_STATEMENT);
+    is_within(status, of->is_open ? allowed : only(MMDB_NOT_OPEN), "count");
+    CHECK(status == MMDB_DONE || count == 0 || count == 7);
+}
+
 static void asks_why(handle *of)
 {
     const statement *to = any_statement(of);
@@ -549,6 +566,7 @@ static void looks_at_rows(handle *of)
 
 static void calls_on_null(void)
 {
+    uint64_t count = 7;
     mmdb_bytes answer;
     mmdb_rows rows;
     mmdb_statement made;
@@ -556,6 +574,7 @@ static void calls_on_null(void)
     CHECK(mmdb_load(NULL, "", 0, "", 0, NULL) == MMDB_NOT_OPEN && mmdb_feed(NULL, "", 0) == MMDB_NOT_OPEN);
     CHECK(mmdb_prepare(NULL, "", 0, &made) == MMDB_NOT_OPEN && mmdb_execute(NULL, 0, &rows) == MMDB_NOT_OPEN);
     CHECK(mmdb_columns(NULL, 0, NULL) == MMDB_NOT_OPEN && mmdb_finalize(NULL, 0) == MMDB_NOT_OPEN);
+    CHECK(mmdb_count(NULL, 0, &count) == MMDB_NOT_OPEN && count == 0 && mmdb_count(NULL, 0, NULL) == MMDB_NOT_OPEN);
     CHECK(mmdb_bind_null(NULL, 0, 0) == MMDB_NOT_OPEN && mmdb_bind_text(NULL, 0, 0, NULL, 7) == MMDB_NOT_OPEN);
     CHECK(mmdb_reason(NULL, NULL, 1, NULL, 1, &answer) == MMDB_NOT_OPEN && mmdb_indexes(NULL, "", 0, NULL) == MMDB_NOT_OPEN);
     CHECK(mmdb_prepare_reason(NULL, NULL, 1, &answer) == MMDB_NOT_OPEN && mmdb_statement_reason(NULL, 0, NULL) == MMDB_NOT_OPEN);
@@ -573,7 +592,7 @@ typedef void (*maker)(handle *of);
 static const maker MAKERS[] = {
     commands, commands, commands, commands, loads,    loads,     feeds,    feeds,        prepares,     prepares,      prepares,
     binds,    binds,    binds,    binds,    executes, executes,  executes, asks_columns, asks_columns, looks_at_rows, tells,
-    queries,  queries,  asks_why, asks_plan, begins,  leaves,    commits_or_rolls_back, commits_or_rolls_back,
+    queries,  queries,  asks_why, asks_plan, counts,  begins,    leaves,   commits_or_rolls_back, commits_or_rolls_back,
 };
 
 /* One call. Handles are seldom opened, closed and shared, so that much becomes of what they have. */

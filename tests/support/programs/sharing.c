@@ -93,8 +93,18 @@ static void it_changes_nothing(mmdb *db)
     GIVES(feed(db, "delete t\n"), MMDB_SHARED);
     GIVES(mmdb_answer(db, &answer), MMDB_DONE);
     CHECK(reads(answer, ""));
+    /* A key that is there is no name and no value: what would find it is a change. */
+    GIVES(command(db, "insert t (1, 'one')", NULL), MMDB_SHARED);
+    GIVES(command(db, "drop table t", NULL), MMDB_SHARED);
+    GIVES(command(db, "index t s hash", NULL), MMDB_SHARED);
     GIVES(mmdb_finalize(db, insert.number), MMDB_DONE);
     CHECK(has_rows(db, 1));
+}
+
+static int answers(mmdb *db, const char *line, const char *expected)
+{
+    mmdb_bytes answer;
+    return command(db, line, &answer) == MMDB_DONE && reads(answer, expected);
 }
 
 /* A change is refused by what it would be refused by before it comes to be one. */
@@ -109,7 +119,19 @@ static void it_is_refused_as_ever(mmdb *db)
     CHECK(answer.length > 0);
     GIVES(query(db, "delete u", NULL), MMDB_REFUSED);
     GIVES(mmdb_refusal(db), 30);
+    CHECK(answers(db, "drop table u", "error 30 no such table\n"));
+    CHECK(mmdb_refusal(db) == 30);
+    GIVES(mmdb_reason(db, "drop table u", 12, NULL, 0, &answer), MMDB_DONE);
+    CHECK(answer.length > 0);
+    CHECK(answers(db, "table t (id int)", "error 31 table exists\n"));
+    CHECK(answers(db, "insert t ('two', 2)", "error 35 wrong type\n"));
+    CHECK(answers(db, "drop t", "error 20 not a command\n"));
+    CHECK(answers(db, "select \xff", "error 11 not UTF-8\n"));
+    GIVES(load(db, "load t 9", "id,r\n2,b\n", &answer), MMDB_DONE);
+    CHECK(reads(answer, "error 61 bad header\n"));
+    GIVES(load(db, "load t 8", "id,s\n2,b\n", NULL), MMDB_NOT_ONE_REQUEST);
     GIVES(command(db, "", NULL), MMDB_NO_LINE);
+    GIVES(command(db, "tables\ntables", NULL), MMDB_NOT_ONE_REQUEST);
     GIVES(mmdb_execute(db, 7, NULL), MMDB_NO_SUCH_STATEMENT);
     GIVES(mmdb_finalize(db, insert.number), MMDB_DONE);
 }
@@ -118,14 +140,21 @@ static void it_reads(mmdb *db)
 {
     mmdb_rows rows, columns;
     mmdb_bytes answer;
+    uint64_t count = 0;
     mmdb_statement find = prepared(db, SELECT);
     CHECK(finds_one(db, find, &rows));
+    GIVES(mmdb_count(db, find.number, &count), MMDB_DONE);
+    CHECK(count == 1);
     GIVES(mmdb_columns(db, find.number, &columns), MMDB_DONE);
     CHECK(columns.rows == 1 && reads(mmdb_text(&columns, mmdb_cell_at(&columns, 0, 0)), "t.s"));
     GIVES(mmdb_indexes(db, "t", 1, &answer), MMDB_DONE);
     CHECK(answer.length > 0);
     GIVES(mmdb_plan(db, "select s from t", 15, &answer), MMDB_DONE);
     CHECK(answer.length > 0);
+    CHECK(answers(db, "select * from t where id = 1\r", "rows 1\nt.id,t.s\n1,one\n"));
+    CHECK(answers(db, "tables", "table t (id int, s text)\nok 1\n"));
+    CHECK(answers(db, "dump t", "load t 11\nid,s\n1,one\n"));
+    CHECK(answers(db, " ", "") && answers(db, "# t", ""));
     GIVES(mmdb_finalize(db, find.number), MMDB_DONE);
 }
 
@@ -171,6 +200,51 @@ static void what_a_reader_has_stays_when_it_leaves(void)
     GIVES(query(&reader, "insert t (3, 'three')", NULL), MMDB_DONE);
     CHECK(has_rows(&reader, 3));
     mmdb_close(&reader);
+}
+
+/* How often the execution of a statement that shows one row asks for memory. */
+static long asked_by(mmdb *db, mmdb_statement find)
+{
+    mmdb_rows rows;
+    allocations_refuse(0, 0);
+    GIVES(mmdb_execute(db, find.number, &rows), MMDB_DONE);
+    CHECK(shows_one(&rows));
+    return allocations_asked();
+}
+
+static void share_again(mmdb *db, mmdb *reader, const char *line)
+{
+    GIVES(mmdb_leave(reader), MMDB_DONE);
+    GIVES(command(db, line, NULL), MMDB_DONE);
+    GIVES(mmdb_share(db, reader), MMDB_DONE);
+}
+
+/* What a statement means is looked up anew only where the tables have other names or columns. */
+static void meanings_stay_while_names_and_columns_do(void)
+{
+    mmdb db = opened(), reader = sharing(&db);
+    mmdb_rows rows;
+    mmdb_statement find = prepared(&reader, SELECT);
+    CHECK(finds_one(&reader, find, &rows) && asked_by(&reader, find) == 0);
+    share_again(&db, &reader, "insert t (2, 'two')");
+    CHECK(asked_by(&reader, find) == 0);
+    share_again(&db, &reader, "index t s hash");
+    CHECK(asked_by(&reader, find) == 0);
+    share_again(&db, &reader, "table u (id int, t ref t)");
+    CHECK(asked_by(&reader, find) > 0 && asked_by(&reader, find) == 0);
+    share_again(&db, &reader, "drop table u");
+    share_again(&db, &reader, "table u (id int, t ref t null)");
+    CHECK(asked_by(&reader, find) > 0 && asked_by(&reader, find) == 0);
+    /* The same line means another column of another table of that name. */
+    GIVES(mmdb_leave(&reader), MMDB_DONE);
+    GIVES(command(&db, "drop table u", NULL), MMDB_DONE);
+    GIVES(command(&db, "drop table t", NULL), MMDB_DONE);
+    GIVES(command(&db, "table t (id int, n int, s text)", NULL), MMDB_DONE);
+    GIVES(command(&db, "insert t (1, 7, 'one')", NULL), MMDB_DONE);
+    GIVES(mmdb_share(&db, &reader), MMDB_DONE);
+    CHECK(asked_by(&reader, find) > 0 && asked_by(&reader, find) == 0);
+    mmdb_close(&reader);
+    mmdb_close(&db);
 }
 
 static void a_stream_goes_with_the_tables(void)
@@ -242,10 +316,33 @@ static long refusals_of_sharing(mmdb *db, mmdb *reader)
     }
 }
 
+/* A line gives that status and that answer, or it is answered 90. */
+static long refusals_of_lines(mmdb *reader, const char *line, mmdb_status status, const char *expected)
+{
+    long met = 0;
+    for (;; met++) {
+        mmdb_status given;
+        mmdb_bytes answer;
+        int as_ever;
+        allocations_refuse(met, 1);
+        given = command(reader, line, &answer);
+        as_ever = given == status && reads(answer, expected);
+        if (allocations_refused() == 0) {
+            CHECK(as_ever);
+            return met;
+        }
+        CHECK(as_ever || (given == MMDB_DONE && reads(answer, "error 90 no memory\n")));
+        CHECK(has_rows(reader, 1));
+    }
+}
+
 static void memory_is_refused(void)
 {
     mmdb db = opened(), alone = opened(), reader = MMDB_CLOSED;
     CHECK(refusals_of_sharing(&db, &reader) > 0);
+    CHECK(refusals_of_lines(&reader, "select s from t where id <> 5", MMDB_DONE, "rows 1\nt.s\none\n") > 0);
+    CHECK(refusals_of_lines(&reader, "dump t", MMDB_DONE, "load t 11\nid,s\n1,one\n") > 0);
+    CHECK(refusals_of_lines(&reader, "insert t (5, 'a text of more than 14 bytes')", MMDB_SHARED, "") > 0);
     /* A handle that shares tables needs none to leave them. */
     CHECK(refusals_of_leaving(&reader) == 0);
     CHECK(refusals_of_sharing(&db, &reader) > 0);
@@ -262,6 +359,7 @@ int main(void)
     closed_handles_and_null_are_told();
     each_of_two_reads_and_none_changes();
     what_a_reader_has_stays_when_it_leaves();
+    meanings_stay_while_names_and_columns_do();
     a_stream_goes_with_the_tables();
     handles_are_closed_in_any_order();
     memory_is_refused();

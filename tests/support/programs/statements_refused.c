@@ -125,6 +125,17 @@ static mmdb_status tells_columns(kept *of, mmdb_rows *rows)
     return mmdb_columns(&of->db, of->select.number, rows);
 }
 
+/* How many rows there are is told where the number of those that were changed is. */
+static mmdb_status counts(kept *of, mmdb_rows *rows)
+{
+    return mmdb_count(&of->db, of->select.number, &rows->changed);
+}
+
+static mmdb_status counts_joined(kept *of, mmdb_rows *rows)
+{
+    return mmdb_count(&of->db, of->join.number, &rows->changed);
+}
+
 typedef mmdb_status (*step)(kept *of, mmdb_rows *rows);
 
 static const struct {
@@ -139,6 +150,8 @@ static const struct {
     { selects, MMDB_REFUSED },
     { joins, MMDB_REFUSED },
     { tells_columns, MMDB_REFUSED },
+    { counts, MMDB_REFUSED },
+    { counts_joined, MMDB_REFUSED },
     { queries, MMDB_REFUSED },
     { inserts_by_query, MMDB_REFUSED },
     { updates_by_query, MMDB_REFUSED },

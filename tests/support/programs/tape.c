@@ -1,11 +1,14 @@
-/* Makes the calls of standard input, one after another, on one handle. A call is a line of its name and three numbers, and
-   behind it the bytes that these number: of a line or a text, and of a block. What the calls give is not looked at, which has
-   been done where they were written down (tests/support/tape.py). It is linked with tests/support/refuse_nth.c: a line
-   `refuse N 0 0` says which of the calls for memory from then on finds none. */
+/* Makes the calls of standard input, one after another. A call is a line of its name and three numbers, and behind it the bytes
+   that these number: of a line or a text, and of a block. It is on the handle that was opened last, or on that which a line
+   `on N 0 0` names. What the calls give is not looked at, which has been done where they were written down
+   (tests/support/tape.py). It is linked with tests/support/refuse_nth.c: a line `refuse N 0 0` says which of the calls for memory
+   from then on finds none. */
 #include "checking.h"
 
 #include <inttypes.h>
 #include <stdlib.h>
+
+enum { HANDLES = 8 };
 
 long refuse_nth(long nth);
 
@@ -43,10 +46,25 @@ static int is(const call *of, const char *name)
     return strcmp(of->name, name) == 0;
 }
 
-static void open_anew(mmdb *db, const call *of)
+static mmdb handles[HANDLES];
+
+static mmdb *handle(uint64_t number)
 {
-    mmdb_close(db);
-    GIVES(mmdb_open(db, (uint32_t)of->numbers[0], (uint32_t)of->numbers[1], (uint32_t)of->numbers[2]), MMDB_DONE);
+    if (number >= HANDLES)
+        exit(3);
+    return &handles[number];
+}
+
+static void close_all(void)
+{
+    for (int i = 0; i < HANDLES; i++)
+        mmdb_close(&handles[i]);
+}
+
+static void open_anew(const call *of)
+{
+    close_all();
+    GIVES(mmdb_open(&handles[0], (uint32_t)of->numbers[0], (uint32_t)of->numbers[1], (uint32_t)of->numbers[2]), MMDB_DONE);
 }
 
 /* The calls on lines, on pieces and on answers. Gives 0 where it is none of these. */
@@ -82,6 +100,7 @@ static int states(mmdb *db, const call *of)
     mmdb_statement statement;
     mmdb_rows rows;
     mmdb_bytes reason;
+    uint64_t count;
     if (is(of, "prepare+"))
         mmdb_prepare(db, of->bytes, (size_t)of->numbers[0], &statement);
     else if (is(of, "text+"))
@@ -94,10 +113,14 @@ static int states(mmdb *db, const call *of)
         mmdb_execute(db, number, &rows);
     else if (is(of, "columns"))
         mmdb_columns(db, number, &rows);
+    else if (is(of, "count"))
+        mmdb_count(db, number, &count);
     else if (is(of, "why"))
         mmdb_statement_reason(db, number, &reason);
     else if (is(of, "finalize"))
         mmdb_finalize(db, number);
+    else if (is(of, "query+"))
+        mmdb_query(db, of->bytes, (size_t)of->numbers[0], &rows);
     else
         return 0;
     return 1;
@@ -119,28 +142,44 @@ static int transacts(mmdb *db, const call *of)
     return 1;
 }
 
+/* The calls of handles that share tables, and the end of a handle. Gives 0 where it is none of these. */
+static int shares(mmdb *db, const call *of)
+{
+    if (is(of, "share"))
+        mmdb_share(db, handle(of->numbers[0]));
+    else if (is(of, "leave"))
+        mmdb_leave(db);
+    else if (is(of, "close"))
+        mmdb_close(db);
+    else
+        return 0;
+    return 1;
+}
+
 /* Makes a call, in which memory may be refused, and gives how many calls for memory there are to the refused one yet. */
 static long make(mmdb *db, const call *of, long to_refused)
 {
     refuse_nth(to_refused);
-    CHECK(asks(db, of) || states(db, of) || transacts(db, of));
+    CHECK(asks(db, of) || states(db, of) || transacts(db, of) || shares(db, of));
     return refuse_nth(0);
 }
 
 int main(void)
 {
-    mmdb db = MMDB_CLOSED;
+    mmdb *db = &handles[0];
     long to_refused = 0;
     call next;
     while (read_call(&next)) {
         if (is(&next, "open"))
-            open_anew(&db, &next);
+            open_anew(&next);
+        if (is(&next, "open") || is(&next, "on"))
+            db = handle(is(&next, "on") ? next.numbers[0] : 0);
         else if (is(&next, "refuse"))
             to_refused = (long)next.numbers[0];
         else
-            to_refused = make(&db, &next, to_refused);
+            to_refused = make(db, &next, to_refused);
         free(next.bytes);
     }
-    mmdb_close(&db);
+    close_all();
     return checks_failed != 0;
 }
