@@ -21,8 +21,8 @@
    pointers of a call points into what another of them points to.
 
    A null pointer means the same everywhere. A null handle is a closed one, and null with the length 0 is no bytes.
-   Null in the place of an answer, of a statement or of rows says that these aren't wanted. Null with any other length
-   is MMDB_NO_LINE.
+   Null in the place of an answer, of a statement, of rows or of a count says that these aren't wanted. Null with any
+   other length is MMDB_NO_LINE.
 
    What is done more than once, or with values that come from elsewhere, is best done by a statement. It is prepared
    once, its values are bound and not written into a line, and its rows are cells and not text to be read. The rows of a
@@ -118,11 +118,13 @@ typedef enum mmdb_status {
     MMDB_NO_SUCH_STATEMENT = 9,  /* the number names no statement, or one that was finalised */
     MMDB_NO_SUCH_PLACE = 10,     /* the statement has no place of that number */
     MMDB_NOT_UTF8 = 11,          /* mmdb_bind_text of bytes that are not UTF-8 */
-    MMDB_REFUSED = 12,           /* mmdb_prepare, mmdb_execute, mmdb_columns, mmdb_query, mmdb_plan: refused. mmdb_answer
-                                    and mmdb_refusal tell why, as `error 41 key exists` and a line feed; nothing changed */
+    MMDB_REFUSED = 12,           /* mmdb_prepare, mmdb_execute, mmdb_columns, mmdb_count, mmdb_query, mmdb_plan: refused.
+                                    mmdb_answer and mmdb_refusal tell why, as `error 41 key exists` and a line feed; nothing
+                                    changed */
     MMDB_TOO_LARGE = 13,         /* mmdb_execute, mmdb_query: the texts of the rows are more than 4 GiB together;
-                                    mmdb_prepare: the database has 4294967296 statements. Nothing changed */
-    MMDB_SHARED = 14,            /* mmdb_execute and mmdb_query of a change; mmdb_command, mmdb_load, mmdb_feed, mmdb_begin:
+                                    mmdb_prepare: the database has 4294967296 statements; mmdb_count: there are 2^64 rows or
+                                    more. Nothing changed */
+    MMDB_SHARED = 14,            /* mmdb_command, mmdb_load, mmdb_execute and mmdb_query of a change; mmdb_feed, mmdb_begin:
                                     another handle shares the tables. Nothing changed */
     MMDB_NO_TRANSACTION = 15,    /* mmdb_commit, mmdb_rollback: no transaction is open */
     MMDB_IN_TRANSACTION = 16     /* mmdb_share, mmdb_leave: a transaction is open. Nothing changed */
@@ -151,8 +153,9 @@ uint32_t mmdb_open(mmdb *db, uint32_t policy, uint32_t rows, uint32_t block);
 /* Answers one line, which has no line feed. One carriage return at its end is dropped, so the line may be what stands
    before a line feed in any file. A line that asks for a block, as `load T 20` does, goes to mmdb_load.
    Gives MMDB_DONE and the answer, which is good until the next call on this handle: the bytes that the program mmdb
-   writes for the line, none for blanks and comments. Or gives MMDB_NOT_OPEN or MMDB_NO_LINE; or MMDB_SHARED, whatever line
-   it is; or MMDB_NOT_ONE_REQUEST. */
+   writes for the line, none for blanks and comments. Or gives MMDB_NOT_OPEN, MMDB_NO_LINE or MMDB_NOT_ONE_REQUEST; or
+   MMDB_SHARED where another handle shares the tables, and the line is right by its names and values and would change
+   them: a select, `tables`, `dump` and a line that is wrong are answered as ever. */
 uint32_t mmdb_command(mmdb *db, const void *line, size_t length, mmdb_bytes *answer);
 
 /* Answers one line with the block that it asks for: `load T 20` with 20 bytes. Answer and statuses are as those of
@@ -194,6 +197,13 @@ uint32_t mmdb_execute(mmdb *db, uint32_t statement, mmdb_rows *rows);
    Gives MMDB_DONE and the columns; or MMDB_REFUSED where mmdb_prepare of the line would be refused now, as by 30 once
    its table is dropped, or by 90 when out of memory; or MMDB_NOT_OPEN or MMDB_NO_SUCH_STATEMENT. */
 uint32_t mmdb_columns(mmdb *db, uint32_t statement, mmdb_rows *columns);
+
+/* How many rows a select shows with the bound values: as many as mmdb_execute would give. They are counted and not kept,
+   and what the statement has shown stays. The rows of one whole table are counted without a look at them.
+   Gives MMDB_DONE and the count; or MMDB_REFUSED as mmdb_execute would be, in the same order, or else by 20 where the
+   statement is no select, which is not done; or MMDB_TOO_LARGE where there are 2^64 rows or more; or MMDB_NOT_OPEN or
+   MMDB_NO_SUCH_STATEMENT. */
+uint32_t mmdb_count(mmdb *db, uint32_t statement, uint64_t *count);
 
 /* Frees a statement: its rows are good no longer, and its number may be given to another. It needs no memory. The
    answers are left as they are.
@@ -237,8 +247,8 @@ uint32_t mmdb_indexes(mmdb *db, const void *table, size_t length, mmdb_bytes *an
 uint32_t mmdb_plan(mmdb *db, const void *line, size_t length, mmdb_bytes *answer);
 
 /* The answers of the last call that was done or refused, one behind the other: of the piece that was fed, or of the
-   line. Of a piece whose answers found no room it is a front of them. Where a statement was prepared, executed or asked
-   for its columns, or a line queried, they are its refusal, or no bytes. Any other call leaves them as they are: one
+   line. Of a piece whose answers found no room it is a front of them. Where a statement was prepared, executed, counted or
+   asked for its columns, or a line queried, they are its refusal, or no bytes. Any other call leaves them as they are: one
    that binds or finalises, and one that can't be answered, as of a number that names no statement.
    Gives MMDB_DONE, and bytes that are good until the next call but this one, mmdb_refusal and those that tell a reason;
    or MMDB_NOT_OPEN. */
@@ -264,8 +274,8 @@ uint32_t mmdb_reason(mmdb *db, const void *line, size_t length, const void *bloc
    Gives MMDB_DONE and the words, as mmdb_reason does; or MMDB_NOT_OPEN, MMDB_NO_LINE or MMDB_NO_MEMORY. */
 uint32_t mmdb_prepare_reason(mmdb *db, const void *line, size_t length, mmdb_bytes *reason);
 
-/* Why a statement was refused by mmdb_execute or mmdb_columns, in words as those of mmdb_reason. It is asked right behind
-   that call, with the values still bound. Where a value is to blame that was bound to a ?, the words begin with the
+/* Why a statement was refused by mmdb_execute, mmdb_columns or mmdb_count, in words as those of mmdb_reason. It is asked
+   right behind that call, with the values still bound. Where a value is to blame that was bound to a ?, the words begin with the
    column at which this ? stands in the line that was prepared, as `column 11: t has a row with the key 1`. Tables,
    statements, rows and answers stay as they are.
    Gives MMDB_DONE and the words, which are good until the next call on this handle: no bytes where the last answers begin
@@ -290,8 +300,9 @@ size_t mmdb_transactions(mmdb *db);
 
 /* Has a second handle share the tables of a first, and its stream, in the place of its own. A closed reader is open then,
    without statements. Where it was open, its statements with their values, its rows and its answers stay. All is as it
-   was of db. While two handles share tables, each reads them by mmdb_execute and mmdb_query of a select, and by
-   mmdb_columns, mmdb_plan and mmdb_indexes; neither changes them (MMDB_SHARED). Both are in a call here.
+   was of db. While two handles share tables, each reads them by mmdb_command, mmdb_execute and mmdb_query of a select, by
+   mmdb_command of `tables` and `dump`, and by mmdb_columns, mmdb_count, mmdb_plan and mmdb_indexes; neither changes them
+   (MMDB_SHARED). Both are in a call here.
    Gives MMDB_DONE; or MMDB_NOT_OPEN where db is closed or a handle is null, MMDB_IN_TRANSACTION where a transaction of
    either is open, or MMDB_NO_MEMORY, and then reader is as it was. */
 uint32_t mmdb_share(mmdb *db, mmdb *reader);
@@ -351,7 +362,7 @@ static inline const char *mmdb_status_text(uint32_t status)
     case MMDB_REFUSED:
         return "refused, as the answer tells";
     case MMDB_TOO_LARGE:
-        return "more than 4 GiB of texts, or 4294967296 statements";
+        return "more than 4 GiB of texts, 4294967296 statements, or 2^64 rows to count";
     case MMDB_SHARED:
         return "another handle shares the tables";
     case MMDB_NO_TRANSACTION:
@@ -495,6 +506,14 @@ static inline mmdb_status mmdb_checked_columns(mmdb *db, uint32_t statement, mmd
     return mmdb_checked_is_closed(db) ? MMDB_NOT_OPEN : mmdb_checked_status(mmdb_columns(db, statement, to));
 }
 
+static inline mmdb_status mmdb_checked_count(mmdb *db, uint32_t statement, uint64_t *count)
+{
+    uint64_t unwanted;
+    uint64_t *to = count ? count : &unwanted;
+    *to = 0;
+    return mmdb_checked_is_closed(db) ? MMDB_NOT_OPEN : mmdb_checked_status(mmdb_count(db, statement, to));
+}
+
 static inline mmdb_status mmdb_checked_finalize(mmdb *db, uint32_t statement)
 {
     return mmdb_checked_is_closed(db) ? MMDB_NOT_OPEN : mmdb_checked_status(mmdb_finalize(db, statement));
@@ -631,6 +650,7 @@ static inline void mmdb_checked_close(mmdb *db)
 #define mmdb_bind_null mmdb_checked_bind_null
 #define mmdb_execute mmdb_checked_execute
 #define mmdb_columns mmdb_checked_columns
+#define mmdb_count mmdb_checked_count
 #define mmdb_finalize mmdb_checked_finalize
 #define mmdb_query mmdb_checked_query
 #define mmdb_feed mmdb_checked_feed
