@@ -2,19 +2,11 @@
  * the one of the number in REFUSE_NTH. At the end of the program it says the counts on standard error, but where UNTOLD is
  * defined. Several threads may call. */
 #include "allocations.h"
+#include "wrapped.h"
 
 #include <malloc.h>
 #include <stdio.h>
 #include <stdlib.h>
-
-void *__real_malloc(size_t size);
-void *__real_calloc(size_t count, size_t size);
-void *__real_realloc(void *block, size_t size);
-void __real_free(void *block);
-void *__wrap_malloc(size_t size);
-void *__wrap_calloc(size_t count, size_t size);
-void *__wrap_realloc(void *block, size_t size);
-void __wrap_free(void *block);
 
 static long left_to_meet = 0;
 static long left_to_refuse = 0;

@@ -6,6 +6,7 @@
    It is linked with --wrap of the calls for memory. A child that waits is ended by its alarm. */
 #define _POSIX_C_SOURCE 200809L
 #include "checking.h"
+#include "wrapped.h"
 
 #include <pthread.h>
 #include <semaphore.h>
@@ -17,15 +18,6 @@
 #define FORKS 100
 #endif
 enum { LONGEST_WAIT = 60, ROWS = 30, LEAST_STOPS = 200 };
-
-void *__real_malloc(size_t size);
-void *__real_calloc(size_t count, size_t size);
-void *__real_realloc(void *block, size_t size);
-void __real_free(void *block);
-void *__wrap_malloc(size_t size);
-void *__wrap_calloc(size_t count, size_t size);
-void *__wrap_realloc(void *block, size_t size);
-void __wrap_free(void *block);
 
 /* A database, a reader of its tables, and a database apart. */
 static mmdb db, reader, apart;
