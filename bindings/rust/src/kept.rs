@@ -103,7 +103,7 @@ impl Kept {
         self.bind(handle, params)?;
         let number = self.prepared.number();
         match handle.count(&mut self.prepared) {
-            Ok(count) => Ok(count as usize),
+            Ok(count) => usize::try_from(count).or(Err(Error::TooLarge)),
             Err(declined) => Err(self.written.why(handle, number, declined)),
         }
     }
