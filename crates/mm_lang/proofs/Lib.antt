@@ -7,6 +7,7 @@ pub mod Marks
 pub mod Numbering
 pub mod Parts
 pub mod Productions
+pub mod Reserved
 pub mod Selects
 pub mod SlotFronts
 pub mod Sound

@@ -17,7 +17,12 @@ pub fn is_letter_byte(c: u8) -> bool
 pub fn is_word_byte(c: u8) -> bool
     ensures { result ≡ is_word_character c }
 {
-    matches!(c, b'a'..=b'z' | b'A'..=b'Z' | b'_' | b'0'..=b'9')
+    // Small letters are asked for first: most symbols have only these.
+    if c >= b'a' {
+        c <= b'z'
+    } else {
+        matches!(c, b'0'..=b'9' | b'A'..=b'Z' | b'_')
+    }
 }
 
 // How many letters and digits stand at the front.

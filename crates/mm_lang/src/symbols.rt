@@ -19,32 +19,20 @@ use std::alloc::Global;
 /// The most bytes that a name may have.
 pub const LONGEST_NAME: usize = 32;
 
-// The words that name no table and no column.
-const RESERVED: [&[u8]; 23] = [
-    b"and",
-    b"delete",
-    b"distinct",
-    b"drop",
-    b"dump",
-    b"from",
-    b"hash",
-    b"index",
-    b"insert",
-    b"int",
-    b"join",
-    b"load",
-    b"null",
-    b"on",
-    b"ref",
-    b"select",
-    b"set",
-    b"table",
-    b"tables",
-    b"text",
-    b"tree",
-    b"update",
-    b"where",
+// The words of so many letters that name no table and no column.
+const OF_TWO: [&[u8]; 1] = [b"on"];
+
+const OF_THREE: [&[u8]; 4] = [b"and", b"int", b"ref", b"set"];
+
+const OF_FOUR: [&[u8]; 9] = [
+    b"drop", b"dump", b"from", b"hash", b"join", b"load", b"null", b"text", b"tree",
 ];
+
+const OF_FIVE: [&[u8]; 3] = [b"index", b"table", b"where"];
+
+const OF_SIX: [&[u8]; 5] = [b"delete", b"insert", b"select", b"tables", b"update"];
+
+const OF_EIGHT: [&[u8]; 1] = [b"distinct"];
 
 // Whether a word is one of these.
 fn is_one_of(word: &[u8], words: &[&[u8]]) -> bool
@@ -53,11 +41,19 @@ fn is_one_of(word: &[u8], words: &[&[u8]]) -> bool
     words.iter().any(|other| word == *other)
 }
 
-/// Whether a word names no table and no column, since the language has it.
+/// Whether a word names no table and no column, since the language has it. It is compared with the words of as many letters.
 pub fn is_reserved_word(word: &[u8]) -> bool
     ensures { result ≡ is_reserved word.now }
 {
-    is_one_of(word, &RESERVED)
+    match word.len() {
+        2 => is_one_of(word, &OF_TWO),
+        3 => is_one_of(word, &OF_THREE),
+        4 => is_one_of(word, &OF_FOUR),
+        5 => is_one_of(word, &OF_FIVE),
+        6 => is_one_of(word, &OF_SIX),
+        8 => is_one_of(word, &OF_EIGHT),
+        _ => false,
+    }
 }
 
 // Whether these are letters and digits.
