@@ -112,6 +112,7 @@ impl Cells {
 
     /// Puts a text behind the others. At an error it is not put there: `TooLong` if the text has more than 65,535 bytes, or the texts
     /// before it have 4 GiB or more.
+    #[inline(never)]
     pub fn push_text(&mut self, text: &str) -> Result<(), CellFault>
         ensures pushed { OnOk result (values_of self.new ≡ values_of self.old ++ value.Text text.now ∷ []) }
         ensures too_long { IsErrOf result CellFault.TooLong ↔ IsTooLong (values_of self.old) (value.Text text.now) }
@@ -171,6 +172,7 @@ impl Cells {
     }
 
     /// Puts a stored value behind the others. At an error it is not put there; `TooLong` comes as from `push_text`.
+    #[inline(always)]
     pub fn push(&mut self, value: &StoredValue) -> Result<(), CellFault>
         requires { link_number value.now ≡ None }
         ensures pushed { OnOk result (values_of self.new ≡ values_of self.old ++ value.now ∷ []) }
