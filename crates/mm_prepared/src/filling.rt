@@ -2,14 +2,16 @@
 //! before.
 ghost use Rattle.std.specs.Prelude.{◌≡◌, IfOk, OnOk};
 ghost use Rattle.plain_statements.specs.Finishing.{filled_query, filled_template};
+ghost use Rattle.plain_statements.specs.declared.resolution.Template.TheVariants as template;
 
 mod items;
 
 use items::{Fill, fill_each, filled_each};
 use no_memory::NoMemory;
-use plain_statements::{SlotQuery, Template};
-use plain_tables::{Query, Resolved, Shown, Value};
+use plain_statements::{SlotAssignment, SlotQuery, SlotTest, Template};
+use plain_tables::{Query, Resolved, Shown, TableNumber, Value};
 use std::alloc::Global;
+use std::mem::replace;
 
 fn shown_copied(alloc: Global, values: &[Value], shown: &Shown) -> Result<Shown, NoMemory>
     ensures { IfOk result (λ copy. copy ≡ shown.now) }
@@ -41,35 +43,60 @@ fn fill_shown(
     Ok(())
 }
 
+fn filled_update(
+    alloc: Global,
+    values: &[Value],
+    table: TableNumber,
+    assignments: &[SlotAssignment],
+    tests: &[SlotTest],
+) -> Result<Resolved, NoMemory>
+    ensures { IfOk result (λ filled. filled ≡ filled_template values.now (template.Update table assignments.now tests.now)) }
+{
+    let assignments = filled_each(alloc, values, assignments)?;
+    Ok(Resolved::Update {
+        table,
+        assignments,
+        tests: filled_each(alloc, values, tests)?,
+    })
+}
+
+fn query_of(alloc: Global, values: &[Value], query: &SlotQuery) -> Result<Query, NoMemory>
+    ensures { IfOk result (λ filled. filled ≡ filled_query values.now query.now) }
+{
+    Ok(Query {
+        distinct: query.distinct,
+        shown: shown_copied(alloc, values, &query.shown)?,
+        source: query.source.to_filled(alloc, values)?,
+        joins: filled_each(alloc, values, query.joins.as_slice())?,
+    })
+}
+
 // The resolved command that a template is with these values in its holes.
 fn filled_of(alloc: Global, values: &[Value], template: &Template) -> Result<Resolved, NoMemory>
     ensures { IfOk result (λ filled. filled ≡ filled_template values.now template.now) }
 {
-    Ok(match template {
-        Template::Insert { table, slots } => Resolved::Insert {
+    match template {
+        Template::Insert { table, slots } => Ok(Resolved::Insert {
             table: *table,
             values: filled_each(alloc, values, slots.as_slice())?,
-        },
+        }),
         Template::Update {
             table,
             assignments,
             tests,
-        } => Resolved::Update {
+        } => filled_update(
+            alloc,
+            values,
+            *table,
+            assignments.as_slice(),
+            tests.as_slice(),
+        ),
+        Template::Delete { table, tests } => Ok(Resolved::Delete {
             table: *table,
-            assignments: filled_each(alloc, values, assignments.as_slice())?,
             tests: filled_each(alloc, values, tests.as_slice())?,
-        },
-        Template::Delete { table, tests } => Resolved::Delete {
-            table: *table,
-            tests: filled_each(alloc, values, tests.as_slice())?,
-        },
-        Template::Select(query) => Resolved::Select(Query {
-            distinct: query.distinct,
-            shown: shown_copied(alloc, values, &query.shown)?,
-            source: query.source.to_filled(alloc, values)?,
-            joins: filled_each(alloc, values, query.joins.as_slice())?,
         }),
-    })
+        Template::Select(query) => Ok(Resolved::Select(query_of(alloc, values, query)?)),
+    }
 }
 
 fn fill_query(
@@ -139,6 +166,6 @@ pub fn fill(
             }
         }
     }
-    *kept = filled_of(alloc, values, template)?;
+    drop(replace(kept, filled_of(alloc, values, template)?));
     Ok(())
 }

@@ -26,11 +26,29 @@ pub struct Prepared {
 }
 
 impl Prepared {
+    // A statement with a null for each of its holes. What it means is not known.
+    fn unresolved(alloc: Global, line: &str, places: usize) -> Result<Prepared, NoMemory>
+        ensures { IfOk result (λ p. p ≡ record { line = line.now; bound = replicate places value.Null; resolution = None }) }
+    {
+        Ok(Prepared {
+            line: Text::from_str(alloc, line)?,
+            bound: Bound::new(alloc, places)?,
+            resolution: None,
+        })
+    }
+
+    // Has it mean that of the tables.
+    fn resolve(&mut self, resolution: Resolution)
+        ensures { self.new ≡ record self.old { resolution = Some resolution } }
+    {
+        drop(self.resolution.replace(resolution));
+    }
+
     // Forgets what the statement means of the tables.
     fn forget(&mut self)
         ensures { self.new ≡ unresolved self.old }
     {
-        self.resolution = None;
+        drop(self.resolution.take());
     }
 }
 
@@ -63,12 +81,16 @@ impl Statements {
         ensures kept { IfOk result (λ number. NamesNow self.old self.new number (Some (record { line = line.now; bound = replicate places value.Null; resolution = Some resolution }))) }
         ensures unchanged { OnErr result (SameNamed self.old self.new) }
     {
-        let prepared = Prepared {
-            line: Text::from_str(alloc, line)?,
-            bound: Bound::new(alloc, places)?,
-            resolution: Some(resolution),
-        };
-        Ok(self.kept.insert(prepared)?)
+        match Prepared::unresolved(alloc, line, places) {
+            Ok(mut prepared) => {
+                prepared.resolve(resolution);
+                Ok(self.kept.insert(prepared)?)
+            }
+            Err(fault) => {
+                drop(resolution);
+                Err(fault)
+            }
+        }
     }
 
     /// Frees a number: it names no statement.
@@ -80,7 +102,10 @@ impl Statements {
         ensures unchanged { OnErr result (SameNamed self.old self.new) }
     {
         match self.kept.try_remove(number) {
-            Some(_) => Ok(()),
+            Some(prepared) => {
+                drop(prepared);
+                Ok(())
+            }
             None => Err(Declined::NoSuchStatement),
         }
     }
@@ -116,11 +141,13 @@ impl Statements {
         ensures unchanged { OnErr result (SameNamed self.old self.new) }
     {
         let Some(prepared) = self.kept.get_mut(number) else {
+            drop(resolution);
             return Err(Declined::NoSuchStatement);
         };
-        prepared.resolution = Some(resolution);
+        prepared.resolve(resolution);
         Ok(())
     }
+
     /// Forgets what each statement means of the tables.
     pub fn forget(&mut self)
         ensures { (number : ℕ) → named self.new number ≡ option_map unresolved (named self.old number) }
