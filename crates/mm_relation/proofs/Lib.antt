@@ -27,3 +27,4 @@ pub mod Sorted
 pub mod Firsts
 pub mod PutBack
 pub mod Settling
+pub mod InKeyOrder

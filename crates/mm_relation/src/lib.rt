@@ -20,6 +20,7 @@
 mod building;
 mod change;
 mod declare;
+mod in_key_order;
 mod index;
 mod indexes;
 mod keyed;
@@ -44,6 +45,7 @@ mod taken;
 mod tree;
 mod view;
 
+pub use in_key_order::LEAST_IN_ORDER;
 pub use lin_hash::{HashShape, RowChain};
 pub use linked_keys::LinkedKeys;
 pub use mm_index::Probe;
@@ -55,6 +57,7 @@ pub use refusal::RowRefusal;
 pub use relation::Relation;
 pub use relations::Relations;
 pub use row::Cell;
+pub use slot_set::SlotSet;
 pub use stored_cell::StoredCell;
 pub use taken::DroppedIndex;
 pub use tree::Walk;

@@ -13,6 +13,7 @@ pub const WORD_BITS: u32 = u64::BITS;
 // A set with no slot in it keeps memory for at most so many times the slots that there are.
 const MOST_WORDS_A_NEEDED_ONE: usize = 4;
 
+/// A set of slots. It takes no memory before slots are covered.
 // Bit `slot % WORD_BITS` of word `slot / WORD_BITS` is set where the slot is in the set. There may be no such word. The words
 // before `start` and those from `end` on have no bit set.
 #[derive(Drop)]
@@ -43,7 +44,7 @@ fn words_for(slots: u64) -> usize
 }
 
 impl SlotSet {
-    // The set of no slot. It takes no memory.
+    /// The set of no slot. It takes no memory.
     pub fn new(alloc: Global) -> SlotSet
         ensures { result ≡ [] }
     {
@@ -54,7 +55,7 @@ impl SlotSet {
         }
     }
 
-    // Whether a slot is in it: the slot may be any.
+    /// Whether a slot is in it: the slot may be any.
     #[inline]
     pub fn has(&self, slot: u32) -> bool
         ensures { result ≡ has_slot self.now slot }
@@ -65,7 +66,14 @@ impl SlotSet {
         }
     }
 
-    // Whether none of the slots of a word is in it.
+    /// Whether there is memory for a slot.
+    pub fn covers(&self, slot: u32) -> bool
+        ensures { result ≡ true → slot / 64 < length self.now }
+    {
+        ((slot / WORD_BITS) as usize) < self.words.len()
+    }
+
+    /// Whether none of the slots of a word is in it.
     pub fn lacks_word(&self, place: u32) -> bool
         ensures { IsTrue result → (slot : ℕ) → slot / 64 ≡ place → has_slot self.now slot ≡ false }
     {
@@ -75,7 +83,7 @@ impl SlotSet {
         }
     }
 
-    // The words between which its slots are: from the first up to the second.
+    /// The words between which its slots are: from the first up to the second.
     pub fn bounds(&self) -> (u32, u32)
         ensures within { LieWithin self.now result.0 result.1 }
         ensures most { result.1 ≤ 67108864 }
@@ -83,7 +91,7 @@ impl SlotSet {
         (self.start, self.end)
     }
 
-    // Forgets between which words its slots were, where there are none: so the next ones alone tell.
+    /// Forgets between which words its slots were, where there are none: so the next ones alone tell.
     pub fn forget_bounds(&mut self)
         requires { HasNoSlot self.old }
         ensures { self.new ≡ self.old }
@@ -92,7 +100,7 @@ impl SlotSet {
         self.end = 0;
     }
 
-    // Puts a slot in that there is memory for.
+    /// Puts a slot in that there is memory for.
     pub fn insert(&mut self, slot: u32)
         requires { slot / 64 < length self.old }
         ensures changes { ChangesSlot self.old self.new slot true }
@@ -104,7 +112,7 @@ impl SlotSet {
         self.end = self.end.max(place + 1);
     }
 
-    // Takes a slot out.
+    /// Takes a slot out.
     pub fn remove(&mut self, slot: u32)
         requires { slot / 64 < length self.old }
         ensures changes { ChangesSlot self.old self.new slot false }
@@ -113,7 +121,16 @@ impl SlotSet {
         self.words[(slot / WORD_BITS) as usize] &= !(1 << (slot % WORD_BITS));
     }
 
-    // Makes sure of memory for so many slots. It takes some for as many again, so the next ones seldom need more.
+    /// Takes all slots out.
+    pub fn clear(&mut self)
+        ensures { HasNoSlot self.new }
+    {
+        self.words.fill(0);
+        self.start = u32::MAX;
+        self.end = 0;
+    }
+
+    /// Makes sure of memory for so many slots. It takes some for as many again, so the next ones seldom need more.
     pub fn cover(&mut self, slots: u64) -> Result<(), NoMemory>
         requires { slots ≤ 4294967296 }
         ensures same { (slot : ℕ) → has_slot self.new slot ≡ has_slot self.old slot }
@@ -127,7 +144,7 @@ impl SlotSet {
         Ok(())
     }
 
-    // Gives the memory back where it is for more than four times so many slots. There is no slot in the set.
+    /// Gives the memory back where it is for more than four times so many slots. There is no slot in the set.
     pub fn shed(&mut self, slots: u64)
         requires few { slots ≤ 4294967296 }
         requires none { HasNoSlot self.old }

@@ -1,4 +1,4 @@
-use Rattle.std.proofs.Common.{◌+◌, ◌/◌, arith}
+use Rattle.std.proofs.Common.{arith}
 use Rattle.mm_relation.proofs.Slots.{set_slot, within_in}
 use Rattle.mm_relation.proofs.slot_set.SlotSet.insert.Goals as goal
 
