@@ -77,3 +77,4 @@ pub mod Standing
 pub mod AnyOrder
 pub mod ComeIn
 pub mod Settled
+pub mod Reordered

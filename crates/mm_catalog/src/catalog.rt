@@ -16,7 +16,7 @@ use crate::renumbering::{Renumbering, renumber_from};
 use crate::row_values::{LentValues, RowValues};
 use crate::updating::{set_rows, shed_links};
 use indexmap::IndexSet;
-use mm_relation::{DeclaredIndex, Relation, Relations, StoredCell, TreeShape};
+use mm_relation::{DeclaredIndex, Relation, Relations, SlotSet, StoredCell, TreeShape};
 use no_memory::NoMemory;
 use part_raw::TupleRef;
 use plain_tables::{
@@ -295,6 +295,20 @@ impl Catalog {
         ensures outline { outline_of self.new ≡ without_rows table.0 rows.now (outline_of self.old) }
     {
         take_out(self.relations.as_mut_slice(), table, rows)
+    }
+
+    /// Takes rows out of a table as `take_back` does, many of them in the order of their keys, into which their references are put
+    /// by way of the set. It takes no memory, and never fails.
+    pub fn take_many_back(&mut self, table: TableNumber, rows: &mut [TupleRef], set: &mut SlotSet)
+        requires there { table.0 < length (database_of self.old) }
+        requires held { HoldsRows self.old table.0 rows.old }
+        requires once { AllPairs (λ q r. q ≢ r) rows.old }
+        requires free { AreFreeRows self.old table.0 rows.old }
+        ensures { outline_of self.new ≡ without_rows table.0 rows.old (outline_of self.old) }
+    {
+        a_catalog_is_consistent(self);
+        self.at(table).put_in_key_order(rows, set);
+        self.take_back(table, rows)
     }
 
     /// Puts rows into a table, all of them or none, as inserts one after the other do. Where one of them cannot come in, the
