@@ -3,3 +3,4 @@ pub mod Tables
 pub mod Undoing
 pub mod SameTables
 pub mod Steps
+pub mod Arrivals

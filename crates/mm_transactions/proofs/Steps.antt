@@ -77,12 +77,12 @@ some_steps (step ∷ steps) refs cells some = omega arith
 -- ---- a command is noted, or taken out
 
 -- the last element of a list, and another one in its place
-last_of : {A : Type 0} (xs : List A) (d : A) → 0 < length xs → xs ≡ take (length xs - 1) xs ++ get_or xs (length xs - 1) d ∷ []
+pub last_of : {A : Type 0} (xs : List A) (d : A) → 0 < length xs → xs ≡ take (length xs - 1) xs ++ get_or xs (length xs - 1) d ∷ []
 last_of xs d some =
     let back : length xs - 1 + 1 ≡ length xs = omega arith in
     sym (take_all (length xs - 1 + 1) xs (omega arith)) ∙ take_more xs (length xs - 1) d (omega arith)
 
-last_set : {A : Type 0} (xs : List A) (y : A) → 0 < length xs → set xs (length xs - 1) y ≡ take (length xs - 1) xs ++ y ∷ []
+pub last_set : {A : Type 0} (xs : List A) (y : A) → 0 < length xs → set xs (length xs - 1) y ≡ take (length xs - 1) xs ++ y ∷ []
 last_set xs y some =
     let back : length xs - 1 + 1 ≡ length xs = omega arith in
     sym (take_all (length xs - 1 + 1) (set xs (length xs - 1) y) (omega (arith, length-set xs (length xs - 1) y))) ∙ take_more_set xs (length xs - 1) y (omega arith)
@@ -105,7 +105,7 @@ joined_last steps last step joined noted some at is table same taken =
       more = taken.2;
     }
 
-width_alone : (k : Kind) → width_of (alone k) ≡ width_of k
+pub width_alone : (k : Kind) → width_of (alone k) ≡ width_of k
 width_alone (kind.Came more) = refl
 width_alone (kind.Went more) = refl
 width_alone (kind.Updated width more) = refl
@@ -115,7 +115,7 @@ width_alone (kind.IndexDeclared column k) = refl
 width_alone (kind.IndexDropped dropped) = refl
 
 -- the changes of a step and of older ones, by the parts of the step
-abbrev changes_by : ℕ → Kind → ℕ → ℕ → ℕ → List Step → List TupleRef → List CellSet → List Change
+abbrev pub changes_by : ℕ → Kind → ℕ → ℕ → ℕ → List Step → List TupleRef → List CellSet → List Change
 changes_by more k n start from older refs cells =
     one_by_one more k n (λ rs cs. change_of k n (drop start rs) (drop from cs) ∷ changes_of older (take start rs) (take from cs)) refs cells
 
@@ -216,6 +216,10 @@ module _ (c : CatalogState) (ok : IsConsistent c) (n : ℕ) (refs : List TupleRe
 
   pub rows_free : IsOutline (without_rows n refs (outline_of c)) → AreFreeRows c n refs
   rows_free stands = free_without c stands.0 ok stands.1 n refs stands.2 rows_there
+
+-- there is a relation of the number of a table that has rows
+pub held_there : (c : CatalogState) (n : ℕ) (refs : List TupleRef) → HoldsOnce (outline_of c) n refs → n < length c.relations
+held_there c n refs h = omega (arith, slice_get_within (map relation_outline c.relations) n h.relation h.there, length-map c.relations relation_outline)
 
 -- an index can be dropped of a table that declares it
 pub can_drop : (c : CatalogState) (ok : IsConsistent c) (n : TableNumber) (column : ColumnNumber) (k : IndexKind) → Declares (outline_of c) n.0 (declaration column k) → IsMeant c.limits (database_of c) (resolved.DropIndex n column k)

@@ -1,5 +1,5 @@
 -- What a log of changes is seen as.
-use Rattle.std.specs.Prelude.{◌≡◌, ℕ, zero, suc, ◌+◌, ◌-◌, ◌*◌, ◌≤◌, ◌++◌, List, [], ◌∷◌, Some, drop, length, map, refl, reverse, slice_get, take}
+use Rattle.std.specs.Prelude.{◌≡◌, ℕ, zero, suc, ◌+◌, ◌-◌, ◌*◌, ◌<◌, ◌≤◌, ◌++◌, List, [], ◌∷◌, Some, drop, length, map, refl, reverse, slice_get, take}
 use Rattle.std.specs.Coded.{Coded, code_by, coded×, coded_list, coded_ℕ}
 use Rattle.part_raw.specs.declared.tuple_ref.TupleRef.{TupleRef}
 use Rattle.mm_relation.specs.Declaring.{declaration}
@@ -11,7 +11,7 @@ use Rattle.mm_catalog.specs.State.{CatalogState}
 use Rattle.mm_transactions.specs.declared.step.Kind.{Kind}
 use Rattle.mm_transactions.specs.declared.step.Kind.TheVariants as kind
 use Rattle.mm_transactions.specs.declared.step.Step.{Step}
-use Rattle.mm_transactions.specs.Undoing.{Change, Came, Went, Updated, TableDeclared, TableDropped, IndexDeclared, IndexDropped, IsReady, LeadBack, before}
+use Rattle.mm_transactions.specs.Undoing.{Change, Came, Went, Updated, TableDeclared, TableDropped, IndexDeclared, IndexDropped, CanUndo, HaveSameTables, IsReady, LeadBack, before, undone}
 
 -- the changes of the open transactions, the newest first, and how many there were when each began, the innermost first
 pub record LogState : Type 0 where
@@ -113,6 +113,19 @@ pub record IsNewest (old new : List Step) (step : Step) (refs cells : ℕ) : Typ
   pub cells_start : step.cells_start ≤ cells
   pub steps : AreSteps (reverse new) step.start step.cells_start
 
+-- the changes of so many commands, by each of which one row came into the table of a number, the newest first, where these are the last references
+abbrev pub arrivals : ℕ → ℕ → List TupleRef → List Change
+arrivals n zero refs = []
+arrivals n (suc count) refs = Came n (drop (length refs - 1) refs) ∷ arrivals n count (take (length refs - 1) refs)
+
+-- so many commands, by each of which one row came into the table of a number, were taken out of steps, whose newest they were
+pub record AreArrivals (old new : List Step) (n count refs cells : ℕ) : Type 0 where
+  pub some : 0 < count
+  pub few : count ≤ refs
+  pub changes : (rs : List TupleRef) (cs : List CellSet) → length rs ≡ refs → length cs ≡ cells
+      → changes_of (reverse old) rs cs ≡ arrivals n count rs ++ changes_of (reverse new) (take (refs - count) rs) cs
+  pub steps : AreSteps (reverse new) (refs - count) cells
+
 -- a change was made of the old outline, and noted as the newest
 pub record IsNoted (old new : Outline) (log now : LogState) : Type 0 where
   pub change : Change
@@ -134,6 +147,15 @@ pub record IsUndone (old new : Outline) (log now : LogState) : Type 0 where
   pub undone : new ≡ before change old
   pub changes : log.changes ≡ change ∷ now.changes
   pub marks : now.marks ≡ log.marks
+
+-- The newest changes were undone, one or more and at most so many, and are no longer noted. The tables are the same.
+pub record AreUndone (count : ℕ) (old new : Outline) (log now : LogState) : Type 0 where
+  pub fewer : length now.changes < length log.changes
+  pub most : length log.changes ≤ length now.changes + count
+  pub marks : now.marks ≡ log.marks
+  pub ready : CanUndo now.changes new
+  pub earlier : (m : ℕ) → m ≤ length now.changes → undone m now.changes new ≡ undone m log.changes old
+  pub tables : HaveSameTables old new
 
 -- the catalog differs at most in hidden rows, and in how many rows are owed
 pub record AreSettled (old new : CatalogState) : Type 0 where

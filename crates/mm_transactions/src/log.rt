@@ -1,17 +1,17 @@
 //! What was done in the open transactions, and how it is undone.
-ghost use Rattle.std.specs.Prelude.{Bool, true, ◌≡◌, ◌≢◌, ◌⊎◌, ◌+◌, ◌<◌, ◌≤◌, ◌∷◌, ◌++◌, ℕ, [], MatchOption, IfErr, OnOk, OnErr, List, length, vec_capacity};
+ghost use Rattle.std.specs.Prelude.{Bool, true, false, ◌≡◌, ◌≢◌, ◌⊎◌, ◌+◌, ◌<◌, ◌≤◌, ◌∷◌, ◌++◌, ℕ, [], MatchOption, IfErr, OnOk, OnErr, List, drop, length, take, vec_capacity};
 ghost use Rattle.std.specs.List.{AllPairs};
 ghost use Rattle.part_raw.specs.declared.tuple_ref.TupleRef.{TupleRef};
 ghost use Rattle.mm_catalog.specs.Assigned.{CellSet};
-ghost use Rattle.mm_catalog.specs.Outline.{IsOutline, outline_of};
+ghost use Rattle.mm_catalog.specs.Outline.{HoldsOnce, IsOutline, outline_of, without_rows};
 ghost use Rattle.mm_transactions.specs.Log.{change_of};
 ghost use Rattle.mm_transactions.specs.Undoing.{IsReady, before, keeps_tables};
 
 use crate::lodged::Lodging;
-use crate::step::{Kind, Step, note, take_newest};
+use crate::step::{Kind, Step, note, take_arrivals, take_newest};
 use mm_catalog::Catalog;
 use mm_catalog::laws::a_catalog_is_consistent;
-use mm_relation::StoredCell;
+use mm_relation::{LEAST_IN_ORDER, Relations, SlotSet, StoredCell};
 use no_memory::NoMemory;
 use part_raw::TupleRef;
 use plain_tables::{
@@ -22,6 +22,9 @@ use std::marker::Model;
 
 // The most steps, and the most references, that a log keeps memory for when no transaction is open.
 const KEPT: usize = 256;
+
+// A set that has memory for this slot is not kept then.
+const KEPT_SLOTS: u32 = 65_536;
 
 /// The steps of the open transactions.
 #[derive(Drop)]
@@ -35,6 +38,8 @@ pub struct UndoLog {
     cells: Vec<(ColumnNumber, StoredCell)>,
     // How many commands there were when each transaction began, the innermost last.
     marks: Vec<usize>,
+    // Room to tell apart the rows that go out in a rollback, where they are many.
+    slots: SlotSet,
 }
 
 impl Model for UndoLog {
@@ -67,7 +72,7 @@ impl UndoLog {
     ghost use Rattle.plain_tables.specs.Effects.{Refused};
     ghost use Rattle.plain_tables.specs.Tables.{Row};
     ghost use Rattle.mm_catalog.specs.Settled.{settled_catalog};
-    ghost use Rattle.mm_transactions.specs.Log.{AreNoted, AreSettled, IsNoted, IsUndone};
+    ghost use Rattle.mm_transactions.specs.Log.{AreNoted, AreSettled, AreUndone, IsNoted, IsUndone};
     ghost use Rattle.mm_transactions.specs.Undoing.{CanUndo, HaveSameTables, undone};
 
     /// No steps, and no transaction. It takes no memory.
@@ -81,6 +86,7 @@ impl UndoLog {
             refs: Vec::new(alloc),
             cells: Vec::new(alloc),
             marks: Vec::new(alloc),
+            slots: SlotSet::new(alloc),
         }
     }
 
@@ -127,6 +133,9 @@ impl UndoLog {
             empty_list(&mut self.refs);
             empty_list(&mut self.cells);
             self.commands = 0;
+            if self.slots.covers(KEPT_SLOTS) {
+                self.slots = SlotSet::new(*self.steps.allocator());
+            }
         }
     }
 
@@ -168,6 +177,7 @@ impl UndoLog {
         self.refs.push_reserved(r);
         note(&mut self.steps, step, 1);
         self.commands += 1;
+        cover_many(&mut self.slots, self.refs.len(), catalog, table);
         Ok(())
     }
 
@@ -198,6 +208,7 @@ impl UndoLog {
         };
         note(&mut self.steps, step, end - start);
         self.commands += 1;
+        cover_many(&mut self.slots, end, catalog, table);
         Ok(())
     }
 
@@ -407,12 +418,29 @@ impl UndoLog {
         let step = take_newest(&mut self.steps, self.refs.len(), self.cells.len());
         self.commands -= 1;
         let keeps = step.kind.keeps_tables();
-        let rows = &self.refs[step.start..];
+        let rows = &mut self.refs[step.start..];
         let cells = &mut self.cells[step.cells_start..];
-        undo_step(catalog, step.kind, step.table, rows, cells);
+        undo_step(catalog, step.kind, step.table, rows, cells, &mut self.slots);
         self.refs.truncate(step.start);
         self.cells.truncate(step.cells_start);
         keeps
+    }
+
+    // Undoes the newest commands, so many at most, where by each one row came into the same table: their rows go at once. It tells
+    // whether it undid some, and takes no memory.
+    fn undo_arrivals(&mut self, catalog: &mut Catalog, most: usize) -> bool
+        requires { CanUndo self.old.changes (outline_of catalog.old) }
+        ensures undone { result ≡ true → AreUndone most (outline_of catalog.old) (outline_of catalog.new) self.old self.new }
+        ensures log { result ≡ false → self.new ≡ self.old }
+        ensures catalog { result ≡ false → catalog.new ≡ catalog.old }
+    {
+        let Some((table, count)) = take_arrivals(&mut self.steps, most) else {
+            return false;
+        };
+        self.commands -= count;
+        let start = self.refs.len() - count;
+        undo_came(catalog, table, &mut self.refs, start, &mut self.slots);
+        true
     }
 
     /// Undoes commands, the newest first, until so many are left. It takes no memory, and never fails. It tells whether which tables
@@ -428,7 +456,9 @@ impl UndoLog {
     {
         let mut kept = true;
         while self.len() > mark {
-            kept = self.undo_newest(catalog) && kept;
+            if !self.undo_arrivals(catalog, self.len() - mark) {
+                kept = self.undo_newest(catalog) && kept;
+            }
         }
         kept
     }
@@ -439,22 +469,51 @@ fn undo_step(
     catalog: &mut Catalog,
     kind: Kind,
     table: TableNumber,
-    rows: &[TupleRef],
+    rows: &mut [TupleRef],
     cells: &mut [(ColumnNumber, StoredCell)],
+    slots: &mut SlotSet,
 )
-    requires ready { IsReady (change_of kind table.0 rows.now cells.old) (outline_of catalog.old) }
-    requires stands { IsOutline (before (change_of kind table.0 rows.now cells.old) (outline_of catalog.old)) }
-    ensures { outline_of catalog.new ≡ before (change_of kind table.0 rows.now cells.old) (outline_of catalog.old) }
+    requires ready { IsReady (change_of kind table.0 rows.old cells.old) (outline_of catalog.old) }
+    requires stands { IsOutline (before (change_of kind table.0 rows.old cells.old) (outline_of catalog.old)) }
+    ensures { outline_of catalog.new ≡ before (change_of kind table.0 rows.old cells.old) (outline_of catalog.old) }
 {
     a_catalog_is_consistent(catalog);
     match kind {
-        Kind::Came { .. } => catalog.take_back(table, rows),
+        Kind::Came { .. } => catalog.take_many_back(table, rows, slots),
         Kind::Went { .. } => catalog.show(table, rows),
         Kind::Updated { width, .. } => catalog.change_back(table, rows, width, cells),
         Kind::TableDeclared { gained } => catalog.take_back_table(gained.as_slice()),
         Kind::TableDropped { dropped } => catalog.put_table_back(dropped.take()),
         Kind::IndexDeclared { column, kind } => catalog.drop_index(table, column, kind),
         Kind::IndexDropped { dropped } => catalog.put_index_back(table, dropped.take()),
+    }
+}
+
+// Takes the rows of a list's references, from the one at `start` on, out of a table again. It takes no memory.
+fn undo_came(
+    catalog: &mut Catalog,
+    table: TableNumber,
+    refs: &mut Vec<TupleRef>,
+    start: usize,
+    slots: &mut SlotSet,
+)
+    requires within { start ≤ length refs.old.items }
+    requires holds { HoldsOnce (outline_of catalog.old) table.0 (drop start refs.old.items) }
+    requires stands { IsOutline (without_rows table.0 (drop start refs.old.items) (outline_of catalog.old)) }
+    ensures gone { outline_of catalog.new ≡ without_rows table.0 (drop start refs.old.items) (outline_of catalog.old) }
+    ensures left { refs.new.items ≡ take start refs.old.items }
+{
+    let rows = &mut refs[start..];
+    undo_step(catalog, Kind::Came { more: 0 }, table, rows, &mut [], slots);
+    refs.truncate(start);
+}
+
+// Makes room for the slots of a table, where memory is found, and so many rows are noted that a rollback may put them in order.
+fn cover_many(slots: &mut SlotSet, noted: usize, catalog: &Catalog, table: TableNumber)
+    requires { table.0 < length catalog.now.relations }
+{
+    if noted >= LEAST_IN_ORDER {
+        let _ = slots.cover(catalog.at(table).slots());
     }
 }
 

@@ -3,10 +3,10 @@
 //! ```text
 //!  insert emp  ─▶  rows came, 0 more      insert emp  ─▶  rows came, 1 more      insert dept  ─▶  a step of its own
 //! ```
-ghost use Rattle.std.specs.Prelude.{Bool, true, false, ◌≡◌, ◌+◌, ◌<◌, ◌≤◌, ℕ, suc, List, MatchOption, length, reverse, vec_capacity};
+ghost use Rattle.std.specs.Prelude.{Bool, true, false, ◌≡◌, ◌+◌, ◌<◌, ◌≤◌, ℕ, suc, List, IfNone, IfSome, MatchOption, length, reverse, vec_capacity};
 ghost use Rattle.mm_catalog.specs.Assigned.{CellSet};
 ghost use Rattle.part_raw.specs.declared.tuple_ref.TupleRef.{TupleRef};
-ghost use Rattle.mm_transactions.specs.Log.{AreSteps, IsJoined, IsNewest, IsStepNoted, alone, change_of, more_of, width_of};
+ghost use Rattle.mm_transactions.specs.Log.{AreArrivals, AreSteps, IsJoined, IsNewest, IsStepNoted, alone, change_of, more_of, width_of};
 ghost use Rattle.mm_transactions.specs.Undoing.{keeps_tables};
 
 use crate::lodged::Lodged;
@@ -124,6 +124,22 @@ impl Kind {
         None
     }
 
+    // Takes so many of the commands behind the first out, or all where they are fewer, if rows came in by them, and tells how many.
+    fn take_arrivals(&mut self, most: usize) -> usize
+        ensures kind { alone self.new ≡ alone self.old }
+        ensures taken { more_of self.old ≡ result + more_of self.new }
+        ensures most { result ≤ most }
+        ensures none { result ≡ 0 → self.new ≡ self.old }
+        ensures came { 0 < result → alone self.old ≡ Kind.Came 0 }
+    {
+        let Kind::Came { more } = self else {
+            return 0;
+        };
+        let count = most.min(*more);
+        *more -= count;
+        count
+    }
+
     // Takes a command of one row in, if it is alike, and tells whether it did.
     fn take_in(&mut self, other: &Kind) -> bool
         requires alone { more_of other.now ≡ 0 }
@@ -171,6 +187,25 @@ pub fn take_newest(steps: &mut Vec<Step>, refs: usize, cells: usize) -> Step
         start: refs - 1,
         cells_start,
     }
+}
+
+/// Takes the newest commands out of steps, so many at most, where by each one row came into the same table: the table, and how many
+/// they are. It takes none where there are no such commands behind the first of the newest step.
+pub fn take_arrivals(steps: &mut Vec<Step>, most: usize) -> Option<(TableNumber, usize)>
+    ensures taken { IfSome result (λ came. (came.1 ≤ most) × ((refs cells : ℕ) → AreSteps (reverse steps.old.items) refs cells → AreArrivals steps.old.items steps.new.items came.0.0 came.1 refs cells)) }
+    ensures none { IfNone result (steps.new.items ≡ steps.old.items) }
+{
+    let count = steps.len();
+    if count == 0 {
+        return None;
+    }
+    let step = &mut steps[count - 1];
+    let table = step.table;
+    let taken = step.kind.take_arrivals(most);
+    if taken == 0 {
+        return None;
+    }
+    Some((table, taken))
 }
 
 // Notes a command of one row in the newest step, if that is alike, and tells whether it did.

@@ -14,19 +14,19 @@ ready c = subst (λ k. IsReady (change_of k c.args.table.0 c.args.rows.now c.arg
 stands : (c : In-Came) → IsOutline (without_rows c.args.table.0 c.args.rows.now (outline_of c.args.catalog.now))
 stands c = subst (λ k. IsOutline (before (change_of k c.args.table.0 c.args.rows.now c.args.cells.now) (outline_of c.args.catalog.now))) c.in-Came.is c.requires.stands
 
-pub take_back-requires-clause-there : goal.take_back-requires-clause-there
-take_back-requires-clause-there c =
-    let at = (goal.at.take_back-requires-clause-there c).In-Came in
+pub take_many_back-requires-clause-there : goal.take_many_back-requires-clause-there
+take_many_back-requires-clause-there c =
+    let at = (goal.at.take_many_back-requires-clause-there c).In-Came in
     table_there c.args.catalog.now c.a_catalog_is_consistent.ensures c.args.table.0 c.args.rows.now (ready at)
 
-pub take_back-requires-clause-held : goal.take_back-requires-clause-held
-take_back-requires-clause-held c =
-    let at = (goal.at.take_back-requires-clause-held c).In-Came in
+pub take_many_back-requires-clause-held : goal.take_many_back-requires-clause-held
+take_many_back-requires-clause-held c =
+    let at = (goal.at.take_many_back-requires-clause-held c).In-Came in
     rows_there c.args.catalog.now c.a_catalog_is_consistent.ensures c.args.table.0 c.args.rows.now (ready at)
 
-pub take_back-requires-clause-free : goal.take_back-requires-clause-free
-take_back-requires-clause-free c =
-    let at = (goal.at.take_back-requires-clause-free c).In-Came in
+pub take_many_back-requires-clause-free : goal.take_many_back-requires-clause-free
+take_many_back-requires-clause-free c =
+    let at = (goal.at.take_many_back-requires-clause-free c).In-Came in
     rows_free c.args.catalog.now c.a_catalog_is_consistent.ensures c.args.table.0 c.args.rows.now (ready at) (stands at)
 
 declared : (c : In-TableDeclared) → IsReady (TableDeclared (map (λ t. t.0) c.in-TableDeclared.gained.items)) (outline_of c.args.catalog.now)

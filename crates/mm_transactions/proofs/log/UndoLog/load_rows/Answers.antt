@@ -3,7 +3,7 @@ use Rattle.mm_transactions.specs.Undoing.{Came}
 use Rattle.mm_transactions.specs.Log.{ArePlaced, changes_of}
 use Rattle.mm_transactions.specs.declared.step.Kind.TheVariants as kind
 use Rattle.mm_transactions.specs.declared.step.Step.{Step}
-use Rattle.mm_transactions.proofs.Steps.{few_commands, noted_so}
+use Rattle.mm_transactions.proofs.Steps.{few_commands, held_there, noted_so}
 use Rattle.mm_transactions.proofs.log.UndoLog.load_rows.Goals as goal
 use Rattle.mm_transactions.proofs.log.UndoLog.load_rows.Goals.{After-note}
 
@@ -42,3 +42,6 @@ returns-clause-noted c =
       changes = (both (goal.at.returns-clause-noted c).After-note).0;
       marks = refl;
     })
+
+pub cover_many-requires : goal.cover_many-requires
+cover_many-requires c = held_there _ _ _ c.in_ok-load_listed.ensures.came.more.held
