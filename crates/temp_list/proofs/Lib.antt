@@ -12,4 +12,5 @@ pub mod OnlyRowLemmas
 pub mod KeepingLemmas
 pub mod SelectedLemmas
 pub mod OneOrder
+pub mod InOrder
 pub mod LeadingLemmas

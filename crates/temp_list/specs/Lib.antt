@@ -3,6 +3,7 @@ pub mod Leading
 pub mod Lists
 pub mod Seen
 pub mod Keyed
+pub mod Paired
 pub mod Ranges
 pub mod Selecting
 pub mod OnlyRow

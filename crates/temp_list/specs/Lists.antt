@@ -62,6 +62,10 @@ key_in relations table r = option_and_then (λ s. key_at s.rows r) (slice_get re
 abbrev pub row_keys : List RelationState → List ℕ → List TupleRef → List (Option Value)
 row_keys relations sources row = map (λ p. key_in relations p.0 p.1) (zip sources row)
 
+-- rows of one table in the order of their keys
+abbrev pub key_cmp : RelationState → TupleRef → TupleRef → Ordering
+key_cmp s = on (key_at s.rows) (option_cmp value_cmp)
+
 -- rows in the order of their keys
 abbrev pub keys_cmp : List RelationState → List ℕ → List TupleRef → List TupleRef → Ordering
 keys_cmp relations sources = on (row_keys relations sources) (slice_cmp (option_cmp value_cmp))

@@ -19,6 +19,7 @@ mod keyed;
 pub mod laws;
 mod list;
 mod only_row;
+mod paired;
 mod range;
 mod range_probe;
 mod row;
@@ -29,5 +30,6 @@ mod standing;
 
 pub use list::TempList;
 pub use only_row::find_only_row;
-pub use selecting::{find_few_rows, find_rows, select};
+pub use selecting::{find_few_rows, find_rows, find_rows_into, select};
+pub use sorting::are_in_key_order;
 pub use standing::stands;

@@ -74,6 +74,7 @@ pub fn append_range<P: Probe>(
     ensures err { OnErr result (out.new.items ≡ out.old.items) }
 {
     let before = out.len();
+    out.reserve(MOST_TAKEN)?;
     let mut walk = relation.walk_column(column, probe);
     let mut found: usize = 0;
     loop {

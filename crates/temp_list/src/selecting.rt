@@ -1,5 +1,5 @@
 //! The rows of one table that pass tests, found by a plan.
-ghost use Rattle.std.specs.Prelude.{◌<◌, IfOk, IfSome, length};
+ghost use Rattle.std.specs.Prelude.{◌<◌, IfOk, IfSome, OnOk, length};
 ghost use Rattle.plan_chooser.specs.Plans.{Fits};
 ghost use Rattle.plan_chooser.specs.declared.plans.SelectPlan.TheVariants as plans;
 ghost use Rattle.temp_list.specs.Reading.{AreSound, OfRelation, HasColumns};
@@ -72,106 +72,125 @@ pub fn find_few_rows<R: Relations>(
 
 // By the hash on the column of a test.
 fn find_by_hash<R: Relations>(
-    alloc: Global,
     tables: &R,
     table: TableNumber,
     tests: &[Test],
     n: usize,
-) -> Result<Vec<TupleRef>, NoMemory>
+    found: &mut Vec<TupleRef>,
+) -> Result<(), NoMemory>
     requires sound { AreSound (R.tables tables.now) }
     requires there { table.0 < length (R.tables tables.now) }
     requires columns { OfRelation (R.tables tables.now) table.0 (λ s. HasColumns s tests.now) }
     requires fits { OfRelation (R.tables tables.now) table.0 (λ s. Fits s tests.now (plans.Hash n)) }
-    ensures { IfOk result (λ rows. OfRelation (R.tables tables.now) table.0 (λ s. AreSelected (R.tables tables.now) s tests.now rows.items)) }
+    ensures { OnOk result (OfRelation (R.tables tables.now) table.0 (λ s. AreSelected (R.tables tables.now) s tests.now found.new.items)) }
 {
     let relation = tables.at(table);
     a_relation_is_kept(relation);
     let test = &tests[n];
-    let mut found = Vec::new(alloc);
-    rows_by_hash(
-        tables,
-        relation,
-        test.column,
-        &test.value.sought(),
-        &mut found,
-    )?;
-    keep_passing_others(tables, relation, tests, n, &mut found);
-    Ok(found)
+    found.clear();
+    rows_by_hash(tables, relation, test.column, &test.value.sought(), found)?;
+    keep_passing_others(tables, relation, tests, n, found);
+    Ok(())
 }
 
 // By the tree on the column of a test: the rows that pass this test.
 fn find_by_one_test<R: Relations>(
-    alloc: Global,
     tables: &R,
     table: TableNumber,
     tests: &[Test],
     n: usize,
-) -> Result<Vec<TupleRef>, NoMemory>
+    found: &mut Vec<TupleRef>,
+) -> Result<(), NoMemory>
     requires sound { AreSound (R.tables tables.now) }
     requires there { table.0 < length (R.tables tables.now) }
     requires columns { OfRelation (R.tables tables.now) table.0 (λ s. HasColumns s tests.now) }
     requires fits { OfRelation (R.tables tables.now) table.0 (λ s. Fits s tests.now (plans.Tree n)) }
-    ensures { IfOk result (λ rows. OfRelation (R.tables tables.now) table.0 (λ s. AreSelected (R.tables tables.now) s tests.now rows.items)) }
+    ensures { OnOk result (OfRelation (R.tables tables.now) table.0 (λ s. AreSelected (R.tables tables.now) s tests.now found.new.items)) }
 {
     let relation = tables.at(table);
     a_relation_is_kept(relation);
     let test = &tests[n];
-    let mut found = Vec::new(alloc);
+    found.clear();
     rows_by_tree(
         tables,
         relation,
         test.column,
         test.op,
         &test.value.sought(),
-        &mut found,
+        found,
     )?;
-    keep_passing_others(tables, relation, tests, n, &mut found);
-    Ok(found)
+    keep_passing_others(tables, relation, tests, n, found);
+    Ok(())
 }
 
 // By the tree on the column of a test: the rows between all bounds on that column.
 fn find_between<R: Relations>(
-    alloc: Global,
     tables: &R,
     table: TableNumber,
     tests: &[Test],
     n: usize,
-) -> Result<Vec<TupleRef>, NoMemory>
+    found: &mut Vec<TupleRef>,
+) -> Result<(), NoMemory>
     requires sound { AreSound (R.tables tables.now) }
     requires there { table.0 < length (R.tables tables.now) }
     requires columns { OfRelation (R.tables tables.now) table.0 (λ s. HasColumns s tests.now) }
     requires fits { OfRelation (R.tables tables.now) table.0 (λ s. Fits s tests.now (plans.Tree n)) }
-    ensures { IfOk result (λ rows. OfRelation (R.tables tables.now) table.0 (λ s. AreSelected (R.tables tables.now) s tests.now rows.items)) }
+    ensures { OnOk result (OfRelation (R.tables tables.now) table.0 (λ s. AreSelected (R.tables tables.now) s tests.now found.new.items)) }
 {
     let relation = tables.at(table);
     a_relation_is_kept(relation);
     let test = &tests[n];
-    let mut found = Vec::new(alloc);
-    rows_between(tables, relation, test.column, tests, &mut found)?;
-    keep_passing_unbounded(tables, relation, test.column, tests, &mut found);
-    Ok(found)
+    found.clear();
+    rows_between(tables, relation, test.column, tests, found)?;
+    keep_passing_unbounded(tables, relation, test.column, tests, found);
+    Ok(())
 }
 
 // By the tree on the column of a test. One that asks for one value is served by one search; others by the bounds of all tests on
 // the column.
 fn find_by_tree<R: Relations>(
-    alloc: Global,
     tables: &R,
     table: TableNumber,
     tests: &[Test],
     n: usize,
-) -> Result<Vec<TupleRef>, NoMemory>
+    found: &mut Vec<TupleRef>,
+) -> Result<(), NoMemory>
     requires sound { AreSound (R.tables tables.now) }
     requires there { table.0 < length (R.tables tables.now) }
     requires columns { OfRelation (R.tables tables.now) table.0 (λ s. HasColumns s tests.now) }
     requires fits { OfRelation (R.tables tables.now) table.0 (λ s. Fits s tests.now (plans.Tree n)) }
-    ensures { IfOk result (λ rows. OfRelation (R.tables tables.now) table.0 (λ s. AreSelected (R.tables tables.now) s tests.now rows.items)) }
+    ensures { OnOk result (OfRelation (R.tables tables.now) table.0 (λ s. AreSelected (R.tables tables.now) s tests.now found.new.items)) }
 {
     match tests.get(n) {
         Some(test) if matches!(test.op, Op::Eq) => {
-            find_by_one_test(alloc, tables, table, tests, n)
+            find_by_one_test(tables, table, tests, n, found)
         }
-        _ => find_between(alloc, tables, table, tests, n),
+        _ => find_between(tables, table, tests, n, found),
+    }
+}
+
+/// Makes the vector the rows of a table that pass the tests, each once, in any order, found by a plan that fits. What the vector had is
+/// let go, and its room is kept. A failure may leave any rows there.
+pub fn find_rows_into<R: Relations>(
+    tables: &R,
+    table: TableNumber,
+    plan: SelectPlan,
+    tests: &[Test],
+    found: &mut Vec<TupleRef>,
+) -> Result<(), NoMemory>
+    requires sound { AreSound (R.tables tables.now) }
+    requires there { table.0 < length (R.tables tables.now) }
+    requires columns { OfRelation (R.tables tables.now) table.0 (λ s. HasColumns s tests.now) }
+    requires fits { OfRelation (R.tables tables.now) table.0 (λ s. Fits s tests.now plan) }
+    ensures { OnOk result (OfRelation (R.tables tables.now) table.0 (λ s. AreSelected (R.tables tables.now) s tests.now found.new.items)) }
+{
+    match plan {
+        SelectPlan::Scan => {
+            *found = find_by_scan(*found.allocator(), tables, table, tests)?;
+            Ok(())
+        }
+        SelectPlan::Hash(n) => find_by_hash(tables, table, tests, n, found),
+        SelectPlan::Tree(n) => find_by_tree(tables, table, tests, n, found),
     }
 }
 
@@ -189,11 +208,9 @@ pub fn find_rows<R: Relations>(
     requires fits { OfRelation (R.tables tables.now) table.0 (λ s. Fits s tests.now plan) }
     ensures { IfOk result (λ rows. OfRelation (R.tables tables.now) table.0 (λ s. AreSelected (R.tables tables.now) s tests.now rows.items)) }
 {
-    match plan {
-        SelectPlan::Scan => find_by_scan(alloc, tables, table, tests),
-        SelectPlan::Hash(n) => find_by_hash(alloc, tables, table, tests, n),
-        SelectPlan::Tree(n) => find_by_tree(alloc, tables, table, tests, n),
-    }
+    let mut rows = Vec::new(alloc);
+    find_rows_into(tables, table, plan, tests, &mut rows)?;
+    Ok(rows)
 }
 
 /// A list of the rows of a table that pass the tests, each once, in any order, found by a plan that fits. It shows no columns.

@@ -5,15 +5,16 @@ ghost use Rattle.std.specs.Option.{option_cmp};
 ghost use Rattle.plain_tables.specs.Values.{value_cmp};
 ghost use Rattle.mm_relation.specs.Reading.{key_at};
 ghost use Rattle.temp_list.specs.Leading.{LeadsWith, AreLedByRising};
-ghost use Rattle.temp_list.specs.Lists.{keys_cmp};
+ghost use Rattle.temp_list.specs.Lists.{key_cmp, keys_cmp};
 ghost use Rattle.temp_list.specs.Seen.{AreTables, listed_cmp, lists};
 
-use crate::keyed::{keyed_rows, sort_keyed};
+use crate::keyed::{integer_key, keyed_rows, sort_keyed};
+use crate::paired::{paired_rows, sort_paired};
 use crate::row::ListedRow;
 use mm_relation::{Relation, Relations};
 use no_memory::NoMemory;
 use part_raw::TupleRef;
-use plain_tables::{SeenValue, TableNumber};
+use plain_tables::TableNumber;
 use std::cmp::Ordering;
 
 // Compares the keys of two rows of a relation. A row is not read to be compared with itself.
@@ -25,6 +26,13 @@ fn compare_keys(relation: &Relation, q: TupleRef, r: TupleRef) -> Ordering
         return Ordering::Equal;
     }
     relation.key_if_held(q).cmp(&relation.key_if_held(r))
+}
+
+/// Whether no row of a table is below the one before it, by their keys.
+pub fn are_in_key_order(relation: &Relation, rows: &[TupleRef]) -> bool
+    ensures { IsTrue result ↔ IsSorted (key_cmp relation.now) rows.now }
+{
+    rows.is_sorted_by(|a, b| -> bool { compare_keys(relation, *b, *a).is_ge() })
 }
 
 // Compares two rows by their keys, the first source's first.
@@ -59,10 +67,7 @@ fn leading_key(relation: &Relation, row: &[TupleRef]) -> Option<i64>
     ensures { IfSome result (LeadsWith relation.now row.now) }
 {
     let r = row.first()?;
-    match relation.key_if_held(*r)?.seen() {
-        SeenValue::Int(key) => Some(key),
-        _ => None,
-    }
+    integer_key(relation, *r)
 }
 
 // Whether the key of each row's first source stands above that of the row before, and all of them are integers. Each is read
@@ -144,8 +149,13 @@ pub fn sort_rows<R: Relations>(
     if rises(tables, sources, rows.as_slice()) {
         return Ok(());
     }
-    match keyed_rows(*rows.allocator(), tables, sources, rows.as_slice())? {
-        Some(keyed) => sort_keyed(tables, sources, keyed, rows),
-        None => sort_by_reading(tables, sources, rows),
+    let alloc = *rows.allocator();
+    if let Some(keyed) = keyed_rows(alloc, tables, sources, rows.as_slice())? {
+        return sort_keyed(tables, sources, keyed, rows);
     }
+    if let Some(paired) = paired_rows(alloc, tables, sources, rows.as_slice())? {
+        sort_paired(tables, sources, paired, rows);
+        return Ok(());
+    }
+    sort_by_reading(tables, sources, rows)
 }

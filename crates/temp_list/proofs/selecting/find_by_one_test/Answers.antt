@@ -9,7 +9,7 @@ pub keep_passing_others-requires-clause-held : goal.keep_passing_others-requires
 keep_passing_others-requires-clause-held g c =
     found_held (g.R.Relations.tables c.args.tables.now) c.at-relation.result.now c.a_relation_is_kept.ensures c.rows_by_tree.new.out.items
     (λ q. stands c.index-tests-n.result.op (value_in (g.R.Relations.tables c.args.tables.now) c.at-relation.result.now c.index-tests-n.result.column.0 q) c.index-tests-n.result.value)
-    (all_appended c.new-found.result.items _ _ c.new-found.ensures.items (rw c.sought.ensures at c.in_ok-rows_by_tree.ensures.ok))
+    (all_appended c.clear.new.self.items _ _ c.clear.ensures.items (rw c.sought.ensures at c.in_ok-rows_by_tree.ensures.ok))
 
 pub keep_passing_others-requires-clause-current : goal.keep_passing_others-requires-clause-current
 keep_passing_others-requires-clause-current g c = (sound_at (g.R.Relations.tables c.args.tables.now) c.requires.sound c.args.table.0 c.at-relation.result.now c.at-relation.ensures).1
@@ -20,7 +20,7 @@ returns g c =
     (selected_left (g.R.Relations.tables c.args.tables.now) c.at-relation.result.now c.a_relation_is_kept.ensures c.args.tests.now c.rows_by_tree.new.out.items c.keep_passing_others.new.rows.items
     (λ q. stands c.index-tests-n.result.op (value_in (g.R.Relations.tables c.args.tables.now) c.at-relation.result.now c.index-tests-n.result.column.0 q) c.index-tests-n.result.value)
     (row_passes (g.R.Relations.tables c.args.tables.now) c.at-relation.result.now (all_but c.args.n c.args.tests.now))
-    (all_appended c.new-found.result.items _ _ c.new-found.ensures.items (rw c.sought.ensures at c.in_ok-rows_by_tree.ensures.ok))
+    (all_appended c.clear.new.self.items _ _ c.clear.ensures.items (rw c.sought.ensures at c.in_ok-rows_by_tree.ensures.ok))
     (passes_others (g.R.Relations.tables c.args.tables.now) c.at-relation.result.now c.args.tests.now c.args.n c.index-tests-n.result
     (c.requires.fits c.at-relation.result.now c.at-relation.ensures).0 c.index-tests-n.is)
     c.keep_passing_others.ensures)
