@@ -2,7 +2,7 @@
 use Rattle.std.proofs.Common.{◌≡◌, ◌∙◌, ◌<◌, ℕ, false, List, [], ◌∷◌, ◌++◌, Some, length, map, refl, sym, ap, subst}
 use Rattle.std.specs.Prelude.{slice_get, zip}
 use Rattle.std.specs.List.{All, cons_option, filter_map, flat_map, list_any}
-use Rattle.std.specs.Option.{is_none, option_and_then, option_map, option_map_or}
+use Rattle.std.specs.Option.{is_none}
 use Rattle.std.proofs.lemmas.Bool.{or_parts}
 use Rattle.std.proofs.lemmas.List.{length-map, map-id}
 use Rattle.std.proofs.lemmas.List.Elements.{All-cons, All-head, All-nil, All-tail}
@@ -13,30 +13,26 @@ use Rattle.plain_tables.specs.Joining.{members_of}
 use Rattle.plain_tables.specs.Queries.{JoinedColumn, column_meant, full_name, joined_columns, named_items, places_meant}
 use Rattle.plain_tables.specs.References.{type_of}
 use Rattle.plain_tables.specs.Resolving.{behind, columns_of, join_columns, joins_of, once, select_checks, select_names, shown_of, source_of}
-use Rattle.plain_tables.specs.ResolvedLaws.{HasPlace}
 use Rattle.plain_tables.specs.Tables.{Table}
 use Rattle.plain_tables.specs.WrittenLaws.{MeansAt, tables_named}
 use Rattle.plain_tables.specs.declared.command.Items.{Items}
 use Rattle.plain_tables.specs.declared.command.Items.TheVariants as items
 use Rattle.plain_tables.specs.declared.command.Join.{Join}
-use Rattle.plain_tables.specs.declared.command.Limits.{Limits}
 use Rattle.plain_tables.specs.declared.condition.ColName.{ColName}
 use Rattle.plain_tables.specs.declared.condition.Cond.{Cond}
 use Rattle.plain_tables.specs.declared.numbers.Place.{Place}
 use Rattle.plain_tables.specs.declared.resolved.Joined.{Joined}
-use Rattle.plain_tables.specs.declared.resolved.Query.{Query}
 use Rattle.plain_tables.specs.declared.resolved.Resolved.{Resolved}
 use Rattle.plain_tables.specs.declared.resolved.Resolved.TheVariants as resolved
 use Rattle.plain_tables.specs.declared.resolved.Shown.{Shown}
 use Rattle.plain_tables.specs.declared.resolved.Shown.TheVariants as shown
 use Rattle.plain_tables.specs.declared.resolved.Source.{Source}
-use Rattle.plain_tables.specs.declared.value.Value.{Value}
 use Rattle.plain_tables.proofs.ColumnLemmas.{IsAt, columns_at, place_found}
 use Rattle.plain_tables.proofs.Meanings.{if_checked, satisfies}
 use Rattle.plain_tables.proofs.SelectLemmas.{numbered, some_sides}
 use Rattle.plain_tables.proofs.WrittenLemmas.{all_mean, has_passed}
-use Rattle.mm_session.specs.ColumnLaws.{ColumnsAreTheHeading, TellsHeading, items_meant, name_and_kind}
-use Rattle.mm_session.specs.Columns.{column_told, columns_told, kind_at, kind_number}
+use Rattle.mm_session.specs.ColumnLaws.{ColumnsAreTheHeading, TellsHeading, name_and_kind}
+use Rattle.mm_session.specs.Columns.{column_told, columns_told, kind_at}
 use Rattle.mm_session.specs.Shown.{heading, places_shown}
 use Rattle.mm_session.proofs.ShowLemmas.{headings_shown}
 

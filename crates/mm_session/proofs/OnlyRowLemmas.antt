@@ -1,5 +1,5 @@
 -- What is shown of the one row that passes.
-use Rattle.std.proofs.Common.{◌≡◌, ◌∙◌, ℕ, ◌<◌, List, [], ◌∷◌, Option, None, Some, IsSome, refl, sym, ap, subst, arith, append-nil, length, map}
+use Rattle.std.proofs.Common.{◌≡◌, ◌∙◌, ℕ, ◌<◌, List, [], ◌∷◌, Option, None, Some, IsSome, refl, sym, ap, subst, arith, append-nil, get_or, length, map}
 use Rattle.std.specs.Prelude.{pos, slice_get}
 use Rattle.std.specs.FinMap as finite
 use Rattle.std.specs.List.{All, cons_option, range_with_len}
@@ -29,12 +29,12 @@ use Rattle.mm_catalog.specs.Picked.{seen_values}
 use Rattle.mm_catalog.proofs.Among.{among_at}
 use Rattle.temp_list.specs.Reading.{value_in}
 use Rattle.temp_list.proofs.SelectLemmas.{passing_held}
-use Rattle.mm_session.specs.OnlyRow.{ShowsOnly, columns_shown, values_shown}
+use Rattle.mm_session.specs.OnlyRow.{ShowsOnly, ShowsRows, columns_shown, values_shown}
 use Rattle.mm_session.specs.Members.{tables_at}
 use Rattle.mm_session.specs.Shown.{heading, places_shown}
 use Rattle.mm_session.specs.Walked.{rows_shown, shown_row}
 use Rattle.mm_session.proofs.DumpLemmas.{seen_long}
-use Rattle.mm_session.proofs.MemberLemmas.{value_seen, width_same}
+use Rattle.mm_session.proofs.MemberLemmas.{map_same, value_seen, width_same}
 use Rattle.mm_session.proofs.PlaceLemmas.{place_at, places_from}
 use Rattle.mm_session.proofs.WalkedLemmas.{columns_over, heads_shown, places_some, walked_rows}
 
@@ -99,6 +99,17 @@ module _ (c : CatalogState) (ok : IsConsistent c) (query : Query) (one : IsMeant
 
   pub width_some : 0 < length (columns_shown (length s.schema.columns) query.shown)
   width_some = let some = places_some c ok query one s there places refl in omega (arith, some, wide)
+
+  -- the rows that pass are what is shown
+  module _ (rows : List TupleRef) (shows : ShowsRows c query rows) where
+    pub found_shown : map (values_shown c s query.shown) rows ≡ rows_shown c query
+    found_shown =
+        map_same (values_shown c s query.shown) (shown_row c s places) rows (λ k d l. values_same (get_or rows k d))
+        ∙ ap (map (shown_row c s places)) (sym (shows.pass s there)) ∙ walked_rows c ok query one s there places refl shows.ordered.0
+
+    -- and they are held
+    pub found_held : All (λ r. IsSome (finite.get s.rows r)) rows
+    found_held = subst (All (λ r. IsSome (finite.get s.rows r))) (shows.pass s there) (passing_held c.relations s (among_at c ok n s there).kept query.source.tests)
 
   -- the row that passes is what is shown
   module _ (row : Option TupleRef) (only : ShowsOnly c query row) where

@@ -1,11 +1,10 @@
 -- Reading requests: what a line means of tables, what comes of that, and what hands it back.
-use Rattle.std.proofs.Common.{◌≡◌, ℕ, List, Ok, Err}
+use Rattle.std.proofs.Common.{◌≡◌, ℕ, List, Err}
 use Rattle.std.specs.Prelude.{◌≢◌, IsTrue}
 use Rattle.plain_tables.proofs.GivenLemmas.{spellable_are_given}
 use Rattle.plain_tables.proofs.ResolvedLemmas.{resolved_are_meant}
 use Rattle.plain_tables.proofs.Spellable.{spelled-spellable}
 use Rattle.plain_tables.specs.CsvReading.{Record}
-use Rattle.plain_tables.specs.Databases.{Database}
 use Rattle.plain_tables.specs.Doing.{done}
 use Rattle.plain_tables.specs.ResolvedLaws.{IsMeant}
 use Rattle.plain_tables.specs.Resolving.{resolved_of}

@@ -22,6 +22,7 @@ pub mod Planned
 pub mod Reads
 pub mod Refused
 pub mod Responding
+pub mod Rooms
 pub mod Sessions
 pub mod Shown
 pub mod Sinks

@@ -14,6 +14,11 @@ use Rattle.mm_catalog.specs.State.{CatalogState}
 use Rattle.temp_list.specs.Reading.{OfRelation, passing, value_in}
 use Rattle.mm_session.specs.Walked.{IsOrdered}
 
+-- The query is one of a table alone, whose rows are shown in the order of their keys. These are the rows that pass, in that order.
+pub record ShowsRows (c : CatalogState) (query : Query) (rows : List TupleRef) : Type 0 where
+  pub ordered : IsOrdered query
+  pub pass : OfRelation c.relations query.source.table.0 (λ s. passing c.relations s query.source.tests ≡ rows)
+
 -- The query is one of a table alone, whose rows are shown in the order of their keys. This row passes, or none, and no other does.
 pub record ShowsOnly (c : CatalogState) (query : Query) (row : Option TupleRef) : Type 0 where
   pub ordered : IsOrdered query

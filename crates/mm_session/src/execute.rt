@@ -6,6 +6,7 @@ mod cells;
 mod changing;
 mod columns;
 mod counted;
+mod found;
 mod indexes;
 mod listing;
 mod only_row;

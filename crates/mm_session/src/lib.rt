@@ -28,6 +28,7 @@ mod answer;
 mod execute;
 mod fault;
 pub mod laws;
+mod room;
 mod session;
 mod stream;
 
@@ -35,6 +36,7 @@ pub use answer::Answer;
 pub use execute::search::rows_passing;
 pub use execute::told::{NextJoin, ToldPlan, Way};
 pub use fault::{CountFault, NotOneRequest, ReadFault, RunFault, SessionFault};
+pub use room::SelectRoom;
 pub use session::Session;
 pub use stream::lines::{Judged, LONGEST_LINE, judge_line, split_line};
 pub use stream::outlet::{Outlet, PromptRead};

@@ -6,6 +6,7 @@ ghost use Rattle.std.specs.Io.KnownBytes.{Keeps};
 use crate::answer::Answer;
 use crate::execute::told::ToldPlan;
 use crate::fault::{CountFault, NotOneRequest, ReadFault, SessionFault};
+use crate::room::SelectRoom;
 use crate::stream::outlet::{Lent, Outlet};
 use crate::stream::responder::Responder;
 use mm_catalog::Catalog;
@@ -62,6 +63,7 @@ impl Session {
     ghost use Rattle.plain_tables.specs.declared.resolved.Resolved.TheVariants as resolved;
     ghost use Rattle.mm_session.specs.Changing.{HasChanged, HasDeclined, IsChange, IsDeleteByKey, ShowsValues};
     ghost use Rattle.mm_session.specs.Columns.{columns_told};
+    ghost use Rattle.mm_session.specs.Rooms.{IsBounded};
     ghost use Rattle.mm_session.specs.Counting.{HasRows};
     ghost use Rattle.mm_session.specs.Told.{IsPlanOf};
     ghost use Rattle.mm_session.specs.Sessions.{State, Gains, Feeds, Finishes, BreaksOff, new_session, tables_of};
@@ -257,17 +259,24 @@ impl Session {
     }
 
     /// Makes the cells the values that a select shows, a row behind the other, and tells how many columns each row has. A failure
-    /// may leave any cells there; `TooLong` comes only if their texts have 4 GiB or more then.
-    pub fn select(&self, query: &Query, cells: &mut Cells) -> Result<usize, CellFault>
+    /// may leave any cells there; `TooLong` comes only if their texts have 4 GiB or more then. The rows are found in the room, of which
+    /// at most 64 KiB are kept.
+    pub fn select(
+        &self,
+        query: &Query,
+        room: &mut SelectRoom,
+        cells: &mut Cells,
+    ) -> Result<usize, CellFault>
         requires { IsMeant self.now.limits self.now.database (resolved.Select query.now) }
         ensures shown { IfOk result (λ columns. ShowsValues (done self.now.limits self.now.database (resolved.Select query.now)).outcome columns (values_of cells.new)) }
         ensures some { IfOk result (λ columns. 0 < columns) }
         ensures too_long { IsErrOf result CellFault.TooLong → AreFull (values_of cells.new) }
+        ensures room { IsBounded room.new }
     {
         let executor = &self.responder.executor;
         executor
             .reading()
-            .select_values(executor.tables.catalog(), query, cells)
+            .select_values(executor.tables.catalog(), query, room, cells)
     }
 
     /// How many rows a select shows. They are counted as they are found, and none of their values is kept.

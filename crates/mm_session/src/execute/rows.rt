@@ -4,7 +4,7 @@ ghost use Rattle.std.specs.Prelude.{◌≡◌, ◌∷◌, ◌<◌, ℕ, [], Some
 ghost use Rattle.std.specs.FinMap as finite;
 ghost use Rattle.std.specs.List.{All};
 ghost use Rattle.mm_catalog.specs.Picked.{seen_values};
-ghost use Rattle.temp_list.specs.Lists.{IsOver, HasPlace};
+ghost use Rattle.temp_list.specs.Lists.{IsOver, IsRowOver, HasPlace};
 ghost use Rattle.mm_session.specs.OnlyRow.{columns_shown, values_shown};
 ghost use Rattle.mm_session.specs.Shown.{placed_values};
 ghost use Rattle.mm_session.specs.Sinks.{PutsValues, PutsRows};
@@ -14,8 +14,8 @@ use super::sink::RowSink;
 use mm_catalog::Catalog;
 use mm_catalog::laws::a_catalog_is_consistent;
 use mm_relation::laws::a_relation_is_kept;
-use mm_relation::{Relation, TupleRef};
-use plain_tables::{ColumnNumber, Place, Shown};
+use mm_relation::{Relation, Relations, TupleRef};
+use plain_tables::{ColumnNumber, Place, Shown, TableNumber};
 use temp_list::TempList;
 
 /// Puts the values at these places of a row of one table behind those of the row that the sink has.
@@ -105,8 +105,29 @@ pub fn push_shown<'a, S: RowSink<'a>>(
     sink.end_row()
 }
 
-// Puts a row of a list into a sink: the values at these places.
-fn push_row<'a, S: RowSink<'a>>(
+// Puts a row of a list over one table into a sink: the values at these places. Its row is looked up once.
+#[inline]
+fn push_single<'a, S: RowSink<'a>>(
+    sink: &mut S,
+    catalog: &'a Catalog,
+    table: TableNumber,
+    r: TupleRef,
+    places: &[Place],
+) -> Result<(), S::Fault>
+    requires there { table.0 < length catalog.now.relations }
+    requires row { IsRowOver catalog.now.relations (table.0 ∷ []) (r ∷ []) }
+    requires places { All (HasPlace catalog.now.relations (table.0 ∷ [])) places.now }
+    requires some { 0 < length places.now }
+    ensures put { OnOk result (PutsRows S.received sink.old sink.new (placed_values catalog.now (table.0 ∷ []) places.now (r ∷ []) ∷ [])) }
+    ensures declined { IfErr result (S.declines sink.new) }
+{
+    a_catalog_is_consistent(catalog);
+    push_placed(sink, catalog, catalog.at(table), r, places)?;
+    sink.end_row()
+}
+
+// Puts a row of a list over any sources into a sink: the values at these places.
+fn push_joined<'a, S: RowSink<'a>>(
     sink: &mut S,
     catalog: &'a Catalog,
     list: &TempList,
@@ -125,6 +146,28 @@ fn push_row<'a, S: RowSink<'a>>(
         sink.push_value(list.place_value(catalog, row, *place))?;
     }
     sink.end_row()
+}
+
+// Puts a row of a list into a sink: the values at these places.
+fn push_row<'a, S: RowSink<'a>>(
+    sink: &mut S,
+    catalog: &'a Catalog,
+    list: &TempList,
+    row: usize,
+    places: &[Place],
+) -> Result<(), S::Fault>
+    requires over { IsOver catalog.now.relations list.now }
+    requires places { All (HasPlace catalog.now.relations list.now.sources) places.now }
+    requires some { 0 < length places.now }
+    requires row { row < length list.now.rows }
+    ensures put { OnOk result (PutsRows S.received sink.old sink.new (placed_values catalog.now list.now.sources places.now (slice_index_or list.now.rows row []) ∷ [])) }
+    ensures declined { IfErr result (S.declines sink.new) }
+{
+    a_catalog_is_consistent(catalog);
+    match list.sources() {
+        [table] => push_single(sink, catalog, *table, list.row(row)[0], places),
+        _ => push_joined(sink, catalog, list, row, places),
+    }
 }
 
 /// Puts the rows of a list into a sink: of each the values at these places.

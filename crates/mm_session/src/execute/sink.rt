@@ -58,12 +58,12 @@ impl<'a> RowSink<'a> for Cells {
 
     ghost by_memory = { Prim.search rules };
 
-    #[inline]
+    #[inline(always)]
     fn push_value(&mut self, value: &'a StoredValue) -> Result<(), CellFault> {
         self.push(value)
     }
 
-    #[inline]
+    #[inline(always)]
     fn end_row(&mut self) -> Result<(), CellFault> {
         Ok(())
     }

@@ -1,4 +1,4 @@
-use Rattle.std.proofs.Common.{◌∙◌, ap, Err, IfOk}
+use Rattle.std.proofs.Common.{◌∙◌, ap, Err}
 use Rattle.std.proofs.lemmas.Result.{IfErr-weaker, IfOk-weaker}
 use Rattle.mm_csv.specs.BlockReading.{block_records}
 use Rattle.mm_session.specs.Answered.{no_memory, not_a_command}

@@ -14,13 +14,13 @@ pub returns-clause-shown : goal.returns-clause-shown
 returns-clause-shown c =
     let catalog = c.args.catalog.now in
     let query = c.args.query.now in
-    cells_shown c.push_select.result c.clear.new.self c.push_select.new.sink (rows_shown catalog query)
-    (length (headings (joined_tables (database_of catalog) query.source query.joins) query.shown)) c.clear.ensures c.push_select.ensures.shown c.push_select.ensures.columns
+    cells_shown c.push_select-columns.result c.clear.new.self c.push_select-columns.new.sink (rows_shown catalog query)
+    (length (headings (joined_tables (database_of catalog) query.source query.joins) query.shown)) c.clear.ensures c.push_select-columns.ensures.shown c.push_select-columns.ensures.columns
 
 pub returns-clause-some : goal.returns-clause-some
 returns-clause-some c =
     let some = heads_some c.args.catalog.now c.a_catalog_is_consistent.ensures c.args.query.now c.requires in
-    IfOk-weaker c.push_select.result _ _ (λ k is. omega (arith, is, some)) c.push_select.ensures.columns
+    IfOk-weaker c.push_select-columns.result _ _ (λ k is. omega (arith, is, some)) c.push_select-columns.ensures.columns
 
 pub returns-clause-too_long : goal.returns-clause-too_long
-returns-clause-too_long c = declined_so c.push_select.result fault.TooLong (AreFull (values_of c.push_select.new.sink)) c.push_select.ensures.declined
+returns-clause-too_long c = declined_so c.push_select-columns.result fault.TooLong (AreFull (values_of c.push_select-columns.new.sink)) c.push_select-columns.ensures.declined

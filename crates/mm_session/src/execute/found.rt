@@ -1,0 +1,58 @@
+//! A select of one table whose rows an index finds in the order of their keys: what is shown of them is taken from where they lie, and
+//! no list is made.
+
+ghost use Rattle.std.specs.Prelude.{◌≡◌, IfErr, IfOk, IsTrue, OnOk, length};
+ghost use Rattle.plain_tables.specs.Doing.{headings, joined_tables};
+ghost use Rattle.plain_tables.specs.ResolvedLaws.{IsMeant};
+ghost use Rattle.plain_tables.specs.declared.resolved.Resolved.TheVariants as resolved;
+ghost use Rattle.mm_catalog.specs.Seen.{database_of};
+ghost use Rattle.temp_list.specs.Reading.{OfRelation};
+ghost use Rattle.temp_list.specs.Selecting.{AreSelected};
+ghost use Rattle.mm_session.specs.OnlyRow.{ShowsRows};
+ghost use Rattle.mm_session.specs.Sinks.{PutsRows};
+ghost use Rattle.mm_session.specs.Walked.{IsOrdered, rows_shown};
+
+use super::ReadExecutor;
+use super::only_row::shown_width;
+use super::rows::push_shown;
+use super::sink::RowSink;
+use mm_catalog::Catalog;
+use mm_catalog::laws::a_catalog_is_consistent;
+use mm_relation::{Relations, TupleRef};
+use plain_tables::Query;
+use temp_list::are_in_key_order;
+
+impl ReadExecutor {
+    /// Whether the rows that a select of one table finds are in the order in which it shows them.
+    pub fn are_as_shown(&self, catalog: &Catalog, query: &Query, rows: &[TupleRef]) -> bool
+        requires meant { IsMeant catalog.now.limits (database_of catalog.now) (resolved.Select query.now) }
+        requires ordered { IsOrdered query.now }
+        requires rows { OfRelation catalog.now.relations query.now.source.table.0 (λ s. AreSelected catalog.now.relations s query.now.source.tests rows.now) }
+        ensures { IsTrue result → ShowsRows catalog.now query.now rows.now }
+    {
+        a_catalog_is_consistent(catalog);
+        are_in_key_order(catalog.at(query.source.table), rows)
+    }
+
+    /// Puts the rows that a select of one table shows into a sink, and tells how many columns they have.
+    pub fn push_found<'a, S: RowSink<'a>>(
+        &self,
+        catalog: &'a Catalog,
+        query: &Query,
+        rows: &[TupleRef],
+        sink: &mut S,
+    ) -> Result<usize, S::Fault>
+        requires meant { IsMeant catalog.now.limits (database_of catalog.now) (resolved.Select query.now) }
+        requires shows { ShowsRows catalog.now query.now rows.now }
+        ensures shown { OnOk result (PutsRows S.received sink.old sink.new (rows_shown catalog.now query.now)) }
+        ensures declined { IfErr result (S.declines sink.new) }
+        ensures columns { IfOk result (λ columns. columns ≡ length (headings (joined_tables (database_of catalog.now) query.now.source query.now.joins) query.now.shown)) }
+    {
+        a_catalog_is_consistent(catalog);
+        let relation = catalog.at(query.source.table);
+        for r in rows {
+            push_shown(sink, catalog, relation, *r, &query.shown)?;
+        }
+        Ok(shown_width(relation, &query.shown))
+    }
+}
