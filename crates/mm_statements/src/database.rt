@@ -13,7 +13,7 @@ use crate::resolving::{command_of, resolution_of, resolve, settle};
 use crate::shared::SharedSession;
 use mm_cells::Cells;
 use mm_prepared::{Cell, Commands, Declined, Lent, Statements, may_declare};
-use mm_session::{Answer, Session};
+use mm_session::{Answer, SelectRoom, Session};
 use mm_transactions::NoTransaction;
 use no_memory::NoMemory;
 use plain_statements::Template;
@@ -59,6 +59,8 @@ pub struct Database {
     // What is known of the statements' meaning is right by these.
     noted: NotedTables,
     commands: Commands,
+    // What a select finds is found here, and the room is kept for the next.
+    room: SelectRoom,
 }
 
 impl Model for Database {
@@ -120,6 +122,7 @@ impl Database {
             statements: Statements::new(alloc),
             noted: NotedTables::new(alloc),
             commands: Commands::new(alloc),
+            room: SelectRoom::new(alloc),
         })
     }
 
@@ -142,6 +145,7 @@ impl Database {
             statements: Statements::new(alloc),
             noted: NotedTables::new(alloc),
             commands: Commands::new(alloc),
+            room: SelectRoom::new(alloc),
         })
     }
 
@@ -439,7 +443,7 @@ impl Database {
             Lent::Command(command) => command,
         };
         if let Resolved::Select(query) = command {
-            let columns = self.held.select(query, shown)?;
+            let columns = self.held.select(query, &mut self.room, shown)?;
             return Ok(Executed::Rows { columns });
         }
         let count = self.held.change(command)?;
@@ -505,7 +509,7 @@ impl Database {
         cells.clear();
         let command = command_of_line(alloc, &self.held, line)?;
         if let Resolved::Select(query) = &command {
-            let columns = self.held.select(query, cells)?;
+            let columns = self.held.select(query, &mut self.room, cells)?;
             return Ok(Executed::Rows { columns });
         }
         let count = self.held.change(&command)?;

@@ -71,7 +71,6 @@ fn resolve_anew(
 }
 
 // Works out what the statement of a number means of the tables, where that isn't known.
-#[inline]
 fn resolve_settled(
     held: &SharedSession,
     statements: &mut Statements,
@@ -92,9 +91,8 @@ fn resolve_settled(
     resolve_anew(held, statements, number)
 }
 
-/// Works out what the statement of a number means of the tables, where that isn't known by the tables as they are.
-#[inline]
-pub fn resolve(
+// Works out what the statement of a number means of the tables, where the tables as they are may not have been noted.
+fn resolve_doubted(
     held: &SharedSession,
     noted: &mut NotedTables,
     statements: &mut Statements,
@@ -113,6 +111,32 @@ pub fn resolve(
     }
     settle(held.catalog(), noted, statements)?;
     resolve_settled(held, statements, number)
+}
+
+/// Works out what the statement of a number means of the tables, where that isn't known by the tables as they are.
+#[inline]
+pub fn resolve(
+    held: &SharedSession,
+    noted: &mut NotedTables,
+    statements: &mut Statements,
+    number: usize,
+) -> Result<(), ExecuteFault>
+    requires { AreNoted held.now.session.database noted.old statements.old }
+    ensures noted { AreNoted held.now.session.database noted.new statements.new }
+    ensures right { OnOk result (AreRight held.now.session.database statements.new) }
+    ensures same { SameSeen statements.old statements.new }
+    ensures known { OnOk result (IsKnown statements.new number) }
+    ensures missing { named statements.old number ≡ None → result ≡ Err fault.NoSuchStatement }
+    ensures refused { IfErr result (IsUnresolved held.now.session.database statements.old number) }
+{
+    if noted.are_current() {
+        if let Some(prepared) = statements.get(number) {
+            if prepared.resolution.is_some() {
+                return Ok(());
+            }
+        }
+    }
+    resolve_doubted(held, noted, statements, number)
 }
 
 /// What the statement of a number means of the tables, whatever values are bound.

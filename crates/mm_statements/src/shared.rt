@@ -14,6 +14,7 @@ ghost use Rattle.mm_session.specs.Changing.{HasChanged, IsChange, ShowsValues};
 ghost use Rattle.mm_session.specs.Counting.{HasRows};
 ghost use Rattle.mm_session.specs.OneRequest.{AnswersOne, GoesBetween, IsAtSamePlace, StaysInStream};
 ghost use Rattle.mm_session.specs.Reads.{WouldChange};
+ghost use Rattle.mm_session.specs.Rooms.{IsBounded};
 ghost use Rattle.mm_transactions.specs.Log.{AreSettled};
 ghost use Rattle.mm_session.specs.Sessions.{BreaksOff, Feeds, Finishes, Gains, new_session, tables_of};
 ghost use Rattle.mm_statements.specs.Faults.{IsUndone};
@@ -26,7 +27,7 @@ use crate::faults::{BeginFault, ChangeFault, RequestFault, StreamFault};
 use mm_catalog::Catalog;
 use mm_catalog::laws::a_catalog_is_consistent;
 use mm_cells::{CellFault, Cells};
-use mm_session::{Answer, CountFault, Session};
+use mm_session::{Answer, CountFault, SelectRoom, Session};
 use mm_transactions::NoTransaction;
 use no_memory::NoMemory;
 use plain_tables::{Query, Resolved, TableNumber, Value};
@@ -222,14 +223,20 @@ impl SharedSession {
         self.own.rollback()
     }
 
-    /// Makes the cells the values that a select shows, as the session does.
-    pub fn select(&self, query: &Query, cells: &mut Cells) -> Result<usize, CellFault>
+    /// Makes the cells the values that a select shows, as the session does. The rows are found in the room.
+    pub fn select(
+        &self,
+        query: &Query,
+        room: &mut SelectRoom,
+        cells: &mut Cells,
+    ) -> Result<usize, CellFault>
         requires { IsMeant self.now.session.limits self.now.session.database (resolved.Select query.now) }
         ensures shown { IfOk result (λ columns. ShowsValues (done self.now.session.limits self.now.session.database (resolved.Select query.now)).outcome columns (values_of cells.new)) }
         ensures some { IfOk result (λ columns. 0 < columns) }
         ensures too_long { IsErrOf result CellFault.TooLong → AreFull (values_of cells.new) }
+        ensures room { IsBounded room.new }
     {
-        self.session().select(query, cells)
+        self.session().select(query, room, cells)
     }
 
     /// How many rows a select shows, as the session counts them.
