@@ -53,28 +53,44 @@ fn misnamed_field(alloc: Global, columns: &[Column], fields: &ByteRecord) -> Rea
     Ok(None)
 }
 
+// Reads the first record of a block, and tells whether there was one. None where the library can't tell.
+fn first_record(
+    alloc: Global,
+    block: &[u8],
+    fields: &mut ByteRecord,
+) -> Result<Option<bool>, ReasonFault> {
+    let mut reader = reader_of(alloc, block);
+    let is_there = next_record(&mut reader, fields);
+    drop(reader);
+    is_there
+}
+
+// Why a record is not the header of a table, if it isn't.
+fn why_not_header(alloc: Global, table: &Seen<'_>, fields: &ByteRecord) -> Reason {
+    let (name, columns, count) = (table.name, table.columns.len(), fields.len());
+    if count == columns {
+        return misnamed_field(alloc, table.columns, fields);
+    }
+    tell(format!(in alloc;
+        "the header has a field for each column of {name}: {columns}, not {count}"
+    ))
+}
+
 /// Why the first record of a block is not the header of a table, if it isn't.
 pub fn why_no_header(alloc: Global, table: &Seen<'_>, block: &[u8]) -> Reason {
-    let (name, columns) = (table.name, table.columns.len());
+    let name = table.name;
     let is_marked = matches!(block.strip_prefix(&MARK), Some(behind) if behind.starts_with(&MARK));
     if is_marked {
         return tell(format!(in alloc; "more than one mark stands before the header of {name}"));
     }
     let mut fields = ByteRecord::new(alloc);
-    match next_record(&mut reader_of(alloc, block), &mut fields)? {
-        Some(true) => {}
+    match first_record(alloc, block, &mut fields)? {
+        Some(true) => why_not_header(alloc, table, &fields),
         Some(false) => {
-            return tell(format!(in alloc; "the block has no header of the columns of {name}"));
+            tell(format!(in alloc; "the block has no header of the columns of {name}"))
         }
-        None => return Ok(None),
+        None => Ok(None),
     }
-    let count = fields.len();
-    if count == columns {
-        return misnamed_field(alloc, table.columns, &fields);
-    }
-    tell(format!(in alloc;
-        "the header has a field for each column of {name}: {columns}, not {count}"
-    ))
 }
 
 // Why a field can't stand in a column, if it can't.

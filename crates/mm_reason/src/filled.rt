@@ -2,7 +2,7 @@
 
 use no_memory::NoMemory;
 use plain_statements::{Slot, SlotCond, SlotSetting, Statement};
-use plain_tables::{Command, Cond, Sequence, Setting, Text, Value};
+use plain_tables::{Command, Cond, Items, Join, Sequence, Setting, Text, Value};
 use std::alloc::Global;
 
 /// Values for the holes of a statement, by their places. Behind them there are nulls.
@@ -57,39 +57,66 @@ impl<'a> Filling<'a> {
         Ok(Sequence::from_vec(filled))
     }
 
+    fn insert(self, table: Text, slots: Sequence<Slot>) -> Result<Command, NoMemory> {
+        let values = self.row(slots)?;
+        Ok(Command::Insert { table, values })
+    }
+
+    fn update(
+        self,
+        table: Text,
+        settings: Sequence<SlotSetting>,
+        conditions: Sequence<SlotCond>,
+    ) -> Result<Command, NoMemory> {
+        let settings = self.settings(settings)?;
+        let conditions = self.conditions(conditions)?;
+        Ok(Command::Update {
+            table,
+            settings,
+            conditions,
+        })
+    }
+
+    fn delete(self, table: Text, conditions: Sequence<SlotCond>) -> Result<Command, NoMemory> {
+        let conditions = self.conditions(conditions)?;
+        Ok(Command::Delete { table, conditions })
+    }
+
+    fn select(
+        self,
+        distinct: bool,
+        items: Items,
+        table: Text,
+        joins: Sequence<Join>,
+        conditions: Sequence<SlotCond>,
+    ) -> Result<Command, NoMemory> {
+        let conditions = self.conditions(conditions)?;
+        Ok(Command::Select {
+            distinct,
+            items,
+            table,
+            joins,
+            conditions,
+        })
+    }
+
     /// The command that a statement is with these values.
     pub fn command(self, statement: Statement) -> Result<Command, NoMemory> {
-        Ok(match statement {
-            Statement::Insert { table, slots } => Command::Insert {
-                table,
-                values: self.row(slots)?,
-            },
+        match statement {
+            Statement::Insert { table, slots } => self.insert(table, slots),
             Statement::Update {
                 table,
                 settings,
                 conditions,
-            } => Command::Update {
-                table,
-                settings: self.settings(settings)?,
-                conditions: self.conditions(conditions)?,
-            },
-            Statement::Delete { table, conditions } => Command::Delete {
-                table,
-                conditions: self.conditions(conditions)?,
-            },
+            } => self.update(table, settings, conditions),
+            Statement::Delete { table, conditions } => self.delete(table, conditions),
             Statement::Select {
                 distinct,
                 items,
                 table,
                 joins,
                 conditions,
-            } => Command::Select {
-                distinct,
-                items,
-                table,
-                joins,
-                conditions: self.conditions(conditions)?,
-            },
-        })
+            } => self.select(distinct, items, table, joins, conditions),
+        }
     }
 }

@@ -3,7 +3,7 @@
 use mm_lang::{Place, Wanted};
 
 // Where a hint is for, by what may stand there.
-#[derive(Clone, Copy, PartialEq, Eq)]
+#[derive(Clone, Copy)]
 enum Spot {
     // The first word of a line.
     Command,
@@ -19,202 +19,159 @@ enum Spot {
     Other,
 }
 
-// The spot, or any; symbols, in capitals or not; and what is to be known.
-type Hint = (Option<Spot>, &'static [&'static str], &'static str);
-
-const COMMAND: Option<Spot> = Some(Spot::Command);
-
-const TYPE: Option<Spot> = Some(Spot::Type);
-
-const LISTED: Option<Spot> = Some(Spot::Listed);
-
-const OPERATOR: Option<Spot> = Some(Spot::Operator);
-
-const VALUE: Option<Spot> = Some(Spot::Value);
-
-const ITEM: Option<Spot> = Some(Spot::Item);
-
-const END: Option<Spot> = Some(Spot::End);
+// Symbols, in capitals or not; and what is to be known.
+type Hint = (&'static [&'static str], &'static str);
 
 const OPERATORS: &str = "the operators are =, <>, <, <=, > and >=";
 
-static HINTS: [Hint; 54] = [
+static COMMAND: [Hint; 9] = [
     (
-        COMMAND,
         &["create"],
         "table T (id int) declares a table, and index T id hash an index",
     ),
     (
-        COMMAND,
         &["alter"],
         "the columns of a table stay as they were declared",
     ),
     (
-        COMMAND,
         &["begin", "start", "commit", "rollback", "savepoint"],
         "each command is done whole or not at all, and several make no transaction",
     ),
-    (COMMAND, &["truncate"], "delete T takes out all rows of T"),
+    (&["truncate"], "delete T takes out all rows of T"),
     (
-        COMMAND,
         &["show", "describe", "desc", "\\"],
         "tables shows how each table is declared",
     ),
-    (COMMAND, &["quit", "exit"], "a session ends with its input"),
+    (&["quit", "exit"], "a session ends with its input"),
     (
-        COMMAND,
         &["replace", "upsert", "merge"],
         "insert adds a row, and update changes rows",
     ),
     (
-        COMMAND,
         &["copy", "import"],
         "a load is load T 20, with 20 bytes behind the line",
     ),
+    (&["."], "commands that begin with a dot are for mmdb-shell"),
+];
+
+static TYPE: [Hint; 7] = [
     (
-        COMMAND,
-        &["."],
-        "commands that begin with a dot are for mmdb-shell",
-    ),
-    (
-        TYPE,
         &[
             "integer", "bigint", "smallint", "tinyint", "number", "serial",
         ],
         "the types are int, text and ref T, and int has 64 bits",
     ),
     (
-        TYPE,
         &["varchar", "char", "character", "string", "uuid", "json"],
         "the types are int, text and ref T, and text has no length",
     ),
     (
-        TYPE,
         &["bool", "boolean", "bit"],
         "the types are int, text and ref T, and int can hold 1 and 0",
     ),
     (
-        TYPE,
         &["float", "double", "real", "decimal", "numeric", "money"],
         "the types are int, text and ref T, and there are no fractions",
     ),
     (
-        TYPE,
         &["date", "time", "datetime", "timestamp"],
         "the types are int, text and ref T, and a date can be a text, as '2024-01-31'",
     ),
     (
-        TYPE,
         &["blob", "bytea", "binary"],
         "the types are int, text and ref T, and a text is UTF-8",
     ),
     (
-        TYPE,
         &["key"],
         "the first column is the key, and a reference is dept ref dept",
     ),
-    (LISTED, &["primary"], "the first column is the key"),
+];
+
+static LISTED: [Hint; 5] = [
+    (&["primary"], "the first column is the key"),
     (
-        LISTED,
         &["not"],
         "a column takes nulls only where ref T null says so",
     ),
+    (&["unique"], "only the key, the first column, is unique"),
     (
-        LISTED,
-        &["unique"],
-        "only the key, the first column, is unique",
-    ),
-    (
-        LISTED,
         &["default", "auto_increment", "autoincrement"],
         "an insert has a value for each column",
     ),
     (
-        LISTED,
         &["check", "constraint", "collate", "comment"],
         "a column has a name and a type alone",
     ),
-    (None, &["references"], "a reference is dept ref dept"),
-    (OPERATOR, &["!"], "the operator is <>"),
-    (OPERATOR, &["is"], "the condition is = null or <> null"),
+];
+
+static ITEM: [Hint; 1] = [(&["("], "there are no functions")];
+
+static OPERATOR: [Hint; 7] = [
+    (&["!"], "the operator is <>"),
+    (&["is"], "the condition is = null or <> null"),
     (
-        OPERATOR,
         &["like", "ilike", "glob", "regexp"],
         "a text is compared as a whole",
     ),
-    (OPERATOR, &["between"], "the conditions are >= and <="),
-    (OPERATOR, &["in"], "a condition has one value"),
+    (&["between"], "the conditions are >= and <="),
+    (&["in"], "a condition has one value"),
     (
-        OPERATOR,
         &["not"],
         "there is no not: the operators are =, <>, <, <=, > and >=",
     ),
-    (OPERATOR, &["("], "there are no functions"),
-    (VALUE, &["="], "the operator is ="),
-    (VALUE, &["<", ">"], OPERATORS),
+    (&["("], "there are no functions"),
+];
+
+static VALUE: [Hint; 8] = [
+    (&["="], "the operator is ="),
+    (&["<", ">"], OPERATORS),
+    (&["true", "false"], "values are integers, texts and null"),
+    (&["default"], "an insert has a value for each column"),
     (
-        VALUE,
-        &["true", "false"],
-        "values are integers, texts and null",
-    ),
-    (VALUE, &["default"], "an insert has a value for each column"),
-    (
-        VALUE,
         &["?", ":", "$", "@"],
         "a ? is allowed in prepared statements only",
     ),
-    (VALUE, &["+"], "a number has no + before it"),
+    (&["+"], "a number has no + before it"),
+    (&["-"], "a - stands directly before the digits of a number"),
+    (&["."], "there are no fractions"),
+];
+
+static END: [Hint; 10] = [
     (
-        VALUE,
-        &["-"],
-        "a - stands directly before the digits of a number",
-    ),
-    (VALUE, &["."], "there are no fractions"),
-    (ITEM, &["("], "there are no functions"),
-    (
-        END,
         &["limit", "offset", "fetch"],
         "a command applies to all rows that meet its conditions",
     ),
-    (END, &["order"], "rows come in the order of their keys"),
-    (END, &["group", "having"], "there are no groups"),
-    (END, &["inner"], "a join is join U on T.a = U.b"),
+    (&["order"], "rows come in the order of their keys"),
+    (&["group", "having"], "there are no groups"),
+    (&["inner"], "a join is join U on T.a = U.b"),
     (
-        END,
         &["left", "right", "full", "cross", "natural"],
         "there are inner joins only, as join U on T.a = U.b",
     ),
     (
-        END,
         &["exists", "cascade"],
         "a table is dropped by drop table T alone",
     ),
+    (&["union", "except", "intersect"], "a line is one command"),
+    (&["or", "|"], "conditions are joined by and alone"),
+    (&["&"], "conditions are joined by and"),
+    (&[")"], "no parenthesis is open"),
+];
+
+static ANYWHERE: [Hint; 7] = [
+    (&["references"], "a reference is dept ref dept"),
     (
-        END,
-        &["union", "except", "intersect"],
-        "a line is one command",
-    ),
-    (END, &["or", "|"], "conditions are joined by and alone"),
-    (END, &["&"], "conditions are joined by and"),
-    (
-        None,
         &["if", "exists"],
         "table T (id int) declares a table, and is refused where T exists",
     ),
-    (None, &["as"], "there are no aliases"),
-    (END, &[")"], "no parenthesis is open"),
-    (None, &["("], "only table and insert have parentheses"),
+    (&["as"], "there are no aliases"),
+    (&["("], "only table and insert have parentheses"),
+    (&["+", "-", "*", "/", "%", "|"], "there is no arithmetic"),
     (
-        None,
-        &["+", "-", "*", "/", "%", "|"],
-        "there is no arithmetic",
-    ),
-    (
-        None,
         &["\"", "`"],
         "texts stand between single quote marks, and names between none",
     ),
-    (None, &[";"], "a line needs no sign at its end"),
+    (&[";"], "a line needs no sign at its end"),
 ];
 
 // The spot of a place.
@@ -254,15 +211,33 @@ fn begins_command(word: &str) -> bool {
     )
 }
 
+// The hints for a spot.
+fn hints_at(spot: Spot) -> &'static [Hint] {
+    match spot {
+        Spot::Command => &COMMAND,
+        Spot::Type => &TYPE,
+        Spot::Listed => &LISTED,
+        Spot::Item => &ITEM,
+        Spot::Operator => &OPERATOR,
+        Spot::Value => &VALUE,
+        Spot::End => &END,
+        Spot::Other => &[],
+    }
+}
+
+// What is to be known of a symbol by these hints.
+fn hint_of(hints: &'static [Hint], symbol: &str) -> Option<&'static str> {
+    let found = hints.iter().find(|hint| is_one_of(symbol, hint.0))?;
+    Some(found.1)
+}
+
 /// What is to be known where a symbol stands at a place where it may not.
 pub fn hint(place: Place, symbol: &str) -> Option<&'static str> {
     if may_end(place) && begins_command(symbol) {
         return Some("a line is one command");
     }
-    let spot = Some(spot_of(place));
-    let found = HINTS.iter().find(|hint| {
-        let is_here = hint.0.is_none() || hint.0 == spot;
-        is_here && is_one_of(symbol, hint.1)
-    })?;
-    Some(found.2)
+    match hint_of(hints_at(spot_of(place)), symbol) {
+        Some(words) => Some(words),
+        None => hint_of(&ANYWHERE, symbol),
+    }
 }

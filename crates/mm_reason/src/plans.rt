@@ -343,6 +343,21 @@ fn push_join(
     Ok(words.push_str(&format!(in alloc; "{step}\n")?)?)
 }
 
+// The words of each join of a query, and a line feed behind each.
+fn push_joins(
+    alloc: Global,
+    words: &mut String,
+    tables: &[Seen<'_>],
+    query: &Query,
+    plan: &ToldPlan,
+) -> Result<(), NoMemory> {
+    for (number, (join, next)) in query.joins.as_slice().iter().zip(&plan.joins).enumerate() {
+        let chosen = join_plan(plan.way, number, *next);
+        push_join(alloc, words, tables, number, join, chosen)?;
+    }
+    Ok(())
+}
+
 /// The plan of a select in words, a line for each step. A search, a scan and a join tell how many rows their table has.
 pub fn plan_words(
     alloc: Global,
@@ -354,10 +369,7 @@ pub fn plan_words(
     let tests = query.source.tests.as_slice();
     let mut words = String::new(alloc);
     push_first(alloc, &mut words, &tables, tests, first_plan(plan.way))?;
-    for (number, (join, next)) in query.joins.as_slice().iter().zip(&plan.joins).enumerate() {
-        let chosen = join_plan(plan.way, number, *next);
-        push_join(alloc, &mut words, &tables, number, join, chosen)?;
-    }
+    push_joins(alloc, &mut words, &tables, query, plan)?;
     let shown = shown(query, plan.way);
     words.push_str(&format!(in alloc; "{shown}\n")?)?;
     Ok(words)

@@ -51,6 +51,14 @@ fn of_names(
     }
 }
 
+// Whether a refusal is of the length of a block or a dump.
+fn is_of_length(refusal: Refusal) -> bool {
+    matches!(
+        refusal,
+        Refusal::BlockTooLong | Refusal::BlockCutShort | Refusal::DumpTooLong
+    )
+}
+
 // That a block or a dump is too long, or that a block is cut short.
 fn of_length(
     alloc: Global,
@@ -77,9 +85,6 @@ pub fn of_command(
     refusal: Refusal,
 ) -> Reason {
     match refusal {
-        Refusal::BlockTooLong | Refusal::BlockCutShort | Refusal::DumpTooLong => {
-            of_length(alloc, catalog, command, block, refusal)
-        }
         Refusal::KeyExists { .. }
         | Refusal::NoReferencedRow { .. }
         | Refusal::TableFull { .. }
@@ -99,7 +104,7 @@ pub fn of_stop(alloc: Global, line: &str, stopped: Stopped, refusal: Refusal) ->
     Ok(Some(Told::of(why_stopped(alloc, line, stop)?)))
 }
 
-// Why the command that a line spells is refused, with the block behind it.
+// Why the command that a line spells is refused, with the block behind it. It is read once more, to be resolved again.
 fn of_spelled(
     alloc: Global,
     catalog: &Catalog,
@@ -108,6 +113,9 @@ fn of_spelled(
     block: &[u8],
     refusal: Refusal,
 ) -> Reason {
+    if is_of_length(refusal) {
+        return of_length(alloc, catalog, command, block, refusal);
+    }
     match parse_or_stop(alloc, line) {
         Ok(again) => of_command(alloc, catalog, command, again, block, refusal),
         Err(stopped) => of_stop(alloc, line.as_str(), stopped, refusal),
@@ -123,7 +131,11 @@ fn of_text(
     refusal: Refusal,
 ) -> Reason {
     match parse_or_stop(alloc, line) {
-        Ok(command) => of_spelled(alloc, catalog, line, &command, block, refusal),
+        Ok(command) => {
+            let told = of_spelled(alloc, catalog, line, &command, block, refusal);
+            drop(command);
+            told
+        }
         Err(stopped) => of_stop(alloc, line.as_str(), stopped, refusal),
     }
 }

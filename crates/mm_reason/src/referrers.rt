@@ -3,7 +3,7 @@
 ghost use Rattle.std.specs.Prelude.{IsSome};
 ghost use Rattle.std.specs.FinMap as finite;
 ghost use Rattle.std.specs.List.{All};
-ghost use Rattle.plain_tables.specs.ResolvedLaws.{OfTable, AreTests};
+ghost use Rattle.plain_tables.specs.ResolvedLaws.{OfTable, AreTests, IsMeant};
 ghost use Rattle.mm_catalog.specs.Seen.{database_of};
 
 use crate::fault::ReasonFault;
@@ -120,6 +120,16 @@ fn why_kept(alloc: Global, catalog: &Catalog, table: TableNumber, tests: &[Test]
     }
 }
 
+// Why a deletion takes out no rows.
+fn why_not_deleted(alloc: Global, catalog: &Catalog, deletion: &Resolved) -> Reason
+    requires { IsMeant catalog.now.limits (database_of catalog.now) deletion.now }
+{
+    match deletion {
+        Resolved::Delete { table, tests } => why_kept(alloc, catalog, *table, tests.as_slice()),
+        _ => Ok(None),
+    }
+}
+
 /// Why the rows of the table of that name that meet these conditions are not taken out, where nothing is wrong but the rows.
 pub fn named_rows(
     alloc: Global,
@@ -128,10 +138,11 @@ pub fn named_rows(
     conditions: Sequence<Cond>,
 ) -> Reason {
     match catalog.resolve(Command::Delete { table, conditions }, &[]) {
-        Ok(Resolved::Delete { table, tests }) => {
-            why_kept(alloc, catalog, table, tests.as_slice())
+        Ok(deletion) => {
+            let told = why_not_deleted(alloc, catalog, &deletion);
+            drop(deletion);
+            told
         }
-        Ok(_) => Ok(None),
         Err(Refusal::NoMemory) => Err(ReasonFault::NoMemory),
         Err(_) => Ok(None),
     }

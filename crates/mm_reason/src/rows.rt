@@ -119,32 +119,52 @@ fn told_row(
 }
 
 // Why a command that is resolved is refused so by the rows that are there, if it puts rows in or sets values.
-fn of_resolved(alloc: Global, catalog: &Catalog, resolved: Resolved, refusal: Refusal) -> Reason {
-    match (resolved, refusal) {
-        (Resolved::Insert { table, values }, _) => match table_at(catalog, table) {
+fn of_resolved(alloc: Global, catalog: &Catalog, resolved: &Resolved, refusal: Refusal) -> Reason {
+    match resolved {
+        Resolved::Insert { table, values } => match table_at(catalog, *table) {
             Some(seen) => kept_out(alloc, catalog, &seen, &[], values.as_slice(), refusal),
             None => Ok(None),
         },
-        (Resolved::Load { table, rows }, _) => {
-            match (table_at(catalog, table), told_row(rows.as_slice(), refusal)) {
+        Resolved::Load { table, rows } => {
+            match (
+                table_at(catalog, *table),
+                told_row(rows.as_slice(), refusal),
+            ) {
                 (Some(seen), Some((before, row))) => {
                     kept_out(alloc, catalog, &seen, before, row.as_slice(), refusal)
                 }
                 _ => Ok(None),
             }
         }
-        (
-            Resolved::Update {
-                table,
-                assignments,
-                ..
-            },
-            Refusal::NoReferencedRow { .. },
-        ) => match table_at(catalog, table) {
-            Some(seen) => unheld_setting(alloc, catalog, &seen, assignments.as_slice()),
-            None => Ok(None),
-        },
+        Resolved::Update {
+            table,
+            assignments,
+            ..
+        } if matches!(refusal, Refusal::NoReferencedRow { .. }) => {
+            match table_at(catalog, *table) {
+                Some(seen) => unheld_setting(alloc, catalog, &seen, assignments.as_slice()),
+                None => Ok(None),
+            }
+        }
         _ => Ok(None),
+    }
+}
+
+// Why a command with a block is refused so, if it puts rows in or sets values.
+fn of_change(
+    alloc: Global,
+    catalog: &Catalog,
+    command: Command,
+    block: &[u8],
+    refusal: Refusal,
+) -> Reason {
+    match unless_refused(catalog.resolve(command, block))? {
+        Some(resolved) => {
+            let told = of_resolved(alloc, catalog, &resolved, refusal);
+            drop(resolved);
+            told
+        }
+        None => Ok(None),
     }
 }
 
@@ -160,9 +180,6 @@ pub fn refused_by_rows(
         (Command::Delete { table, conditions }, Refusal::RowIsReferenced) => {
             named_rows(alloc, catalog, table, conditions)
         }
-        (command, _) => match unless_refused(catalog.resolve(command, block))? {
-            Some(resolved) => of_resolved(alloc, catalog, resolved, refusal),
-            None => Ok(None),
-        },
+        (command, _) => of_change(alloc, catalog, command, block, refusal),
     }
 }

@@ -23,21 +23,6 @@ fn statement_of(alloc: Global, line: &Line<'_>) -> Result<Option<Statement>, Rea
     }
 }
 
-// What of a statement is to blame whatever its values are, if it is refused so then.
-fn culprit_of(
-    alloc: Global,
-    catalog: &Catalog,
-    line: &Line<'_>,
-    refusal: Refusal,
-) -> Result<Option<Culprit>, ReasonFault> {
-    match statement_of(alloc, line)? {
-        Some(statement) => {
-            Ok(unless_refused(statement_culprit(catalog, statement, refusal))?.flatten())
-        }
-        None => Ok(None),
-    }
-}
-
 // The command that a line spells with these values, if it spells one.
 fn filled(
     alloc: Global,
@@ -50,29 +35,46 @@ fn filled(
     }
 }
 
-// Why a line spells no statement, or one that is refused so whatever its values are.
-fn of_statement(alloc: Global, catalog: &Catalog, line: &Line<'_>, refusal: Refusal) -> Reason {
-    if let Err(stopped) = parse_statement_or_stop(alloc, line) {
-        return of_stop(alloc, line.as_str(), stopped, refusal);
-    }
-    let Some(culprit) = culprit_of(alloc, catalog, line, refusal)? else {
-        return Ok(None);
-    };
+// Why the statement that a line spells is refused so whatever its values are, where this of it is to blame.
+fn of_culprit(
+    alloc: Global,
+    catalog: &Catalog,
+    line: &Line<'_>,
+    culprit: Culprit,
+    refusal: Refusal,
+) -> Reason {
     match filled(alloc, line, &[])? {
-        Some(command) => blame(alloc, catalog, &command, &[], culprit, refusal),
+        Some(command) => {
+            let told = blame(alloc, catalog, &command, &[], culprit, refusal);
+            drop(command);
+            told
+        }
         None => Ok(None),
     }
 }
 
-// Why the command that a line spells with these values is refused so.
+// Why a line spells no statement, or one that is refused so whatever its values are.
+fn of_statement(alloc: Global, catalog: &Catalog, line: &Line<'_>, refusal: Refusal) -> Reason {
+    let culprit = match parse_statement_or_stop(alloc, line) {
+        Ok(statement) => unless_refused(statement_culprit(catalog, statement, refusal))?.flatten(),
+        Err(stopped) => return of_stop(alloc, line.as_str(), stopped, refusal),
+    };
+    match culprit {
+        Some(culprit) => of_culprit(alloc, catalog, line, culprit, refusal),
+        None => Ok(None),
+    }
+}
+
+// Why the command that a line spells with these values is refused so. It is spelled once more, to be resolved again.
 fn of_filled(
     alloc: Global,
     catalog: &Catalog,
+    line: &Line<'_>,
+    values: &[Value],
     command: &Command,
-    again: Option<Command>,
     refusal: Refusal,
 ) -> Reason {
-    match again {
+    match filled(alloc, line, values)? {
         Some(again) => of_command(alloc, catalog, command, again, &[], refusal),
         None => Ok(None),
     }
@@ -88,13 +90,9 @@ fn of_values(
 ) -> Reason {
     match filled(alloc, line, values)? {
         Some(command) => {
-            of_filled(
-                alloc,
-                catalog,
-                &command,
-                filled(alloc, line, values)?,
-                refusal,
-            )
+            let told = of_filled(alloc, catalog, line, values, &command, refusal);
+            drop(command);
+            told
         }
         None => Ok(None),
     }
@@ -132,18 +130,27 @@ fn slot_at(statement: &Statement, number: usize) -> Option<&Slot> {
     }
 }
 
+// The column of the question mark of a slot, where it is a hole.
+fn column_of_slot(line: &Line<'_>, slot: Option<&Slot>) -> Option<usize> {
+    match slot {
+        Some(Slot::Hole(hole)) => column_of_hole(line.as_str(), *hole),
+        _ => None,
+    }
+}
+
 // The column of the question mark of the value of a number, where it has one.
 fn column_of_value(
     alloc: Global,
     line: &Line<'_>,
     number: usize,
 ) -> Result<Option<usize>, ReasonFault> {
-    let Some(statement) = statement_of(alloc, line)? else {
-        return Ok(None);
-    };
-    match slot_at(&statement, number) {
-        Some(Slot::Hole(hole)) => Ok(column_of_hole(line.as_str(), *hole)),
-        _ => Ok(None),
+    match statement_of(alloc, line)? {
+        Some(statement) => {
+            let column = column_of_slot(line, slot_at(&statement, number));
+            drop(statement);
+            Ok(column)
+        }
+        None => Ok(None),
     }
 }
 

@@ -2,6 +2,7 @@
 
 use crate::advice::{Advice, what_helps};
 use crate::shown::Cut;
+use crate::told::words;
 use crate::unfit::{Kind, Unfit, is_numeral, symbol_at};
 use mm_lang::{LONGEST_NAME, Place, Stop, Wanted, is_reserved_word};
 use no_memory::NoMemory;
@@ -39,14 +40,17 @@ fn wanted(alloc: Global, place: Place) -> Result<String, NoMemory> {
 // What is wrong with a symbol wherever it stands.
 fn misformed(alloc: Global, unfit: &Unfit<'_>) -> Result<Option<String>, NoMemory> {
     let text = Cut::of(unfit.text);
-    let words = match unfit.kind {
-        Kind::OpenText => { format!(in alloc; "the text {text} has no quote mark at its end")? }
-        Kind::Number if unfit.text != "-" && !is_numeral(unfit.text) => {
-            format!(in alloc; "{text} is no number, and a name begins with a letter")?
+    match unfit.kind {
+        Kind::OpenText => {
+            words(format!(in alloc; "the text {text} has no quote mark at its end")).map(Some)
         }
-        _ => return Ok(None),
-    };
-    Ok(Some(words))
+        Kind::Number if unfit.text != "-" && !is_numeral(unfit.text) => {
+            words(format!(in alloc; "{text} is no number, and a name begins with a letter")).map(
+                Some,
+            )
+        }
+        _ => Ok(None),
+    }
 }
 
 // Why a word is no name, where one may stand.
@@ -54,38 +58,40 @@ fn no_name(alloc: Global, place: Place, word: &str) -> Result<String, NoMemory> 
     let (text, bytes) = (Cut::of(word), word.len());
     if is_reserved_word(word.as_bytes()) {
         let wanted = wanted(alloc, place)?;
-        return Ok(format!(in alloc; "wanted {wanted}, and {text} is a reserved word")?);
+        return words(format!(in alloc; "wanted {wanted}, and {text} is a reserved word"));
     }
-    Ok(format!(in alloc; "the name {text} has {bytes} bytes, and {LONGEST_NAME} are allowed")?)
+    words(format!(in alloc; "the name {text} has {bytes} bytes, and {LONGEST_NAME} are allowed"))
+}
+
+// That a number has no room.
+fn past_64_bits(alloc: Global, number: Cut<'_>) -> Result<String, NoMemory> {
+    words(format!(in alloc; "{number} is past 64 bits"))
 }
 
 // Why a symbol is not what may stand at its place, if there is more to be said of it.
 fn unlike(alloc: Global, wanted: Wanted, unfit: &Unfit<'_>) -> Result<Option<String>, NoMemory> {
     let text = Cut::of(unfit.text);
-    let words = match (wanted, unfit.kind) {
+    match (wanted, unfit.kind) {
         (Wanted::TableName | Wanted::ColumnName, Kind::Word) => {
-            no_name(alloc, unfit.place, unfit.text)?
+            no_name(alloc, unfit.place, unfit.text).map(Some)
         }
-        (Wanted::Value, Kind::Word) => format!(in alloc; "{text} is no value")?,
-        (Wanted::Value, Kind::Number) if unfit.text != "-" => {
-            format!(in alloc; "{text} is past 64 bits")?
-        }
+        (Wanted::Value, Kind::Word) => words(format!(in alloc; "{text} is no value")).map(Some),
+        (Wanted::Value, Kind::Number) if unfit.text != "-" => past_64_bits(alloc, text).map(Some),
         (Wanted::Count, Kind::Number) if !unfit.text.starts_with('-') => {
-            format!(in alloc; "{text} is past 64 bits")?
+            past_64_bits(alloc, text).map(Some)
         }
-        _ => return Ok(None),
-    };
-    Ok(Some(words))
+        _ => Ok(None),
+    }
 }
 
 // What was wanted at a place, and what stands there.
 fn unwanted(alloc: Global, unfit: &Unfit<'_>) -> Result<String, NoMemory> {
     let wanted = wanted(alloc, unfit.place)?;
     if unfit.kind == Kind::End {
-        return Ok(format!(in alloc; "wanted {wanted}, found the end of the line")?);
+        return words(format!(in alloc; "wanted {wanted}, found the end of the line"));
     }
     let sign = Cut::symbol(unfit.text);
-    Ok(format!(in alloc; "wanted {wanted}, found {sign}")?)
+    words(format!(in alloc; "wanted {wanted}, found {sign}"))
 }
 
 // Why a line doesn't begin with what its first symbol was to be, where there is advice of it.
@@ -103,7 +109,7 @@ fn no_beginning(
         return Ok(None);
     }
     let sign = Cut::symbol(unfit.text);
-    Ok(Some(format!(in alloc; "{sign} is no {what}")?))
+    words(format!(in alloc; "{sign} is no {what}")).map(Some)
 }
 
 // Why a symbol may not stand at its place, without what may help.
@@ -127,10 +133,10 @@ pub fn why_stopped(alloc: Global, line: &str, stop: Stop) -> Result<String, NoMe
     let unfit = symbol_at(line, stop);
     let column = unfit.column;
     let advice = what_helps(alloc, &unfit)?;
-    let words = told(alloc, &unfit, advice)?;
+    let told = told(alloc, &unfit, advice)?;
     let Some(advice) = advice else {
-        return Ok(format!(in alloc; "column {column}: {words}")?);
+        return words(format!(in alloc; "column {column}: {told}"));
     };
     let (front, keyword, behind) = advice.words();
-    Ok(format!(in alloc; "column {column}: {words}: {front}{keyword}{behind}")?)
+    words(format!(in alloc; "column {column}: {told}: {front}{keyword}{behind}"))
 }

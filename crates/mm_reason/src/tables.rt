@@ -2,7 +2,7 @@
 
 use crate::nearest::Nearest;
 use crate::parts::Name;
-use crate::told::{Reason, tell};
+use crate::told::{Reason, tell, words};
 use mm_catalog::Catalog;
 use mm_catalog::laws::a_catalog_is_consistent;
 use mm_relation::{Relation, Relations};
@@ -142,11 +142,12 @@ fn missing_everywhere(
     column: &str,
 ) -> Result<String, NoMemory> {
     let names = names(alloc, tables, " or ")?;
-    let words = match nearest_column(alloc, tables, column)? {
-        Some(near) => format!(in alloc; "{column} is no column of {names}: is {near} meant?")?,
-        None => format!(in alloc; "{column} is no column of {names}")?,
-    };
-    Ok(words)
+    match nearest_column(alloc, tables, column)? {
+        Some(near) => words(format!(in alloc;
+            "{column} is no column of {names}: is {near} meant?"
+        )),
+        None => words(format!(in alloc; "{column} is no column of {names}")),
+    }
 }
 
 // Why a bare name means no column of these tables.
@@ -157,7 +158,7 @@ fn why_no_bare(alloc: Global, tables: &[Seen<'_>], column: &Text) -> Result<Stri
         return missing_everywhere(alloc, tables, column);
     }
     let names = names(alloc, &having, " and of ")?;
-    Ok(format!(in alloc; "{column} is a column of {names}: name its table before it")?)
+    words(format!(in alloc; "{column} is a column of {names}: name its table before it"))
 }
 
 /// Why a name means no column of these tables.
@@ -186,13 +187,12 @@ pub fn unnamed_table(
     for seen in tables {
         nearest.look_at(alloc, seen.name)?;
     }
-    let words = match nearest.found() {
-        Some(near) => format!(in alloc;
+    match nearest.found() {
+        Some(near) => words(format!(in alloc;
             "{table} of {table}.{column} is no table of this command: is {near} meant?"
-        )?,
-        None => format!(in alloc; "{table} of {table}.{column} is no table of this command")?,
-    };
-    Ok(words)
+        )),
+        None => words(format!(in alloc; "{table} of {table}.{column} is no table of this command")),
+    }
 }
 
 /// That there is no table of that name.

@@ -28,9 +28,14 @@ impl Told {
 /// The words of a reason, where it can be told.
 pub type Reason = Result<Option<Told>, ReasonFault>;
 
+/// Words, where there was memory for them.
+pub fn words(formatted: Result<String, AllocError>) -> Result<String, NoMemory> {
+    Ok(formatted?)
+}
+
 /// The reason of these words.
-pub fn tell(words: Result<String, AllocError>) -> Reason {
-    Ok(Some(Told::of(words.map_err(NoMemory::from)?)))
+pub fn tell(formatted: Result<String, AllocError>) -> Reason {
+    Ok(Some(Told::of(words(formatted)?)))
 }
 
 /// The reason, which is about the value of a number.
