@@ -1,6 +1,7 @@
 //! Cells of rows: as the library lends them, and as a program keeps them.
 
 use std::marker::PhantomData;
+use std::slice::ChunksExact;
 use std::{slice, str};
 
 use crate::value::ValueRef;
@@ -49,6 +50,7 @@ impl<'c> Cells<'c> {
     ///
     /// As long as they are lent, nothing writes to the cells or to their texts, of which each is UTF-8 and stands, by
     /// its place and its length, in one block that begins there.
+    #[inline]
     pub(crate) unsafe fn new(cells: &'c [Cell], texts: *const u8) -> Cells<'c> {
         Cells {
             cells,
@@ -62,6 +64,7 @@ impl<'c> Cells<'c> {
     }
 
     /// The value of a cell. It panics past the last, as a slice does.
+    #[inline]
     pub(crate) fn value(self, at: usize) -> ValueRef<'c> {
         self.value_of(&self.cells[at])
     }
@@ -71,9 +74,18 @@ impl<'c> Cells<'c> {
     }
 
     /// So many of the cells, from one on, if they are there.
+    #[inline]
     pub(crate) fn part(self, from: usize, count: usize) -> Option<Cells<'c>> {
         let cells = self.cells.get(from..from.checked_add(count)?)?;
         Some(Cells { cells, ..self })
+    }
+
+    /// The cells in rows of a width, which isn't 0.
+    pub(crate) fn in_rows(self, width: usize) -> CellRows<'c> {
+        CellRows {
+            rows: self.cells.chunks_exact(width),
+            all: self,
+        }
     }
 
     pub(crate) fn to_own(self) -> OwnCells {
@@ -87,6 +99,7 @@ impl<'c> Cells<'c> {
     }
 
     /// The value of one of these cells.
+    #[inline]
     fn value_of(self, cell: &Cell) -> ValueRef<'c> {
         match cell.kind {
             INTEGER => ValueRef::Integer(cell.integer),
@@ -100,6 +113,47 @@ impl<'c> Cells<'c> {
     }
 }
 
+/// The cells of each row, one row after the other.
+#[derive(Clone)]
+pub(crate) struct CellRows<'c> {
+    rows: ChunksExact<'c, Cell>,
+    /// All cells, also those of the rows that were given.
+    all: Cells<'c>,
+}
+
+impl<'c> CellRows<'c> {
+    #[inline]
+    fn of(&self, cells: &'c [Cell]) -> Cells<'c> {
+        Cells { cells, ..self.all }
+    }
+}
+
+impl<'c> Iterator for CellRows<'c> {
+    type Item = Cells<'c>;
+
+    #[inline]
+    fn next(&mut self) -> Option<Cells<'c>> {
+        self.rows.next().map(|cells| self.of(cells))
+    }
+
+    #[inline]
+    fn nth(&mut self, passed: usize) -> Option<Cells<'c>> {
+        self.rows.nth(passed).map(|cells| self.of(cells))
+    }
+
+    fn size_hint(&self) -> (usize, Option<usize>) {
+        self.rows.size_hint()
+    }
+}
+
+impl DoubleEndedIterator for CellRows<'_> {
+    fn next_back(&mut self) -> Option<Self::Item> {
+        self.rows.next_back().map(|cells| self.of(cells))
+    }
+}
+
+impl ExactSizeIterator for CellRows<'_> {}
+
 /// Cells of a program's own.
 #[derive(Clone, Debug, Default)]
 pub(crate) struct OwnCells {
@@ -109,6 +163,7 @@ pub(crate) struct OwnCells {
 }
 
 impl OwnCells {
+    #[inline]
     pub(crate) fn lent(&self) -> Cells<'_> {
         // SAFETY: both are lent, and each cell of a text was made by the library with the bytes of a text.
         unsafe { Cells::new(&self.cells, self.texts.as_ptr()) }

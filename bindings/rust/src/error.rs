@@ -119,6 +119,14 @@ pub enum Error {
         /// The name of the column, with its table.
         column: String,
     },
+    /// A field of a CSV that is loaded strictly has odd quote marks: it is read otherwise than it was meant.
+    #[non_exhaustive]
+    OddQuotes {
+        /// The number of the record, counted from 1, or 0 for that of the names.
+        record: usize,
+        /// Whether no mark closes the field, so that it holds all that follows. Else text is behind the mark that does.
+        is_open: bool,
+    },
     /// The CSV to load couldn't be read to its end.
     #[non_exhaustive]
     Io {
@@ -274,6 +282,16 @@ impl Error {
                 to,
                 "row {row} has an empty text in the column {column}, where a load would read null"
             ),
+            Error::OddQuotes { record, is_open } => {
+                match record {
+                    0 => write!(to, "the record of names of the CSV has ")?,
+                    _ => write!(to, "record {record} of the CSV has ")?,
+                }
+                to.write_str(match is_open {
+                    true => "a field whose quote mark is never closed, and which holds all that follows",
+                    false => "a field with text behind its closing quote mark, which is read as a part of it",
+                })
+            }
             Error::NullOrEmpty { column } => write!(
                 to,
                 "an empty field of {column} is null or the empty text: select where it is either, without it"

@@ -59,6 +59,7 @@ pub enum FromValueError {
 }
 
 impl FromValueError {
+    #[cold]
     fn of(value: ValueRef<'_>, wanted: &'static str) -> FromValueError {
         match value {
             ValueRef::Null => FromValueError::Null { wanted },
@@ -85,18 +86,21 @@ impl fmt::Display for FromValueError {
 impl std::error::Error for FromValueError {}
 
 impl<'r> FromValue<'r> for ValueRef<'r> {
+    #[inline]
     fn from_value(value: ValueRef<'r>) -> Result<Self, FromValueError> {
         Ok(value)
     }
 }
 
 impl FromValue<'_> for Value {
+    #[inline]
     fn from_value(value: ValueRef<'_>) -> Result<Self, FromValueError> {
         Ok(value.into())
     }
 }
 
 impl<'r> FromValue<'r> for &'r str {
+    #[inline]
     fn from_value(value: ValueRef<'r>) -> Result<Self, FromValueError> {
         match value {
             ValueRef::Text(text) => Ok(text),
@@ -106,6 +110,7 @@ impl<'r> FromValue<'r> for &'r str {
 }
 
 impl FromValue<'_> for String {
+    #[inline]
     fn from_value(value: ValueRef<'_>) -> Result<Self, FromValueError> {
         <&str>::from_value(value).map(str::to_string)
     }
@@ -113,6 +118,7 @@ impl FromValue<'_> for String {
 
 /// Null is `None`.
 impl<'r, T: FromValue<'r>> FromValue<'r> for Option<T> {
+    #[inline]
     fn from_value(value: ValueRef<'r>) -> Result<Self, FromValueError> {
         match value {
             ValueRef::Null => Ok(None),
@@ -123,6 +129,7 @@ impl<'r, T: FromValue<'r>> FromValue<'r> for Option<T> {
 
 /// 0 is `false`, and 1 is `true`.
 impl FromValue<'_> for bool {
+    #[inline]
     fn from_value(value: ValueRef<'_>) -> Result<Self, FromValueError> {
         match value {
             ValueRef::Integer(0) => Ok(false),
@@ -139,6 +146,7 @@ impl FromValue<'_> for bool {
 macro_rules! integers {
     ($($integer:ty),*) => {
         $(impl FromValue<'_> for $integer {
+            #[inline]
             fn from_value(value: ValueRef<'_>) -> Result<Self, FromValueError> {
                 let wanted = stringify!($integer);
                 match value {

@@ -8,7 +8,7 @@ use crate::error::{Error, Result};
 use crate::fields::{said, Fields};
 use crate::outcome::count_of;
 use crate::params::Values;
-use crate::records::{End, Records};
+use crate::records::{End, Odd, Records};
 
 const BLOCK_TOO_LONG: u32 = 12;
 const KEY_EXISTS: u32 = 41;
@@ -74,6 +74,22 @@ impl Database {
         Csv::of(self, table, from).load(None)
     }
 
+    /// The same, of a CSV whose quote marks are all read as they were meant. A field that none closes holds the rest of the
+    /// CSV, and `"x"y` is read as `xy`; here each is [`Error::OddQuotes`], and no row is inserted.
+    ///
+    /// ```
+    /// let db = mmdb::Database::open_in_memory()?;
+    /// db.execute("table t (id int, s text)", [])?;
+    /// let csv = "id,s\n1,a\n2,\"b\n3,c\n";
+    /// let odd = db.load_csv_strict("t", csv.as_bytes()).unwrap_err();
+    /// assert!(odd.to_string().starts_with("record 2 of the CSV has a field whose quote mark is never closed"));
+    /// assert_eq!(db.load_csv_from("t", csv.as_bytes())?, 2);
+    /// # Ok::<(), mmdb::Error>(())
+    /// ```
+    pub fn load_csv_strict(&self, table: &str, from: impl Read) -> Result<usize> {
+        Csv::of(self, table, from).strictly().load(None)
+    }
+
     /// The same, of a CSV whose columns are in another order. Its first record has these names, and they are those of all
     /// columns.
     ///
@@ -133,6 +149,8 @@ struct Csv<'d, R> {
     fields: Fields,
     /// The record that was read last, with the end of its line.
     record: Vec<u8>,
+    /// Whether odd quote marks are an error.
+    is_strict: bool,
 }
 
 impl<'d, R: Read> Csv<'d, R> {
@@ -143,7 +161,14 @@ impl<'d, R: Read> Csv<'d, R> {
             records: Records::of(from),
             fields: Fields::default(),
             record: Vec::new(),
+            is_strict: false,
         }
+    }
+
+    /// The same, with odd quote marks as an error.
+    fn strictly(self) -> Csv<'d, R> {
+        let is_strict = true;
+        Csv { is_strict, ..self }
     }
 
     /// Loads it: its columns are those of the table in their order, or as they are given.
@@ -153,6 +178,7 @@ impl<'d, R: Read> Csv<'d, R> {
         if end == End::TooLong {
             return Err(too_long(self.database, self.table, "the record of names"));
         }
+        self.check_quotes(0)?;
         match given {
             Some(given) => names = self.names_of(given)?,
             None => names.extend_from_slice(&self.record),
@@ -166,8 +192,20 @@ impl<'d, R: Read> Csv<'d, R> {
                 _ if self.record.is_empty() => {}
                 _ => load.push(&self.record)?,
             }
+            self.check_quotes(load.records)?;
         }
         load.end()
+    }
+
+    /// Fails where odd quote marks are an error, and the record of this number has some.
+    fn check_quotes(&self, record: usize) -> Result<()> {
+        match self.records.odd().filter(|_| self.is_strict) {
+            Some(odd) => Err(Error::OddQuotes {
+                record,
+                is_open: odd == Odd::Open,
+            }),
+            None => Ok(()),
+        }
     }
 
     /// Reads the next record that isn't an empty line, with its fields in the order of these places. There are no bytes if there

@@ -18,6 +18,17 @@ pub(crate) struct Records<R> {
     piece: Box<[u8]>,
     /// What of the piece wasn't taken yet.
     left: Range<usize>,
+    /// The first field of the records so far whose quote marks are odd.
+    odd: Option<Odd>,
+}
+
+/// What is odd about the quote marks of a field, which is read otherwise than it was meant.
+#[derive(Clone, Copy, Debug, PartialEq, Eq)]
+pub(crate) enum Odd {
+    /// None closes it, so that it holds all that follows.
+    Open,
+    /// Text is behind the one that closes it, and is read as a part of it.
+    Behind,
 }
 
 /// Where in a field a byte is.
@@ -47,7 +58,13 @@ impl<R: Read> Records<R> {
             from,
             piece: vec![0; PIECE].into_boxed_slice(),
             left: 0..0,
+            odd: None,
         }
+    }
+
+    /// What is odd about the first field so far with odd quote marks.
+    pub(crate) fn odd(&self) -> Option<Odd> {
+        self.odd
     }
 
     /// The mark that the file begins with, or nothing. It is no part of the first record.
@@ -73,11 +90,12 @@ impl<R: Read> Records<R> {
             let left = &self.piece[self.left.clone()];
             let run = within.run(left);
             fields.push(&left[..run]);
-            if run > 0 && within != Within::Quoted {
-                within = Within::Plain;
-            }
             let next = left.get(run).copied();
             self.left.start += run + usize::from(next.is_some());
+            if run > 0 && within != Within::Quoted {
+                self.note(Odd::Behind, within == Within::Closed);
+                within = Within::Plain;
+            }
             if fields.size() + fields.len() > most {
                 return Ok(End::TooLong);
             }
@@ -97,8 +115,14 @@ impl<R: Read> Records<R> {
                 None => {}
             }
         }
+        self.note(Odd::Open, within == Within::Quoted);
         within.end_file(fields);
         Ok(End::File)
+    }
+
+    /// Keeps what is odd about a field, if it is, and no field before was.
+    fn note(&mut self, odd: Odd, is_odd: bool) {
+        self.odd = self.odd.or(Some(odd).filter(|_| is_odd));
     }
 
     /// Whether a byte is left, which is asked for if the piece has none.

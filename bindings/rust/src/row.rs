@@ -4,7 +4,7 @@ use std::fmt;
 
 use crate::cells::Cells;
 use crate::error::{Error, Result};
-use crate::from_value::FromValue;
+use crate::from_value::{FromValue, FromValueError};
 use crate::value::ValueRef;
 
 /// A row of [`Rows`](crate::Rows) or of [`RowsRef`](crate::RowsRef), which lend it.
@@ -37,15 +37,14 @@ impl<'r> Row<'r> {
     /// The column is named by its number, from 0, or by its name: as `table.column`, or as `column` alone if one
     /// column of the row has that name. [`Error::NoSuchIndex`], [`Error::NoSuchColumn`] and
     /// [`Error::AmbiguousColumn`] say that it isn't one of these; [`Error::Unread`] that its value isn't of that type.
+    #[inline]
     pub fn get<I: ColumnIndex, T: FromValue<'r>>(&self, column: I) -> Result<T> {
         let at = column.place_in(self.names)?;
-        T::from_value(self.value(at)).map_err(|cause| Error::Unread {
-            column: self.names[at].clone(),
-            cause,
-        })
+        T::from_value(self.value(at)).map_err(|cause| self.unread(at, cause))
     }
 
     /// The value of a column as it is. The column is named as for [`Row::get`].
+    #[inline]
     pub fn get_ref<I: ColumnIndex>(&self, column: I) -> Result<ValueRef<'r>> {
         column.place_in(self.names).map(|at| self.value(at))
     }
@@ -60,8 +59,16 @@ impl<'r> Row<'r> {
         self.cells.values()
     }
 
+    #[inline]
     pub(crate) fn value(&self, at: usize) -> ValueRef<'r> {
         self.cells.value(at)
+    }
+
+    /// That the value of a column isn't read, and why.
+    #[cold]
+    fn unread(&self, at: usize, cause: FromValueError) -> Error {
+        let column = self.names[at].clone();
+        Error::Unread { column, cause }
     }
 }
 
@@ -117,12 +124,12 @@ pub trait ColumnIndex {
 }
 
 impl ColumnIndex for usize {
+    #[inline]
     fn place_in(&self, names: &[String]) -> Result<usize> {
-        let wrong = || Error::NoSuchIndex {
-            index: *self,
-            columns: names.len(),
-        };
-        Some(*self).filter(|index| *index < names.len()).ok_or_else(wrong)
+        match (*self, names.len()) {
+            (index, columns) if index < columns => Ok(index),
+            (index, columns) => Err(Error::NoSuchIndex { index, columns }),
+        }
     }
 }
 
@@ -148,12 +155,15 @@ impl ColumnIndex for String {
 }
 
 impl<I: ColumnIndex + ?Sized> ColumnIndex for &I {
+    #[inline]
     fn place_in(&self, names: &[String]) -> Result<usize> {
         (**self).place_in(names)
     }
 }
 
-/// Whether a name is another one without its table.
+/// Whether a name is another one without its table. The dot is looked at first, since most names fail there.
 fn is_bare(bare: &str, name: &str) -> bool {
-    name.strip_suffix(bare).map_or(false, |table| table.ends_with('.'))
+    let (bare, name) = (bare.as_bytes(), name.as_bytes());
+    let dot = name.len().checked_sub(bare.len() + 1);
+    dot.map_or(false, |dot| name[dot] == b'.' && name[dot + 1..] == *bare)
 }

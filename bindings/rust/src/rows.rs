@@ -1,10 +1,9 @@
 //! Rows, and how their values are read.
 
 use std::fmt;
-use std::ops::Range;
 use std::sync::Arc;
 
-use crate::cells::{Cells, OwnCells};
+use crate::cells::{CellRows, Cells, OwnCells};
 use crate::error::{Error, Result};
 use crate::row::{ColumnIndex, Row};
 use crate::value::Value;
@@ -77,6 +76,7 @@ impl Rows {
     }
 
     /// A row, counted from 0.
+    #[inline]
     pub fn get(&self, row: usize) -> Option<Row<'_>> {
         self.lent().get(row)
     }
@@ -99,6 +99,7 @@ impl Rows {
         }
     }
 
+    #[inline]
     pub(crate) fn lent(&self) -> RowsRef<'_> {
         RowsRef::new(&self.names, self.cells.lent())
     }
@@ -114,6 +115,7 @@ pub struct RowsRef<'r> {
 }
 
 impl<'r> RowsRef<'r> {
+    #[inline]
     pub(crate) fn new(names: &'r Arc<Vec<String>>, cells: Cells<'r>) -> RowsRef<'r> {
         let given = 0;
         RowsRef { names, cells, given }
@@ -148,6 +150,7 @@ impl<'r> RowsRef<'r> {
     }
 
     /// A row, counted from 0.
+    #[inline]
     pub fn get(&self, row: usize) -> Option<Row<'r>> {
         let from = row.checked_mul(self.width())?;
         let cells = self.cells.part(from, self.width())?;
@@ -160,8 +163,8 @@ impl<'r> RowsRef<'r> {
     /// The rows, one after the other.
     pub fn iter(&self) -> RowsIter<'r> {
         RowsIter {
-            rows: *self,
-            left: 0..self.len(),
+            names: self.names,
+            rows: self.cells.in_rows(self.width()),
         }
     }
 
@@ -193,6 +196,7 @@ impl<'r> RowsRef<'r> {
     }
 
     /// How many columns there are, and 1 where there are no rows at all.
+    #[inline]
     fn width(&self) -> usize {
         self.names.len().max(1)
     }
@@ -250,8 +254,18 @@ impl<'rows> IntoIterator for &'rows Rows {
 #[derive(Clone)]
 #[must_use = "rows are read as they are asked for"]
 pub struct RowsIter<'rows> {
-    rows: RowsRef<'rows>,
-    left: Range<usize>,
+    names: &'rows [String],
+    rows: CellRows<'rows>,
+}
+
+impl<'rows> RowsIter<'rows> {
+    #[inline]
+    fn row(&self, cells: Cells<'rows>) -> Row<'rows> {
+        Row {
+            names: self.names,
+            cells,
+        }
+    }
 }
 
 impl fmt::Debug for RowsIter<'_> {
@@ -263,22 +277,24 @@ impl fmt::Debug for RowsIter<'_> {
 impl<'rows> Iterator for RowsIter<'rows> {
     type Item = Row<'rows>;
 
+    #[inline]
     fn next(&mut self) -> Option<Row<'rows>> {
-        self.left.next().and_then(|row| self.rows.get(row))
+        self.rows.next().map(|cells| self.row(cells))
     }
 
+    #[inline]
     fn nth(&mut self, passed: usize) -> Option<Row<'rows>> {
-        self.left.nth(passed).and_then(|row| self.rows.get(row))
+        self.rows.nth(passed).map(|cells| self.row(cells))
     }
 
     fn size_hint(&self) -> (usize, Option<usize>) {
-        self.left.size_hint()
+        self.rows.size_hint()
     }
 }
 
 impl DoubleEndedIterator for RowsIter<'_> {
     fn next_back(&mut self) -> Option<Self::Item> {
-        self.left.next_back().and_then(|row| self.rows.get(row))
+        self.rows.next_back().map(|cells| self.row(cells))
     }
 }
 

@@ -2,6 +2,8 @@
 
 mod common;
 
+use std::io::{self, Read};
+
 use common::draw::Draw;
 use common::{open, row, selected, with_table};
 use mmdb::{params, Database, Error, Outcome, Take, Value, Values};
@@ -191,4 +193,88 @@ fn columns_are_known_anew_after_each_declaration() {
             way(&mut db, "drop table x");
         }
     }
+}
+
+/// Bytes that are read one by one.
+struct OneByOne<'b>(&'b [u8]);
+
+impl Read for OneByOne<'_> {
+    fn read(&mut self, room: &mut [u8]) -> io::Result<usize> {
+        let most = room.len().min(1);
+        self.0.read(&mut room[..most])
+    }
+}
+
+/// The first record with odd quote marks, and whether a field of it is open, byte by byte as the language reads a block.
+fn first_odd(csv: &str) -> Option<(usize, bool)> {
+    let (mut record, mut state) = (0, "record");
+    for byte in csv.bytes() {
+        state = match (state, byte) {
+            ("quoted", b'"') => "behind",
+            ("quoted", _) | ("behind", b'"') => "quoted",
+            (_, b'\r' | b'\n') => {
+                record += usize::from(state != "record");
+                "record"
+            }
+            (_, b',') => "field",
+            ("behind", _) => return Some((record, false)),
+            ("record" | "field", b'"') => "quoted",
+            _ => "plain",
+        };
+    }
+    Some((record, true)).filter(|_| state == "quoted")
+}
+
+#[test]
+fn a_strict_load_refuses_odd_quote_marks() {
+    let db = with_table();
+    for (csv, odd) in [
+        ("id,s\n1,\"x\"y\n2,z\n", Some((1, false))),
+        ("id,s\n1,a\n\r\n2,\"x\n3,y\n", Some((2, true))),
+        ("id,\"s\"\n1,\"a\nb\"\n2,\"\"\"\n", Some((2, true))),
+        ("id,\"s\"x\n1,a\n", Some((0, false))),
+        ("id,\"s\n1,a\n", Some((0, true))),
+        ("\u{feff}\"id\",s\r\n1,5\"\r2,\"a \"\"b\"\", c\"", None),
+    ] {
+        let wanted = match odd {
+            Some((record, is_open)) => {
+                let words = match is_open {
+                    true => "a field whose quote mark is never closed, and which holds all that follows",
+                    false => "a field with text behind its closing quote mark, which is read as a part of it",
+                };
+                let record = match record {
+                    0 => "the record of names".to_string(),
+                    _ => format!("record {record}"),
+                };
+                Err(format!("{record} of the CSV has {words}"))
+            }
+            None => Ok(2),
+        };
+        for from in [&mut csv.as_bytes() as &mut dyn Read, &mut OneByOne(csv.as_bytes())] {
+            let told = db.load_csv_strict("t", from).map_err(|odd| odd.to_string());
+            assert_eq!(told, wanted, "{csv:?}");
+            assert_eq!(db.execute("delete t", []), Ok(wanted.clone().unwrap_or(0)));
+        }
+    }
+    assert_eq!(db.load_csv_strict("u", &b"id\n"[..]).unwrap_err().number(), Some(30));
+}
+
+#[test]
+fn odd_quote_marks_of_random_blocks_are_found() {
+    let (db, mut draw, mut odd) = (with_table(), Draw(2026), 0);
+    for _ in 0..20_000 {
+        let (marks, length) = (['"', '"', ',', '\n', '\r', 'a', 'b'], draw.of(&[1, 2, 5, 10, 20]));
+        let letters: String = (0..length).map(|_| draw.of(&marks)).collect();
+        let wanted = first_odd(&letters);
+        let found = match db.load_csv_strict("t", OneByOne(letters.as_bytes())) {
+            Err(Error::OddQuotes { record, is_open, .. }) => Some((record, is_open)),
+            other => {
+                assert!(other.is_err(), "{letters:?}");
+                None
+            }
+        };
+        odd += usize::from(found.is_some());
+        assert_eq!(found, wanted, "{letters:?}");
+    }
+    assert!(odd > 2_000, "{odd}");
 }
