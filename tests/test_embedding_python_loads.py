@@ -1,5 +1,6 @@
 """The binding for Python: loads of any size, which are whole or not at all, and columns that are named."""
 
+import decimal
 import io
 import itertools
 import random
@@ -13,8 +14,11 @@ from support.binding import mmdb
 SEED = 20261205
 TABLES = sizes.size(60, 2_000, 15)
 BLOCKS = sizes.size(3_000, 100_000, 800)
+ROWS_DRAWN = sizes.size(5_000, 200_000, 2_000)
 # Rows that need several blocks of the most bytes.
 MANY, LONG = 18_000, "x" * 1_000
+# A row of each kind of column that the extension writes.
+PLAIN_ROWS = {b"i": (0,), b"t": ("a",), b"I": (None,), b"T": (None,)}
 # A block into which few rows go, and how many of a chunk's rows and more there are.
 LITTLE, ROWS = 1_000, 1_300
 
@@ -39,6 +43,50 @@ class Loads(binding.WithDatabase):
 
     def check_unchanged(self):
         self.assertEqual((self.db.dump("t"), self.db.in_transaction), ([(-1, "old")], False))
+
+
+class Records(binding.WithDatabase):
+    """What the extension writes of rows at once is what is written of them by Python, or it writes nothing."""
+
+    # What columns may take, and of each some values, among which others are drawn now and then.
+    VALUES = {
+        "int": [0, -1, 7, 10, 1986, 2**63 - 1, -(2**63)],
+        "text": ["", "a", "O'Hara", "1,2", 'a "b"', "\r", "\n", "two words", "Straße", "😀", "\0", "null"],
+    }
+    ODD = [None, True, 2**63, -(2**63) - 1, 1.5, "\ud800", b"a", "", 1, "1", decimal.Decimal("1.5"), type("Text", (str,), {})("a")]
+
+    def setUp(self):
+        super().setUp()
+        if mmdb.implementation != "extension":
+            self.skipTest("only the extension writes rows at once")
+
+    def test_what_is_left_to_python(self):
+        for letters, row in (
+            *((b"i", row) for row in ((True,), ("1",), (1.0,), (None,), (2**63,), (1, 2), (), [1])),
+            *((b"t", row) for row in ((1,), (b"a",), (None,), ("\ud800",), (self.ODD[-1],), "a")),
+            *((b"I", row) for row in ((False,), ("",))),
+            *((b"T", row) for row in (("",), (0,))),
+        ):
+            with self.subTest(letters=letters, row=row):
+                self.assertIsNotNone(mmdb.values.plain_records(letters, [PLAIN_ROWS[letters]]))
+                self.assertIsNone(mmdb.values.plain_records(letters, [row]))
+                self.assertIsNone(mmdb.values.plain_records(letters, [PLAIN_ROWS[letters], row]))
+
+    def test_random_rows(self):
+        draw, plain = random.Random(SEED), 0
+        for _ in range(ROWS_DRAWN):
+            kinds = [(draw.choice(["int", "text"]), draw.random() < 0.3) for _ in range(draw.randrange(1, 4))]
+            columns = [mmdb.values.Column("c", {"int": int, "text": str}[kind], takes_null, None) for kind, takes_null in kinds]
+            values = [[*self.VALUES[kind], *([None] if takes_null else [])] for kind, takes_null in kinds]
+            rows = [tuple(map(draw.choice, values)) for _ in range(draw.randrange(4))]
+            if draw.random() < 0.2:
+                rows.append(draw.choice([tuple(draw.choices(self.ODD, k=len(kinds))), (), [1], "a", rows]))
+            with self.subTest(kinds=kinds, rows=rows):
+                written = mmdb.values.plain_records(mmdb.values.letters_of(columns), rows)
+                if written is not None:
+                    plain += 1
+                    self.assertEqual(written.decode(), "\n".join(mmdb.values.records_of(columns, rows, 0)))
+        self.assertGreater(plain, ROWS_DRAWN // 2)
 
 
 class Whole(Loads):

@@ -147,6 +147,10 @@ int named_begin(PyObject *module);
 /* What _quotes.c has: where the first field of a CSV begins whose quote marks are odd, and whether it is open; or None. */
 PyObject *odd_field(PyObject *module, PyObject *content);
 
+/* What _records.c has: the records of a load with these rows, a list of tuples, where columns have letters: `i` for integers, `t` for
+   texts, and large ones where nulls are taken too. Gives None where one of the values isn't stored there as it is. */
+PyObject *plain_records(PyObject *module, PyObject *given);
+
 /* Gives the memory of an object of one of the types here back. */
 void free_object(PyObject *self);
 

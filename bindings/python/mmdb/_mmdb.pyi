@@ -5,6 +5,7 @@ from typing import Any, ContextManager, List, Optional, Tuple
 from .lines import Placed
 
 def odd_field(content: bytes) -> Optional[Tuple[int, bool]]: ...
+def plain_records(columns: bytes, rows: List[Tuple[Any, ...]]) -> Optional[bytes]: ...
 
 class Named(Tuple[Any, ...]):
     """A tuple with names for its values, of which `mmdb.Row` is made."""

@@ -11,7 +11,7 @@ import warnings
 from typing import Any, Iterable, Iterator, List, Optional, Protocol, Sequence, Union
 
 from .errors import CsvWarning, WrongType, WrongValue
-from .loads import blocks, checked_names, header_of
+from .loads import blocks, checked_names, header_of, written
 from .quotes import MARK, Form, first_odd
 from .values import Column, as_bytes, joined_records, quoted_fields
 
@@ -187,7 +187,8 @@ class Picked:
             return iter([b""])
         records = self._records(pieces, watch)
         first = next(records, [])
-        return blocks(self.header, itertools.chain((first,), records), limit, encode)
+        chunks = (written(some, encode) for some in itertools.chain((first,), records))
+        return blocks(self.header, chunks, limit)
 
     def _records(self, pieces: Iterable[bytes], watch: Watch) -> Iterator[List[str]]:
         """The records of a CSV, chunk by chunk, without that of its names, which gives the header."""

@@ -3,13 +3,14 @@
 from __future__ import annotations
 
 import collections.abc
+import contextlib
 import itertools
 import operator
 import re
-from typing import Any, Callable, Iterable, Iterator, List, Mapping, Optional, Sequence, Tuple
+from typing import Any, Callable, Iterable, Iterator, List, Mapping, NamedTuple, Optional, Sequence, Tuple
 
 from .errors import Refused, WrongType, WrongUse
-from .values import Column, encoded, records_of, rows_of
+from .values import Column, encoded, letters_of, plain_records, records_of, rows_of
 
 #: Puts given rows, before which there are some others, into the order of a table's columns.
 Arrange = Callable[[List[Any], int], List[Tuple[Any, ...]]]
@@ -78,14 +79,18 @@ def by_name(table: str, columns: List[Column], names: Optional[Sequence[str]]) -
         return rows_of
     known = [column.name for column in columns]
     wanted = known if names is None else checked_names(table, columns, names)
-    nulls, all_names = dict.fromkeys(known), set(known)
-    # (with one more it gives a tuple of a single column too)
-    values = operator.itemgetter(*known, known[0])
+    nulls, all_names, values = dict.fromkeys(known), set(known), _values_of(known)
 
     def has_them(given: Mapping[str, Any]) -> bool:
         return given.keys() == all_names if names is None else all(name in given for name in wanted)
 
+    def may_have_just_them(dicts: List[Any]) -> bool:
+        return names is None and set(map(type, dicts)) <= {dict} and set(map(len, dicts)) <= {len(known)}
+
     def arrange(dicts: List[Any], before: int) -> List[Tuple[Any, ...]]:
+        if may_have_just_them(dicts):
+            with contextlib.suppress(KeyError):
+                return list(map(values, dicts))
         rows: List[Tuple[Any, ...]] = []
         for number, given in enumerate(dicts, before + 1):
             if type(given) is not dict and not isinstance(given, collections.abc.Mapping):
@@ -94,10 +99,17 @@ def by_name(table: str, columns: List[Column], names: Optional[Sequence[str]]) -
                 raise WrongUse(f"mmdb: {_misfit(wanted, given)} of {table} (row {number})")
             if len(wanted) < len(known):
                 given = {**nulls, **{name: given[name] for name in wanted}}
-            rows.append(values(given)[:-1])
+            rows.append(values(given))
         return rows
 
     return arrange
+
+
+def _values_of(names: Sequence[str]) -> Callable[[Mapping[str, Any]], Tuple[Any, ...]]:
+    """What takes the values of these names."""
+    if len(names) == 1:
+        return lambda given: (given[names[0]],)
+    return operator.itemgetter(*names)
 
 
 def _misfit(names: Sequence[Any], given: Mapping[str, Any]) -> str:
@@ -111,6 +123,18 @@ def _misfit(names: Sequence[Any], given: Mapping[str, Any]) -> str:
 # ---- blocks
 
 
+class Records(NamedTuple):
+    """Some records: their bytes, with line feeds between them, and what gives those of each."""
+
+    content: bytes
+    parts: Callable[[], Iterable[bytes]]
+
+
+def written(records: List[str], encode: Callable[[str], bytes]) -> Records:
+    """Records as bytes."""
+    return Records(encode("\n".join(records)), lambda: map(encode, records))
+
+
 def header_of(columns: Iterable[Column]) -> str:
     """The names of columns, as the first record of a block has them."""
     return ",".join(column.name for column in columns)
@@ -122,13 +146,23 @@ def blocks_of_rows(columns: List[Column], arrange: Arrange, chunks: Iterable[Lis
     if not columns:
         return iter([b""])
 
-    def records() -> Iterator[List[str]]:
+    letters = letters_of(columns)
+
+    def records() -> Iterator[Records]:
         before = 0
         for rows in chunks:
-            yield records_of(columns, arrange(rows, before), before)
+            yield _records(columns, letters, arrange(rows, before), before)
             before += len(rows)
 
-    return blocks(encoded(header_of(columns)), records(), limit, encoded)
+    return blocks(encoded(header_of(columns)), records(), limit)
+
+
+def _records(columns: List[Column], letters: bytes, rows: List[Tuple[Any, ...]], before: int) -> Records:
+    """The records of these rows, before which there are some others."""
+    content = plain_records(letters, rows)
+    if content is None:
+        return written(records_of(columns, rows, before), encoded)
+    return Records(content, lambda: map(encoded, records_of(columns, rows, before)))
 
 
 def chunked(given: List[Any], rows: Iterator[Any]) -> Iterator[List[Any]]:
@@ -138,13 +172,13 @@ def chunked(given: List[Any], rows: Iterator[Any]) -> Iterator[List[Any]]:
         given = list(itertools.islice(rows, CHUNK))
 
 
-def blocks(header: bytes, chunks: Iterable[List[str]], limit: int, encode: Callable[[str], bytes]) -> Iterator[bytes]:
+def blocks(header: bytes, chunks: Iterable[Records], limit: int) -> Iterator[bytes]:
     """These records in blocks of at most so many bytes. One that has no room in any has a block of its own."""
     pieces, size = [header], len(header)
-    for records in filter(None, chunks):
-        content = encode("\n".join(records))
-        # (mostly a chunk has room, and is one piece)
-        parts: Iterable[bytes] = [content] if size + 1 + len(content) <= limit else map(encode, records)
+    for records in chunks:
+        # (mostly a chunk has room, and is one piece; without records it is none)
+        has_room = not records.content or size + 1 + len(records.content) <= limit
+        parts: Iterable[bytes] = filter(None, [records.content]) if has_room else records.parts()
         for piece in parts:
             if size + 1 + len(piece) > limit and len(pieces) > 1:
                 yield b"\n".join(pieces)

@@ -5,8 +5,9 @@ from __future__ import annotations
 import collections.abc
 import operator
 import re
-from typing import Any, Dict, Iterable, List, Mapping, NamedTuple, Optional, Sequence, Tuple, Union
+from typing import TYPE_CHECKING, Any, Dict, Iterable, List, Mapping, NamedTuple, Optional, Sequence, Tuple, Union
 
+from .chosen import extension
 from .conversions import adapted, has_adapter
 from .errors import WrongType, WrongUse, WrongValue
 
@@ -163,6 +164,24 @@ def records_of(columns: List[Column], rows: Sequence[Tuple[Any, ...]], before: i
             raise WrongUse(f"mmdb: row {number} has {len(row)} values for {len(columns)} columns")
     fields = [_fields(list(map(operator.itemgetter(at), rows)), column, before) for at, column in enumerate(columns)]
     return joined_records(fields)
+
+
+def letters_of(columns: Iterable[Column]) -> bytes:
+    """What columns take, a letter for each: `i` for integers, `t` for texts, and large ones where nulls are taken too."""
+    letters = (("i" if column.kind is int else "t", column.takes_null) for column in columns)
+    return "".join(letter.upper() if takes_null else letter for letter, takes_null in letters).encode()
+
+
+def _no_records(columns: bytes, rows: List[Tuple[Any, ...]]) -> Optional[bytes]:
+    """The records of a load with these rows, with line feeds between them, where all values are stored as they are in columns
+    with these letters. Gives None where they aren't. (Only the extension has them.)"""
+    return None
+
+
+if TYPE_CHECKING or extension is None:
+    plain_records = _no_records
+else:
+    plain_records = extension.plain_records
 
 
 def joined_records(fields: Sequence[Sequence[str]]) -> List[str]:
