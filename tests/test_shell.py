@@ -1,5 +1,6 @@
 """The shell `mmdb-shell`: through a pipe, at a terminal, and its parts that split files."""
 
+import codecs
 import contextlib
 import io
 import os
@@ -337,6 +338,31 @@ class Refusals(shells.InThisProcess):
             shell = self.shell()
             shell.run(reading.Stream(io.BytesIO(f".read {self.room}/{name}\n".encode()), ""))
             self.assertRegex(shell._err.getvalue(), rf"^mmdb-shell: {self.room}/{last}, line 1: .* {why}\n$")
+
+
+class Marks(shells.InThisProcess):
+    """One byte order mark at the front of a file of lines is skipped, and is no part of its first line."""
+
+    def check(self, content, told, tables="t\n"):
+        path, shell = self.room / "script", self.shell()
+        path.write_bytes(content)
+        shell.run(reading.Stream(io.BytesIO(f".read {path}\n.tables\n".encode()), ""))
+        told = f"mmdb-shell: {path}, line 1: {told}\n" if told else ""
+        self.assertEqual((shell._err.getvalue(), shell._out.getvalue()), (told, tables))
+
+    def test_the_front_of_a_file(self):
+        line, mark = b"table t (id int)", codecs.BOM_UTF8
+        longest = line.ljust(reading.LONGEST_LINE)
+        for content in (mark + line, mark + line + b"\r\n", mark + b"\n" + line, mark + longest + b"\n", longest + b"\r\n"):
+            with self.subTest(front=content[:20], length=len(content)):
+                self.check(content, "")
+        for front in (mark + longest + b" ", longest + b" ", longest + mark, mark + longest + b" " + mark):
+            content = front + b"\n" + line
+            with self.subTest(front=content[:20], length=len(content)):
+                self.check(content, f"error 10 line too long: a line has at most {reading.LONGEST_LINE} bytes")
+        other = "error 20 not a command: column 1: <U+FEFF> is no command: a byte order mark is allowed at the front of a block only"
+        self.check(mark + mark + line, other, "")
+        self.check(b"", "", "")
 
 
 class Loads(shells.InThisProcess):

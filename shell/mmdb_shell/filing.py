@@ -88,7 +88,7 @@ def _export(shell: Shell, form: str, path: str) -> None:
 def _read(shell: Shell, path: str) -> None:
     done, refused = shell.done, shell.refused
     with opened(path, shell.interrupts) as file:
-        shell.run_file(Stream(file, path))
+        shell.run_file(Stream(file, path, skips_mark=True))
     refused = shell.refused - refused
     shell.note(f"{path} is read: {shell.done - done} lines done, {refused} refused")
 

@@ -3,6 +3,7 @@
 from __future__ import annotations
 
 import re
+from codecs import BOM_UTF8
 from typing import BinaryIO, Callable, Optional, Union
 
 import mmdb
@@ -78,11 +79,12 @@ class Source:
 
 
 class Stream(Source):
-    """The requests of a file or a pipe."""
+    """The requests of a file or a pipe. A mark of UTF-8 in front of the first line is skipped where it is asked for."""
 
-    def __init__(self, file: Union[BinaryIO, Read], name: str) -> None:
+    def __init__(self, file: Union[BinaryIO, Read], name: str, skips_mark: bool = False) -> None:
         self._file = file
         self.name = name
+        self._skips_mark = skips_mark
         #: Bytes that were read from the file, and are read again first.
         self._again = b""
         #: The lines since the mark, where there is one, and the number of the line before them.
@@ -124,6 +126,13 @@ class Stream(Source):
         self._marked = None
 
     def _readline(self, most: int) -> bytes:
+        if self._skips_mark:
+            self._skips_mark = False
+            # (the mark is none of the bytes that a line may have)
+            line = self._file.readline(most + len(BOM_UTF8))
+            front = len(BOM_UTF8) if line.startswith(BOM_UTF8) else 0
+            self._again = line[front + most :]
+            return line[front : front + most]
         if not self._again:
             return self._file.readline(most)
         end = min(self._again.find(b"\n") + 1 or len(self._again), most)
