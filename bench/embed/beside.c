@@ -15,23 +15,24 @@
 enum { ROUNDS = 7, STATEMENTS = 10000, SELECTS = 100, MOST_NEW = 2000, LINE = 200 };
 enum { ROWS_OF_A_SELECT = 1000, ROWS_OF_A_BLOCK = 100000, INSERTS = 100000, LONGEST_ROW = 64 };
 
-typedef enum kind { SELECT, INSERT, UPDATE, DELETE, RANGE, KINDS } kind;
+typedef enum kind { SELECT, INSERT, UPDATE, DELETE, RANGE, COUNT, KINDS } kind;
 
 /* Both are asked by a new text each time, and by statements that are prepared once. */
 typedef enum way { OUR_TEXT, THEIR_TEXT, OUR_STATEMENT, THEIR_STATEMENT, WAYS } way;
 
 static const char *const NAMES[KINDS] = { "select by key", "insert by key", "update by key", "delete by key",
-                                          "select of 1,000" };
+                                          "select of 1,000", "count of 1,000" };
 
-/* The statements of both: a key, a number and a text of eight letters go into each, or the keys of a range. */
-static const char *const OUR_TEXTS[KINDS] = {
+/* The statements of both: a key, a number and a text of eight letters go into each, or the keys of a range. A count is asked by a
+   statement alone. */
+static const char *const OUR_TEXTS[COUNT] = {
     "select * from t where id = %1$" PRId64,
     "insert t (%1$" PRId64 ", %2$" PRId64 ", '%3$s')",
     "update t set n = %2$" PRId64 ", s = '%3$s' where id = %1$" PRId64,
     "delete t where id = %1$" PRId64,
     "select * from t where id >= %1$" PRId64 " and id < %2$" PRId64,
 };
-static const char *const THEIR_TEXTS[KINDS] = {
+static const char *const THEIR_TEXTS[COUNT] = {
     "select * from t where id = %1$" PRId64,
     "insert into t values (%1$" PRId64 ", %2$" PRId64 ", '%3$s')",
     "update t set n = %2$" PRId64 ", s = '%3$s' where id = %1$" PRId64,
@@ -44,6 +45,7 @@ static const char *const OUR_STATEMENTS[KINDS] = {
     "update t set n = ?, s = ? where id = ?",
     "delete t where id = ?",
     "select * from t where id >= ? and id < ?",
+    "select * from t where id >= ? and id < ?",
 };
 static const char *const THEIR_STATEMENTS[KINDS] = {
     "select * from t where id = ?",
@@ -51,6 +53,7 @@ static const char *const THEIR_STATEMENTS[KINDS] = {
     "update t set n = ?, s = ? where id = ?",
     "delete from t where id = ?",
     "select * from t where id >= ? and id < ?",
+    "select count(*) from t where id >= ? and id < ?",
 };
 
 /* Both databases, and what was read of their rows, so that nothing is left out. */
@@ -67,16 +70,21 @@ typedef struct values {
     char text[9];
 } values;
 
+static int is_range(kind of)
+{
+    return of == RANGE || of == COUNT;
+}
+
 static values values_of(kind of, int64_t key)
 {
-    values made = { key, of == RANGE ? key + 2 * ROWS_OF_A_SELECT : key / 2, "" };
+    values made = { key, is_range(of) ? key + 2 * ROWS_OF_A_SELECT : key / 2, "" };
     letters(made.text, key);
     return made;
 }
 
-static int is_select(kind of)
+static int is_read(kind of)
 {
-    return of == SELECT || of == RANGE;
+    return of == SELECT || is_range(of);
 }
 
 /* Reads the records of an answer, in which no field is quoted. */
@@ -103,11 +111,13 @@ static void read_rows(const mmdb_rows *rows)
     }
 }
 
-static void read_theirs(sqlite3_stmt *row, way of)
+static void read_theirs(sqlite3_stmt *row, kind of, way by)
 {
-    sums[of] += (uint64_t)sqlite3_column_int64(row, 0);
-    sums[of] += (uint64_t)sqlite3_column_int64(row, 1);
-    sums[of] += sqlite3_column_text(row, 2)[0];
+    sums[by] += (uint64_t)sqlite3_column_int64(row, 0);
+    if (of == COUNT)
+        return;
+    sums[by] += (uint64_t)sqlite3_column_int64(row, 1);
+    sums[by] += sqlite3_column_text(row, 2)[0];
 }
 
 static void do_our_text(kind of, const values *with)
@@ -116,7 +126,7 @@ static void do_our_text(kind of, const values *with)
     mmdb_bytes answer;
     int length = snprintf(line, sizeof line, OUR_TEXTS[of], with->key, with->number, with->text);
     insist(mmdb_command(&ours, line, (size_t)length, &answer) == MMDB_DONE && mmdb_refusal(&ours) == 0, line);
-    if (is_select(of))
+    if (is_read(of))
         read_answer(answer);
 }
 
@@ -124,22 +134,28 @@ static void do_our_statement(kind of, const values *with)
 {
     const uint32_t statement = prepared[of].number;
     mmdb_rows rows;
+    uint64_t counted;
     uint32_t key = of == UPDATE ? 2 : 0, number = of == UPDATE ? 0 : 1;
     mmdb_bind_integer(&ours, statement, key, with->key);
     if (of == INSERT || of == UPDATE)
         mmdb_bind_text(&ours, statement, number + 1, with->text, 8);
-    if (of == INSERT || of == UPDATE || of == RANGE)
+    if (of == INSERT || of == UPDATE || is_range(of))
         mmdb_bind_integer(&ours, statement, number, with->number);
+    if (of == COUNT) {
+        insist(mmdb_count(&ours, statement, &counted) == MMDB_DONE, OUR_STATEMENTS[of]);
+        sums[OUR_STATEMENT] += counted;
+        return;
+    }
     insist(mmdb_execute(&ours, statement, &rows) == MMDB_DONE, OUR_STATEMENTS[of]);
-    if (is_select(of))
+    if (is_read(of))
         read_rows(&rows);
 }
 
 static void finish_theirs(sqlite3_stmt *statement, kind of, way by)
 {
     int status = sqlite3_step(statement);
-    for (; is_select(of) && status == SQLITE_ROW; status = sqlite3_step(statement))
-        read_theirs(statement, by);
+    for (; is_read(of) && status == SQLITE_ROW; status = sqlite3_step(statement))
+        read_theirs(statement, of, by);
     insist(status == SQLITE_DONE, sqlite3_sql(statement));
 }
 
@@ -160,7 +176,7 @@ static void do_their_statement(kind of, const values *with)
     sqlite3_bind_int64(statement, key, with->key);
     if (of == INSERT || of == UPDATE)
         sqlite3_bind_text(statement, number + 1, with->text, 8, SQLITE_STATIC);
-    if (of == INSERT || of == UPDATE || of == RANGE)
+    if (of == INSERT || of == UPDATE || is_range(of))
         sqlite3_bind_int64(statement, number, with->number);
     finish_theirs(statement, of, THEIR_STATEMENT);
     sqlite3_reset(statement);
@@ -185,12 +201,12 @@ static double batch(way by, kind of, const int64_t *keys, int64_t count)
 /* Draws the keys of some statements, and gives their number. The keys in the table are even, and new ones are odd. */
 static int64_t draw_keys(int64_t *keys, kind of, int64_t rows)
 {
-    int64_t most = rows < MOST_NEW ? rows : MOST_NEW, count = of == RANGE ? SELECTS : STATEMENTS;
+    int64_t most = rows < MOST_NEW ? rows : MOST_NEW, count = is_range(of) ? SELECTS : STATEMENTS;
     if (of == INSERT || of == DELETE) {
         shuffle(keys, most, rows / most * 2, 1);
         return most;
     }
-    if (of == RANGE)
+    if (is_range(of))
         rows -= ROWS_OF_A_SELECT - 1;
     for (int64_t i = 0; i < count; i++)
         keys[i] = 2 * (int64_t)draw((uint64_t)rows);
@@ -204,7 +220,7 @@ static double statement(way by, kind of, int64_t rows)
     static int64_t keys[STATEMENTS];
     const way in_both = by == OUR_TEXT || by == OUR_STATEMENT ? OUR_STATEMENT : THEIR_STATEMENT;
     int64_t count = draw_keys(keys, of, rows);
-    int64_t batches = of == RANGE ? 1 : STATEMENTS / count;
+    int64_t batches = is_range(of) ? 1 : STATEMENTS / count;
     double took = 0;
     for (int64_t i = 0; i < batches; i++) {
         if (of == DELETE)
@@ -224,13 +240,17 @@ static void tell(const char *what, const char *by, double of_ours, double of_the
 
 static void compare(kind of, int64_t rows)
 {
+    const way first = of == COUNT ? OUR_STATEMENT : OUR_TEXT;
     double best[WAYS] = { 1e9, 1e9, 1e9, 1e9 };
-    for (int turn = 0; turn < ROUNDS * WAYS; turn++) {
-        double took = statement((way)(turn % WAYS), of, rows);
-        if (took < best[turn % WAYS])
-            best[turn % WAYS] = took;
+    for (int round = 0; round < ROUNDS; round++) {
+        for (way by = first; by < WAYS; by++) {
+            double took = statement(by, of, rows);
+            if (took < best[by])
+                best[by] = took;
+        }
     }
-    tell(NAMES[of], "new text", best[OUR_TEXT], best[THEIR_TEXT]);
+    if (first == OUR_TEXT)
+        tell(NAMES[of], "new text", best[OUR_TEXT], best[THEIR_TEXT]);
     tell(NAMES[of], "statement", best[OUR_STATEMENT], best[THEIR_STATEMENT]);
 }
 
@@ -314,8 +334,8 @@ static void compare_all(int64_t rows)
     free(keys);
     for (kind of = SELECT; of <= DELETE; of++)
         compare(of, rows);
-    if (rows >= ROWS_OF_A_SELECT)
-        compare(RANGE, rows);
+    for (kind of = RANGE; of <= COUNT && rows >= ROWS_OF_A_SELECT; of++)
+        compare(of, rows);
     for (way by = OUR_TEXT; by < WAYS; by++)
         insist(sums[by] != 0, "a select");
 }

@@ -9,6 +9,12 @@ STATEMENTS = 2_000
 ROWS_OF_A_BLOCK = 100_000
 KINDS = ("select by key", "insert by key", "update by key", "delete by key")
 WAYS = ("new text", "parameters", "prepared")
+#: What is put in by one call, by the name of the figure: the call, and what makes of a list of tuples what it takes.
+MANY_WAYS = {
+    "insert of many": ("put in", lambda rows: rows),
+    "load of an iterator": ("load", iter),
+    "load of dicts": ("load dicts", lambda rows: ({"id": id, "n": n, "s": s} for id, n, s in rows)),
+}
 # What comes behind a batch, so that the tables are as they were. It isn't timed.
 UNDONE_BY = {"insert by key": "delete by key", "delete by key": "insert by key"}
 RANGE = 1_000
@@ -37,7 +43,8 @@ def ours(db):
         "range": lambda least, most: execute("select * from t where id >= ? and id < ?", least, most),
         "put in": lambda rows: db.executemany(insert, rows),
         "take out": lambda rows: db.executemany(delete, rows),
-        "load": lambda dicts: db.load_dicts("t", dicts),
+        "load": lambda rows: db.load("t", rows),
+        "load dicts": lambda dicts: db.load_dicts("t", dicts),
     }
 
 
@@ -59,7 +66,8 @@ def theirs(text, kept):
         "range": lambda least, most: execute("select * from t where id >= ? and id < ?", (least, most)).fetchall(),
         "put in": lambda rows: in_one_transaction(kept, insert, rows),
         "take out": lambda rows: in_one_transaction(kept, delete, rows),
-        "load": lambda dicts: in_one_transaction(kept, "insert into t values (:id, :n, :s)", dicts),
+        "load": lambda rows: in_one_transaction(kept, insert, rows),
+        "load dicts": lambda dicts: in_one_transaction(kept, "insert into t values (:id, :n, :s)", dicts),
     }
     return {**{(kind, "prepared"): found[kind, "parameters"] for kind in KINDS}, **found}
 
@@ -120,12 +128,12 @@ class Comparison:
             side["range"](least, least + 2 * RANGE)
         return (took + time.process_time_ns()) / 1e9 / len(begins)
 
-    def seconds_of_many(self, side, call="put in"):
-        """The seconds of a row where many are put in by one call: of a list of tuples, or by a load of an iterator of dicts."""
+    def seconds_of_many(self, side, call, made):
+        """The seconds of a row where many are put in by one call, with what is made of a list of tuples."""
         keys = [2 * key + 1 for key in self.draw.sample(range(max(self.rows, MANY)), MANY)]
         rows = [(key, key, "abcdefgh") for key in keys]
         took = -time.process_time_ns()
-        side[call](rows if call == "put in" else ({"id": id, "n": n, "s": s} for id, n, s in rows))
+        side[call](made(rows))
         took += time.process_time_ns()
         side["take out"]([(key,) for key in keys])
         return took / 1e9 / MANY
@@ -141,8 +149,8 @@ class Comparison:
                 self.best(kind, way, lambda side, kind=kind, way=way: self.seconds(kind, way, side))
         if self.rows >= RANGE:
             self.best(f"select {RANGE:,} rows", "parameters", self.seconds_of_a_range)
-        self.best("insert of many", "a row", self.seconds_of_many)
-        self.best("load of dicts", "a row", lambda side: self.seconds_of_many(side, "load"))
+        for what, way in MANY_WAYS.items():
+            self.best(what, "a row", lambda side, way=way: self.seconds_of_many(side, *way))
         self.db.close()
         for connection in self.connections:
             connection.close()
