@@ -52,7 +52,7 @@ class Service:
 
     def counts(self) -> str:
         """How many there are, of users and anonymous."""
-        named, unnamed = (len(self.db.select(f"select token from session where user {sign} null")) for sign in ("<>", "="))
+        named, unnamed = (self.db.count(f"select token from session where user {sign} null") for sign in ("<>", "="))
         return f"{named} of users, {unnamed} anonymous"
 
 
