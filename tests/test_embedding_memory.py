@@ -1,5 +1,5 @@
 """The examples, and the bindings' statements, over a library that counts its memory: whichever call for memory fails, everything is freed
-when the program ends.
+when the program ends. And selects by a tree, which ask for none once they are warm.
 """
 
 import itertools
@@ -74,6 +74,13 @@ class Readers(unittest.TestCase):
         count = compiling.COUNT.fullmatch(ended.err)
         self.assertIsNotNone(count, ended.err.decode(errors="replace"))
         self.assertEqual((ended.status, ended.out, count[1], count[3]), (0, b"", count[2], b"0"))
+
+
+class Rooms(compiling.Programs):
+    """A warm select by a tree asks for no memory, each call for memory of a cold one is refused in turn, and the room for many rows is freed."""
+
+    def test_in_c(self):
+        self.check_counted(ROOM.compiled("rooms", compiling.PROGRAMS / "rooms.c", compiling.C, compiling.COUNTED))
 
 
 class Examples(unittest.TestCase):

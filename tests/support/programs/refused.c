@@ -1,10 +1,11 @@
 /* Refuses each call for memory of each request in turn. A request is then answered `error 90` and leaves everything as
-   it was, or it is answered as ever; and why it was refused is told as ever, or not for want of memory. A second handle,
-   which is never refused anything, tells what is as ever. */
+   it was, or it is answered as ever; so is a question about a plan or about indexes. Why it was refused is told as ever, or not
+   for want of memory. A second handle, which is never refused anything, tells what is as ever. */
 #include "allocations.h"
 #include "checking.h"
 
-enum { ROOM = 65536 };
+/* FILLED is how many requests there are before the first that takes something away. */
+enum { ROOM = 65536, FILLED = 10 };
 
 typedef struct request {
     const char *line;
@@ -124,6 +125,58 @@ static long refuses_each(size_t number)
     return refused;
 }
 
+/* What is asked beside the requests: for a plan, or for the state of indexes. */
+typedef uint32_t question(mmdb *, const void *, size_t, mmdb_bytes *);
+
+/* Asks it of filled tables, with the call for memory behind so many refused. */
+static outcome asks_beside(question *asks, const char *about, long met)
+{
+    mmdb db = MMDB_CLOSED, twin = MMDB_CLOSED;
+    mmdb_bytes answer, expected;
+    uint32_t status;
+    outcome ends;
+    open_after(&db, FILLED);
+    open_after(&twin, FILLED);
+    allocations_refuse(met, 1);
+    status = asks(&db, about, strlen(about), &answer);
+    ends = allocations_refused() == 0 ? NONE_WAS_REFUSED : mmdb_refusal(&db) == 90 ? ANSWERED_90 : ANSWERED_AS_EVER;
+    allocations_refuse(0, 0);
+    GIVES(asks(&twin, about, strlen(about), &expected), MMDB_DONE);
+    if (ends == ANSWERED_90)
+        CHECK(status == (asks == mmdb_plan ? MMDB_REFUSED : MMDB_DONE) && reads(answer, "error 90 no memory\n"));
+    else
+        CHECK(status == MMDB_DONE && is_answered_alike(answer, expected));
+    CHECK(is_as(&db, &twin));
+    mmdb_close(&db);
+    mmdb_close(&twin);
+    CHECK(allocations_held() == 0);
+    return ends;
+}
+
+/* Refuses each call for memory of a question in turn. Gives how often it was answered `error 90`. */
+static long refuses_each_beside(question *asks, const char *about)
+{
+    long refused = 0;
+    outcome ends = ANSWERED_90;
+    for (long met = 0; ends != NONE_WAS_REFUSED; met++) {
+        ends = asks_beside(asks, about, met);
+        refused += ends == ANSWERED_90;
+    }
+    return refused;
+}
+
+static void are_asked_beside(void)
+{
+    static const char *const SELECTS[] = {
+        "select * from emp where id = 3", "select distinct name from emp where dept >= 1 and name <> 'Cy'",
+        "select emp.name, dept.name from emp join dept on emp.dept = dept.id where dept.name = 'toys'",
+        "select emp.name, dept.id from emp join dept on emp.name = dept.name",
+    };
+    CHECK(refuses_each_beside(mmdb_indexes, "emp") > 0 && refuses_each_beside(mmdb_indexes, "dept") > 0);
+    for (size_t i = 0; i < sizeof SELECTS / sizeof SELECTS[0]; i++)
+        CHECK(refuses_each_beside(mmdb_plan, SELECTS[i]) > 0);
+}
+
 /* Opens a handle with each of its calls for memory refused in turn. */
 static void opens(void)
 {
@@ -207,6 +260,7 @@ int main(void)
     for (size_t i = 0; i < sizeof REQUESTS / sizeof REQUESTS[0]; i++)
         refused += refuses_each(i);
     CHECK(refused > 0);
+    are_asked_beside();
     for (size_t i = 0; i < sizeof REQUESTS / sizeof REQUESTS[0]; i++)
         untold += asks_why(i);
     CHECK(untold > 0);
