@@ -106,16 +106,6 @@ impl Relation {
         self.rows.holds(r)
     }
 
-    /// Whether a row is under this reference, which may be any. Who asks about many says once whether rows may be owed: where none is,
-    /// none is hidden, and that isn't looked up for each.
-    #[inline]
-    pub fn holds_beside(&self, r: TupleRef, owes: bool) -> bool
-        requires { owes ≡ false → self.now.owed ≡ 0 }
-        ensures { result ≡ finite.contains_key self.now.rows r }
-    {
-        self.rows.holds_beside(r, owes)
-    }
-
     /// The number of slots for rows, free or not. The number of each row's reference is below it. Rows whose numbers are
     /// neighbours lie side by side, so who needs no order reads them in that of these numbers.
     pub fn slots(&self) -> u64

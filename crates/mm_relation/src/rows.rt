@@ -202,15 +202,6 @@ impl Rows {
         self.store.holds(r) && !hides(&self.hidden, self.hidden_count, r.number)
     }
 
-    // Whether a row is held under this reference, which may be any, where it is known that no row is owed, or that some may be.
-    #[inline]
-    pub fn holds_beside(&self, r: TupleRef, owes: bool) -> bool
-        requires { owes ≡ false → self.now.aside.owed ≡ 0 }
-        ensures { result ≡ finite.contains_key self.now.tuples r }
-    {
-        self.store.holds(r) && !(owes && self.hidden.has(r.number))
-    }
-
     // The number of slots, free or not. The number of each row's reference is below it.
     pub fn slots(&self) -> u64
         ensures most { result ≤ MAX_TUPLES }

@@ -44,7 +44,7 @@ fn words_for(slots: u64) -> usize
 }
 
 impl SlotSet {
-    /// The set of no slot. It takes no memory.
+    // The set of no slot. It takes no memory.
     pub fn new(alloc: Global) -> SlotSet
         ensures { result ≡ [] }
     {
@@ -55,7 +55,7 @@ impl SlotSet {
         }
     }
 
-    /// Whether a slot is in it: the slot may be any.
+    // Whether a slot is in it: the slot may be any.
     #[inline]
     pub fn has(&self, slot: u32) -> bool
         ensures { result ≡ has_slot self.now slot }
@@ -66,14 +66,14 @@ impl SlotSet {
         }
     }
 
-    /// Whether there is memory for a slot.
+    // Whether there is memory for a slot.
     pub fn covers(&self, slot: u32) -> bool
         ensures { result ≡ true → slot / 64 < length self.now }
     {
         ((slot / WORD_BITS) as usize) < self.words.len()
     }
 
-    /// Whether none of the slots of a word is in it.
+    // Whether none of the slots of a word is in it.
     pub fn lacks_word(&self, place: u32) -> bool
         ensures { IsTrue result → (slot : ℕ) → slot / 64 ≡ place → has_slot self.now slot ≡ false }
     {
@@ -83,7 +83,7 @@ impl SlotSet {
         }
     }
 
-    /// The words between which its slots are: from the first up to the second.
+    // The words between which its slots are: from the first up to the second.
     pub fn bounds(&self) -> (u32, u32)
         ensures within { LieWithin self.now result.0 result.1 }
         ensures most { result.1 ≤ 67108864 }
@@ -91,7 +91,7 @@ impl SlotSet {
         (self.start, self.end)
     }
 
-    /// Forgets between which words its slots were, where there are none: so the next ones alone tell.
+    // Forgets between which words its slots were, where there are none: so the next ones alone tell.
     pub fn forget_bounds(&mut self)
         requires { HasNoSlot self.old }
         ensures { self.new ≡ self.old }
@@ -100,7 +100,7 @@ impl SlotSet {
         self.end = 0;
     }
 
-    /// Puts a slot in that there is memory for.
+    // Puts a slot in that there is memory for.
     pub fn insert(&mut self, slot: u32)
         requires { slot / 64 < length self.old }
         ensures changes { ChangesSlot self.old self.new slot true }
@@ -112,7 +112,7 @@ impl SlotSet {
         self.end = self.end.max(place + 1);
     }
 
-    /// Takes a slot out.
+    // Takes a slot out.
     pub fn remove(&mut self, slot: u32)
         requires { slot / 64 < length self.old }
         ensures changes { ChangesSlot self.old self.new slot false }
@@ -121,7 +121,7 @@ impl SlotSet {
         self.words[(slot / WORD_BITS) as usize] &= !(1 << (slot % WORD_BITS));
     }
 
-    /// Takes all slots out.
+    // Takes all slots out.
     pub fn clear(&mut self)
         ensures { HasNoSlot self.new }
     {
@@ -130,7 +130,7 @@ impl SlotSet {
         self.end = 0;
     }
 
-    /// Makes sure of memory for so many slots. It takes some for as many again, so the next ones seldom need more.
+    // Makes sure of memory for so many slots. It takes some for as many again, so the next ones seldom need more.
     pub fn cover(&mut self, slots: u64) -> Result<(), NoMemory>
         requires { slots ≤ 4294967296 }
         ensures same { (slot : ℕ) → has_slot self.new slot ≡ has_slot self.old slot }
@@ -144,7 +144,7 @@ impl SlotSet {
         Ok(())
     }
 
-    /// Gives the memory back where it is for more than four times so many slots. There is no slot in the set.
+    // Gives the memory back where it is for more than four times so many slots. There is no slot in the set.
     pub fn shed(&mut self, slots: u64)
         requires few { slots ≤ 4294967296 }
         requires none { HasNoSlot self.old }

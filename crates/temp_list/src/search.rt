@@ -118,10 +118,9 @@ pub fn passing_in_slots<R: Relations>(
 {
     a_relation_is_kept(relation);
     let mut rows = Vec::new(alloc);
-    let owes = relation.owed() > 0;
     for number in 0..relation.slots() {
         let r = numbered(number);
-        if !relation.holds_beside(r, owes) || !passes_all(tables, relation, r, tests) {
+        if !relation.holds(r) || !passes_all(tables, relation, r, tests) {
             continue;
         }
         if rows.len() as u64 >= most {
