@@ -1,6 +1,6 @@
 /* Refuses each call for memory of each request in turn. A request is then answered `error 90` and leaves everything as
-   it was, or it is answered as ever; so is a question about a plan or about indexes. Why it was refused is told as ever, or not
-   for want of memory. A second handle, which is never refused anything, tells what is as ever. */
+   it was, or it is answered as with memory; so is a question about a plan or about indexes. Its reason is the same as with
+   memory, or out of memory. A second handle, which is never refused anything, shows what is answered with memory. */
 #include "allocations.h"
 #include "checking.h"
 
@@ -85,6 +85,14 @@ static void open_after(mmdb *db, size_t count)
 /* What became of a request one of whose calls for memory was refused. */
 typedef enum outcome { NONE_WAS_REFUSED, ANSWERED_AS_EVER, ANSWERED_90 } outcome;
 
+/* How the last call on a handle ended. No more calls for memory are refused. */
+static outcome ended(mmdb *db)
+{
+    outcome ends = allocations_refused() == 0 ? NONE_WAS_REFUSED : mmdb_refusal(db) == 90 ? ANSWERED_90 : ANSWERED_AS_EVER;
+    allocations_refuse(0, 0);
+    return ends;
+}
+
 /* Asks a request after all those before it, with the call for memory behind so many refused. */
 static outcome tries(size_t number, long met)
 {
@@ -97,8 +105,7 @@ static outcome tries(size_t number, long met)
     open_after(&twin, number);
     allocations_refuse(met, 1);
     status = load(&db, asked.line, asked.block, &answer);
-    ends = allocations_refused() == 0 ? NONE_WAS_REFUSED : mmdb_refusal(&db) == 90 ? ANSWERED_90 : ANSWERED_AS_EVER;
-    allocations_refuse(0, 0);
+    ends = ended(&db);
     GIVES(status, MMDB_DONE);
     if (ends == ANSWERED_90) {
         CHECK(reads(answer, "error 90 no memory\n"));
@@ -139,8 +146,7 @@ static outcome asks_beside(question *asks, const char *about, long met)
     open_after(&twin, FILLED);
     allocations_refuse(met, 1);
     status = asks(&db, about, strlen(about), &answer);
-    ends = allocations_refused() == 0 ? NONE_WAS_REFUSED : mmdb_refusal(&db) == 90 ? ANSWERED_90 : ANSWERED_AS_EVER;
-    allocations_refuse(0, 0);
+    ends = ended(&db);
     GIVES(asks(&twin, about, strlen(about), &expected), MMDB_DONE);
     if (ends == ANSWERED_90)
         CHECK(status == (asks == mmdb_plan ? MMDB_REFUSED : MMDB_DONE) && reads(answer, "error 90 no memory\n"));
@@ -221,8 +227,8 @@ static int feeds(long met)
     return refused != 0;
 }
 
-/* Asks why a request was refused, where it was, with each call for memory refused in turn: the words are as ever, or there
-   was no memory for them. Gives how often there was none. */
+/* Asks why a request was refused, where it was, with each call for memory refused in turn: the words are those with memory, or
+   none, out of memory. Gives how often there were none. */
 static long asks_why(size_t number)
 {
     const request asked = REQUESTS[number];
