@@ -1,6 +1,7 @@
 //! The rows of one table.
 ghost use Rattle.std.specs.Prelude.{◌≡◌, ◌≢◌, ◌+◌, ◌*◌, ◌++◌, ◌-◌, ◌^◌, [], Contains, ◌<◌, ◌≤◌, All, true, false, Some, IsOk, IsSome, IsTrue, IfSome, IfNone, IfOk, OnOk, OnErr, length, map};
 ghost use Rattle.std.specs.Bool.{OnTrue, OnFalse};
+ghost use Rattle.part_raw.specs.TupleRefs.{part_of};
 
 use crate::change::{change_all, copies_for};
 use crate::index::IndexOn;
@@ -104,6 +105,14 @@ impl Relation {
         ensures { result ≡ finite.contains_key self.now.rows r }
     {
         self.rows.holds(r)
+    }
+
+    /// Whether a row is under each reference into this partition of the store, which may be any. It may say no where a row is owed or
+    /// was. It spares who reads all rows a look at each slot.
+    pub fn fills(&self, part: u32) -> bool
+        ensures { IsTrue result → (r : TupleRef) → part_of r ≡ part → IsSome (finite.get self.now.rows r) }
+    {
+        self.rows.fills(part)
     }
 
     /// The number of slots for rows, free or not. The number of each row's reference is below it. Rows whose numbers are

@@ -8,6 +8,7 @@
 ghost use Rattle.std.specs.Prelude.{◌≡◌, ℕ, ◌+◌, ◌-◌, ◌*◌, ◌/◌, ◌<◌, ◌≤◌, [], true, false, Some, None, IsOk, IsSome, IsTrue, IfOk, OnErr, OnOk, length, slice_set};
 ghost use Rattle.std.specs.FinMap as finite;
 ghost use Rattle.mm_relation.specs.Reading.{key_at};
+ghost use Rattle.part_raw.specs.TupleRefs.{part_of};
 ghost use Rattle.part_raw.specs.declared.tuple_ref.TupleRef.{TupleRef};
 ghost use Rattle.mm_relation.specs.Rows.{ChangesSlot, HaveNoReferrers, Row, StartsWithKey, has_slot, referrers_at, row_of, row_store, with_hidden, with_number, with_shown, without_number};
 ghost use Rattle.mm_relation.specs.Settling.{DropsHidden, HasNoneBefore};
@@ -200,6 +201,13 @@ impl Rows {
         ensures { result ≡ finite.contains_key self.now.tuples r }
     {
         self.store.holds(r) && !hides(&self.hidden, self.hidden_count, r.number)
+    }
+
+    // Whether a row is held under each reference into this partition, which may be any. Where a row is hidden anywhere it says no.
+    pub fn fills(&self, part: u32) -> bool
+        ensures { IsTrue result → (r : TupleRef) → part_of r ≡ part → IsSome (finite.get self.now.tuples r) }
+    {
+        self.hidden_count == 0 && self.store.fills(part)
     }
 
     // The number of slots, free or not. The number of each row's reference is below it.

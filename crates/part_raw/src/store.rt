@@ -7,6 +7,7 @@ ghost use Rattle.std.specs.Vec.{vec_len, vec_capacity};
 ghost use Rattle.part_raw.specs.Store.{store, count_of, tuple_at, with_cells, with_count, IsHeld, HasNoCounts, EndsHeld, free_reserved};
 ghost use Rattle.part_raw.specs.Counted.{number_of, zeros};
 ghost use Rattle.part_raw.specs.Layout.{is_set, tuples_of, vacancies};
+ghost use Rattle.part_raw.specs.TupleRefs.{part_of};
 ghost use Rattle.part_raw.specs.Open.{AreKept, HaveCounts, HoldsWhereBlock, IsOpenList, Tells, below, has_block_at, next_at, tables};
 
 use crate::bitmap::Bitmap;
@@ -262,6 +263,14 @@ impl<T> Partitions<T> {
     {
         let part = r.part() as usize;
         part < self.occupancies.len() && self.occupancies[part].held.has(r.slot())
+    }
+
+    /// Whether each slot of this partition holds a tuple. There may be no such partition.
+    pub fn fills(&self, part: u32) -> bool
+        ensures { IsTrue result → (r : TupleRef) → part_of r ≡ part → IsHeld self.now r }
+    {
+        let place = part as usize;
+        place < self.occupancies.len() && self.occupancies[place].held.is_full()
     }
 
     /// The cells of the tuple under this reference.
