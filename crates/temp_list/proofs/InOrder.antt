@@ -1,7 +1,7 @@
 -- Rows that pass, in the order of their keys.
-use Rattle.std.proofs.Common.{◌≡◌, ◌<◌, ◌+◌, false, List, IsSome, get_or, length, ap, arith, Ordering}
+use Rattle.std.proofs.Common.{◌≡◌, ◌∙◌, ◌<◌, ◌+◌, false, List, IsSome, get_or, length, ap, arith, Ordering}
 use Rattle.std.specs.List.{AllPairs}
-use Rattle.std.specs.List.Sorted.{IsSorted}
+use Rattle.std.specs.List.Sorted.{IsPermutation, IsSorted}
 use Rattle.std.specs.FinMap as finite
 use Rattle.std.specs.Cmp.Lexicographic.{options_total}
 use Rattle.std.specs.Option.{option_cmp}
@@ -9,6 +9,7 @@ use Rattle.std.specs.Ordering.{is_lt, ordering_reverse, ordering_then}
 use Rattle.std.specs.declared.cmp.Ordering.TheVariants.{Less, Equal, Greater}
 use Rattle.std.proofs.lemmas.Cmp.{on_total}
 use Rattle.std.proofs.lemmas.List.Kept.{AllPairs-filter}
+use Rattle.std.proofs.lemmas.List.Sorted.{All-permutation, sum_by-IsPermutation}
 use Rattle.part_raw.specs.declared.tuple_ref.TupleRef.{TupleRef}
 use Rattle.plain_tables.specs.Values.{value_cmp, value_cmp_total}
 use Rattle.plain_tables.specs.declared.resolved.Test.{Test}
@@ -44,3 +45,13 @@ module _ (relations : List RelationState) (s : RelationState) (kept : IsKept s) 
       one_order (key_cmp s) (on_total (key_at s.rows) (options_total value_cmp_total)) (λ r. IsSome (finite.get s.rows r))
       (λ q r hq hr e. kept.keyed.keys_differ.apart q r hq hr (option_exact (key_at s.rows q) (key_at s.rows r) e))
       same_ref Decides-same_ref rows (passing relations s tests) are.held (passing_held relations s kept tests) are.bag up passing_sorted
+
+  -- nor is it another where they were moved into that order
+  pub selected_in_order : (rows moved : List TupleRef) → AreSelected relations s tests rows → IsPermutation rows moved → IsSorted (key_cmp s) moved → moved ≡ passing relations s tests
+  selected_in_order rows moved are h up =
+      selected_one moved
+      (record {
+        held = All-permutation (λ (r : TupleRef). IsSome (finite.get s.rows r)) rows moved h are.held;
+        bag = record { count = λ test. sum_by-IsPermutation _ _ _ h ∙ are.bag.count test };
+      })
+      up

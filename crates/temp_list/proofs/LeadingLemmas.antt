@@ -16,31 +16,30 @@ use Rattle.temp_list.specs.Leading.{LeadsWith, AreLedByRising}
 use Rattle.temp_list.specs.Lists.{row_keys}
 use Rattle.temp_list.specs.Seen.{listed_cmp}
 
--- each row below this place but the last leads with a lesser key than the one behind it
-abbrev pub AreLedBelow : RelationState → List (SmallVec TupleRef) → ℕ → Type 0
-AreLedBelow s rows n =
-    (k : ℕ) (d : SmallVec TupleRef) → k + 1 < n
-    → (a : ℤ) × (b : ℤ) × LeadsWith s (get_or rows k d).items a × LeadsWith s (get_or rows (k + 1) d).items b × (a <ℤ b)
+module _ {A : Type 0} (HasKey : A → ℤ → Type 0) where
+  -- each element below this place but the last has a lesser key than the one behind it
+  abbrev pub RiseBelow : List A → ℕ → Type 0
+  RiseBelow xs n = (k : ℕ) (d : A) → k + 1 < n → (a : ℤ) × (b : ℤ) × HasKey (get_or xs k d) a × HasKey (get_or xs (k + 1) d) b × (a <ℤ b)
 
--- the key of the row before this place, where there is one
-abbrev pub IsLastOf : RelationState → List (SmallVec TupleRef) → ℕ → Option ℤ → Type 0
-IsLastOf s rows n last = (k : ℕ) (d : SmallVec TupleRef) → k + 1 ≡ n → (key : ℤ) × (last ≡ Some key) × LeadsWith s (get_or rows k d).items key
+  -- the key of the element before this place, where there is one
+  abbrev pub IsLastOf : List A → ℕ → Option ℤ → Type 0
+  IsLastOf xs n last = (k : ℕ) (d : A) → k + 1 ≡ n → (key : ℤ) × (last ≡ Some key) × HasKey (get_or xs k d) key
 
--- one row more
-pub led_more : (s : RelationState) (rows : List (SmallVec TupleRef)) (n : ℕ) (last after : Option ℤ) (key : ℤ) → AreLedBelow s rows n → IsLastOf s rows n last
-    → ((before : ℤ) → last ≡ Some before → before <ℤ key) → ((d : SmallVec TupleRef) → LeadsWith s (get_or rows n d).items key) → after ≡ Some key
-    → AreLedBelow s rows (n + 1) × IsLastOf s rows (n + 1) after
-led_more s rows n last after key led was above here is = (
-  λ k d l.
-      elim (eq-zero-or-pos (n - (k + 1))) [
-        | inr less ↦ led k d (omega (arith, less))
-        | inl none ↦
-            let same : k + 1 ≡ n = omega (arith, none, l) in
-            let before = was k d same in
-            (before.0, key, before.2, subst (λ (m : ℕ). LeadsWith s (get_or rows m d).items key) (sym same) (here d), above before.0 before.1)
-      ],
-  λ k d e. let same : k ≡ n = omega (arith, e) in (key, is, subst (λ (m : ℕ). LeadsWith s (get_or rows m d).items key) (sym same) (here d)),
-)
+  -- one more
+  pub rise_more : (xs : List A) (n : ℕ) (last after : Option ℤ) (key : ℤ) → RiseBelow xs n → IsLastOf xs n last
+      → ((before : ℤ) → last ≡ Some before → before <ℤ key) → ((d : A) → HasKey (get_or xs n d) key) → after ≡ Some key
+      → RiseBelow xs (n + 1) × IsLastOf xs (n + 1) after
+  rise_more xs n last after key rise was above here is = (
+    λ k d l.
+        elim (eq-zero-or-pos (n - (k + 1))) [
+          | inr less ↦ rise k d (omega (arith, less))
+          | inl none ↦
+              let same : k + 1 ≡ n = omega (arith, none, l) in
+              let before = was k d same in
+              (before.0, key, before.2, subst (λ (m : ℕ). HasKey (get_or xs m d) key) (sym same) (here d), above before.0 before.1)
+        ],
+    λ k d e. let same : k ≡ n = omega (arith, e) in (key, is, subst (λ (m : ℕ). HasKey (get_or xs m d) key) (sym same) (here d)),
+  )
 
 -- the keys of a row whose first source leads with one
 led_keys : (relations : List RelationState) (s : RelationState) (table : TableNumber) (others : List TableNumber) → slice_get relations table.0 ≡ Some s → (row : List TupleRef) (key : ℤ)
@@ -49,7 +48,7 @@ led_keys relations s table others there row key led =
     let rest = row_keys relations (map (λ t. t.0) others) led.rest in
     (rest, rw (led.split, there, led.leads) refl)
 
-above_told : (a b : ℤ) → a <ℤ b → int_cmp b a ≡ Greater
+pub above_told : (a b : ℤ) → a <ℤ b → int_cmp b a ≡ Greater
 above_told a b less = sym (int_cmp_is b a Greater less)
 
 -- rows that rise by the keys of their first source are in the order of all keys

@@ -1,5 +1,6 @@
 pub mod ReadingLemmas
-pub mod KeyedLemmas
+pub mod KeyOrderLemmas
+pub mod PairedLemmas
 pub mod ListLemmas
 pub mod RangeLemmas
 pub mod SearchLemmas

@@ -1,20 +1,19 @@
--- Rows of a list of one table beside their keys.
-use Rattle.std.specs.Prelude.{◌≡◌, List, [], ◌∷◌, Some, map}
+-- Rows of one table beside their keys.
+use Rattle.std.specs.Prelude.{◌≡◌, ◌*◌, ◌≤◌, List, [], map}
 use Rattle.std.specs.List.{All}
+use Rattle.std.specs.Vec.{vec_capacity}
 use Rattle.part_raw.specs.declared.tuple_ref.TupleRef.{TupleRef}
-use Rattle.plain_tables.specs.declared.numbers.TableNumber.{TableNumber}
-use Rattle.plain_tables.specs.declared.value.Value.TheVariants.{Int}
-use Rattle.smallvec.specs.SmallVec.{SmallVec}
 use Rattle.mm_relation.specs.State.{RelationState}
-use Rattle.temp_list.specs.Lists.{row_keys}
-use Rattle.temp_list.specs.Seen.{lists}
+use Rattle.temp_list.specs.Leading.{HasIntegerKey}
 use Rattle.temp_list.specs.declared.keyed.KeyedRow.{KeyedRow}
+use Rattle.temp_list.specs.declared.keyed.KeySorter.{KeySorter}
 
--- the rows without their keys, as those of a list
-abbrev pub references : List KeyedRow → List (List TupleRef)
-references keyed = map (λ one. one.row ∷ []) keyed
+-- These are the rows, each beside its key, which is an integer.
+pub record AreKeyed (s : RelationState) (rows : List TupleRef) (keyed : List KeyedRow) : Type 0 where
+  pub same : map (λ one. one.row) keyed ≡ rows
+  pub keys : All (λ one. HasIntegerKey s one.row one.key) keyed
 
--- These are the rows of a list, each beside its key, which is an integer.
-pub record AreKeyed (relations : List RelationState) (sources : List TableNumber) (rows : List (SmallVec TupleRef)) (keyed : List KeyedRow) : Type 0 where
-  pub same : lists rows ≡ references keyed
-  pub keys : All (λ one. row_keys relations (map (λ t. t.0) sources) (one.row ∷ []) ≡ Some (Int one.key) ∷ []) keyed
+-- It holds no rows, and takes at most 64 KiB: a reference beside its key is sixteen bytes.
+pub record IsSmall (sorter : KeySorter) : Type 0 where
+  pub none : sorter.keyed.items ≡ []
+  pub most : 16 * vec_capacity sorter.keyed ≤ 65536

@@ -14,8 +14,16 @@ pub record LeadsWith (s : RelationState) (row : List TupleRef) (key : ℤ) : Typ
   pub split : row ≡ first ∷ rest
   pub leads : key_at s.rows first ≡ Some (Int key)
 
+-- Each element but the last has a lesser key than the one behind it.
+abbrev pub RiseBy : {A : Type 0} → (A → ℤ → Type 0) → List A → Type 0
+RiseBy HasKey xs =
+    (k : ℕ) (d : _) → k + 1 < length xs
+    → (a : ℤ) × (b : ℤ) × HasKey (get_or xs k d) a × HasKey (get_or xs (k + 1) d) b × (a <ℤ b)
+
 -- Each row but the last leads with a lesser key than the one behind it.
 abbrev pub AreLedByRising : RelationState → List (SmallVec TupleRef) → Type 0
-AreLedByRising s rows =
-    (k : ℕ) (d : SmallVec TupleRef) → k + 1 < length rows
-    → (a : ℤ) × (b : ℤ) × LeadsWith s (get_or rows k d).items a × LeadsWith s (get_or rows (k + 1) d).items b × (a <ℤ b)
+AreLedByRising s = RiseBy (λ row. LeadsWith s row.items)
+
+-- the key of the row under a reference is this integer
+abbrev pub HasIntegerKey : RelationState → TupleRef → ℤ → Type 0
+HasIntegerKey s r key = key_at s.rows r ≡ Some (Int key)

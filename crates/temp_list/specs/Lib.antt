@@ -1,5 +1,6 @@
 pub mod Reading
 pub mod Leading
+pub mod Slots
 pub mod Lists
 pub mod Seen
 pub mod Keyed

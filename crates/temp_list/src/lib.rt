@@ -28,8 +28,8 @@ mod selecting;
 mod sorting;
 mod standing;
 
+pub use keyed::KeySorter;
 pub use list::TempList;
 pub use only_row::find_only_row;
 pub use selecting::{find_few_rows, find_rows, find_rows_into, select};
-pub use sorting::are_in_key_order;
 pub use standing::stands;

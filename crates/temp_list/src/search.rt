@@ -8,6 +8,7 @@ ghost use Rattle.plan_chooser.specs.Plans.{is_range};
 ghost use Rattle.plain_tables.specs.Queries.{stands as stands_so};
 ghost use Rattle.plain_tables.specs.declared.condition.Op.TheVariants as operator;
 ghost use Rattle.temp_list.specs.Reading.{standing, between, HasColumns, value_in, row_passes as row_passes_so, passing as passing_so, all_but, unbounded};
+ghost use Rattle.temp_list.specs.Slots.{AreHeldFrom};
 
 use crate::bounds_probe::{BoundsProbe, bounds};
 use crate::range::append_range;
@@ -16,7 +17,7 @@ use crate::standing::{passes, stands};
 use mm_relation::laws::a_relation_is_kept;
 use mm_relation::{Relation, Relations};
 use no_memory::NoMemory;
-use part_raw::{MAX_TUPLES, TupleRef};
+use part_raw::{MAX_TUPLES, SLOTS, TupleRef};
 use plain_tables::{ColumnNumber, Op, SoughtValue, StoredValue, Test, hash_of_sought, low_bits};
 use std::alloc::Global;
 
@@ -103,6 +104,29 @@ pub fn numbered(number: u64) -> TupleRef
     }
 }
 
+// Up to which number each slot from this one on has a row, where it was so up to `known`. A look at the first slot of a partition tells it
+// of all slots there.
+#[inline]
+fn held_up_to(relation: &Relation, r: TupleRef, known: u64) -> u64
+    requires { AreHeldFrom relation.now.rows r.number known }
+    ensures { AreHeldFrom relation.now.rows r.number result }
+{
+    if r.slot() == 0 && relation.fills(r.part()) {
+        u64::from(r.number) + u64::from(SLOTS)
+    } else {
+        known
+    }
+}
+
+// Whether a slot has a row.
+#[inline]
+fn holds_slot(relation: &Relation, r: TupleRef, held_end: u64) -> bool
+    requires { AreHeldFrom relation.now.rows r.number held_end }
+    ensures { result ≡ finite.contains_key relation.now.rows r }
+{
+    u64::from(r.number) < held_end || relation.holds(r)
+}
+
 /// The rows that pass the tests, in the order in which they lie in memory, which is by far the fastest for a table that is large.
 /// None where they are more than `most`.
 pub fn passing_in_slots<R: Relations>(
@@ -118,9 +142,11 @@ pub fn passing_in_slots<R: Relations>(
 {
     a_relation_is_kept(relation);
     let mut rows = Vec::new(alloc);
+    let mut held_end = 0;
     for number in 0..relation.slots() {
         let r = numbered(number);
-        if !relation.holds(r) || !passes_all(tables, relation, r, tests) {
+        held_end = held_up_to(relation, r, held_end);
+        if !holds_slot(relation, r, held_end) || !passes_all(tables, relation, r, tests) {
             continue;
         }
         if rows.len() as u64 >= most {

@@ -5,10 +5,10 @@ ghost use Rattle.std.specs.Option.{option_cmp};
 ghost use Rattle.plain_tables.specs.Values.{value_cmp};
 ghost use Rattle.mm_relation.specs.Reading.{key_at};
 ghost use Rattle.temp_list.specs.Leading.{LeadsWith, AreLedByRising};
-ghost use Rattle.temp_list.specs.Lists.{key_cmp, keys_cmp};
+ghost use Rattle.temp_list.specs.Lists.{keys_cmp};
 ghost use Rattle.temp_list.specs.Seen.{AreTables, listed_cmp, lists};
 
-use crate::keyed::{integer_key, keyed_rows, sort_keyed};
+use crate::keyed::integer_key;
 use crate::paired::{paired_rows, sort_paired};
 use crate::row::ListedRow;
 use mm_relation::{Relation, Relations};
@@ -17,22 +17,15 @@ use part_raw::TupleRef;
 use plain_tables::TableNumber;
 use std::cmp::Ordering;
 
-// Compares the keys of two rows of a relation. A row is not read to be compared with itself.
+/// Compares the keys of two rows of a relation. A row is not read to be compared with itself.
 #[inline]
-fn compare_keys(relation: &Relation, q: TupleRef, r: TupleRef) -> Ordering
+pub fn compare_keys(relation: &Relation, q: TupleRef, r: TupleRef) -> Ordering
     ensures { result ≡ option_cmp value_cmp (key_at relation.now.rows q) (key_at relation.now.rows r) }
 {
     if q.number == r.number {
         return Ordering::Equal;
     }
     relation.key_if_held(q).cmp(&relation.key_if_held(r))
-}
-
-/// Whether no row of a table is below the one before it, by their keys.
-pub fn are_in_key_order(relation: &Relation, rows: &[TupleRef]) -> bool
-    ensures { IsTrue result ↔ IsSorted (key_cmp relation.now) rows.now }
-{
-    rows.is_sorted_by(|a, b| -> bool { compare_keys(relation, *b, *a).is_ge() })
 }
 
 // Compares two rows by their keys, the first source's first.
@@ -150,9 +143,6 @@ pub fn sort_rows<R: Relations>(
         return Ok(());
     }
     let alloc = *rows.allocator();
-    if let Some(keyed) = keyed_rows(alloc, tables, sources, rows.as_slice())? {
-        return sort_keyed(tables, sources, keyed, rows);
-    }
     if let Some(paired) = paired_rows(alloc, tables, sources, rows.as_slice())? {
         sort_paired(tables, sources, paired, rows);
         return Ok(());

@@ -1,7 +1,7 @@
-//! A select of one table whose rows an index finds in the order of their keys: what is shown of them is taken from where they lie, and
-//! no list is made.
+//! A select of one table whose rows were found: they are put into the order of their keys, and what is shown of them is taken from where
+//! they lie. No list is made.
 
-ghost use Rattle.std.specs.Prelude.{◌≡◌, IfErr, IfOk, IsTrue, OnOk, length};
+ghost use Rattle.std.specs.Prelude.{◌≡◌, IfErr, IfOk, OnOk, length};
 ghost use Rattle.plain_tables.specs.Doing.{headings, joined_tables};
 ghost use Rattle.plain_tables.specs.ResolvedLaws.{IsMeant};
 ghost use Rattle.plain_tables.specs.declared.resolved.Resolved.TheVariants as resolved;
@@ -16,26 +16,33 @@ use super::ReadExecutor;
 use super::only_row::shown_width;
 use super::rows::push_shown;
 use super::sink::RowSink;
+use crate::room::SelectRoom;
 use mm_catalog::Catalog;
 use mm_catalog::laws::a_catalog_is_consistent;
 use mm_relation::{Relations, TupleRef};
+use no_memory::NoMemory;
 use plain_tables::Query;
-use temp_list::are_in_key_order;
 
 impl ReadExecutor {
-    /// Whether the rows that a select of one table finds are in the order in which it shows them.
-    pub fn are_as_shown(&self, catalog: &Catalog, query: &Query, rows: &[TupleRef]) -> bool
+    // Puts the rows that a select of one table found into the order in which it shows them. A failure may leave any rows in the room.
+    fn put_in_order(
+        &self,
+        catalog: &Catalog,
+        query: &Query,
+        room: &mut SelectRoom,
+    ) -> Result<(), NoMemory>
         requires meant { IsMeant catalog.now.limits (database_of catalog.now) (resolved.Select query.now) }
         requires ordered { IsOrdered query.now }
-        requires rows { OfRelation catalog.now.relations query.now.source.table.0 (λ s. AreSelected catalog.now.relations s query.now.source.tests rows.now) }
-        ensures { IsTrue result → ShowsRows catalog.now query.now rows.now }
+        requires rows { OfRelation catalog.now.relations query.now.source.table.0 (λ s. AreSelected catalog.now.relations s query.now.source.tests room.old.rows.items) }
+        ensures { OnOk result (ShowsRows catalog.now query.now room.new.rows.items) }
     {
         a_catalog_is_consistent(catalog);
-        are_in_key_order(catalog.at(query.source.table), rows)
+        let relation = catalog.at(query.source.table);
+        room.sorter.sort(relation, &mut room.rows)
     }
 
-    /// Puts the rows that a select of one table shows into a sink, and tells how many columns they have.
-    pub fn push_found<'a, S: RowSink<'a>>(
+    // Puts the rows that a select of one table shows into a sink, and tells how many columns they have.
+    fn push_rows_found<'a, S: RowSink<'a>>(
         &self,
         catalog: &'a Catalog,
         query: &Query,
@@ -54,5 +61,25 @@ impl ReadExecutor {
             push_shown(sink, catalog, relation, *r, &query.shown)?;
         }
         Ok(shown_width(relation, &query.shown))
+    }
+
+    /// Puts the rows that a select of one table found into a sink, in the order in which it shows them, and tells how many columns they
+    /// have.
+    pub fn push_found<'a, S: RowSink<'a>>(
+        &self,
+        catalog: &'a Catalog,
+        query: &Query,
+        room: &mut SelectRoom,
+        sink: &mut S,
+    ) -> Result<usize, S::Fault>
+        requires meant { IsMeant catalog.now.limits (database_of catalog.now) (resolved.Select query.now) }
+        requires ordered { IsOrdered query.now }
+        requires rows { OfRelation catalog.now.relations query.now.source.table.0 (λ s. AreSelected catalog.now.relations s query.now.source.tests room.old.rows.items) }
+        ensures shown { OnOk result (PutsRows S.received sink.old sink.new (rows_shown catalog.now query.now)) }
+        ensures declined { IfErr result (S.declines sink.new) }
+        ensures columns { IfOk result (λ columns. columns ≡ length (headings (joined_tables (database_of catalog.now) query.now.source query.now.joins) query.now.shown)) }
+    {
+        self.put_in_order(catalog, query, room)?;
+        self.push_rows_found(catalog, query, room.rows.as_slice(), sink)
     }
 }

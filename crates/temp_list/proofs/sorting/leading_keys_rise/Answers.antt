@@ -4,7 +4,7 @@ use Rattle.std.proofs.lemmas.Option.{same_Some}
 use Rattle.part_raw.specs.declared.tuple_ref.TupleRef.{TupleRef}
 use Rattle.smallvec.specs.SmallVec.{SmallVec}
 use Rattle.temp_list.specs.Leading.{LeadsWith}
-use Rattle.temp_list.proofs.LeadingLemmas.{led_more}
+use Rattle.temp_list.proofs.LeadingLemmas.{rise_more}
 use Rattle.temp_list.proofs.sorting.leading_keys_rise.Goals.{in-Some-last+else-key-before, in_default-last}
 use Rattle.temp_list.proofs.sorting.leading_keys_rise.Goals as goal
 
@@ -21,10 +21,10 @@ loop-row-preserved c =
       | in-Some-last+else-key-before w ↦
           let after : c.match-last.last ≡ Some key = search rules in
           let above : w.in-Some-last.before <ℤ key = search rules in
-          led_more s rows at c.loop-row.last c.match-last.last key c.loop-row.invariant.0 c.loop-row.invariant.1
+          rise_more (λ row. LeadsWith s row.items) rows at c.loop-row.last c.match-last.last key c.loop-row.invariant.0 c.loop-row.invariant.1
           (λ before e. subst (λ (b : ℤ). b <ℤ key) (same_Some _ _ (sym w.in-Some-last.is ∙ e)) above) here after
       | in_default-last w ↦
           let after : c.match-last.last ≡ Some key = search rules in
-          led_more s rows at c.loop-row.last c.match-last.last key c.loop-row.invariant.0 c.loop-row.invariant.1
+          rise_more (λ row. LeadsWith s row.items) rows at c.loop-row.last c.match-last.last key c.loop-row.invariant.0 c.loop-row.invariant.1
           (λ before e. absurd (w.in_default-last.not-Some before e)) here after
     ]

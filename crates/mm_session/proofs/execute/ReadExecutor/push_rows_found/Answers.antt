@@ -6,7 +6,7 @@ use Rattle.mm_session.specs.OnlyRow.{values_shown}
 use Rattle.mm_session.specs.Sinks.{PutsRows}
 use Rattle.mm_session.proofs.OnlyRowLemmas.{columns_there, found_held, found_shown, width_shown, width_some}
 use Rattle.mm_session.proofs.SinkLemmas.{rows_more}
-use Rattle.mm_session.proofs.execute.ReadExecutor.push_found.Goals as goal
+use Rattle.mm_session.proofs.execute.ReadExecutor.push_rows_found.Goals as goal
 
 pub at-relation-requires : goal.at-relation-requires
 at-relation-requires g c = there_at c.args.catalog.now c.a_catalog_is_consistent.ensures c.args.query.now.source.table.0 c.requires.meant.0.0 c.requires.meant.0.1

@@ -1,7 +1,0 @@
-use Rattle.std.proofs.Common.{take}
-use Rattle.temp_list.specs.Keyed.{AreKeyed}
-use Rattle.temp_list.proofs.keyed.keyed_rows.Given as goal
-
--- those of the rows so far
-abbrev pub invariant-loop-row : goal.invariant-loop-row
-invariant-loop-row g l = AreKeyed (g.R.Relations.tables l.tables) l.sources (take l.row-index l.rows) l.keyed.items
