@@ -26,6 +26,15 @@ impl<'a, S: Schemas> Witness<'a, S> {
             culprit: Cell::new(None),
         }
     }
+
+    // What is to blame, where this was answered before the witness.
+    fn blamed(&self, answered: Option<Refusal>) -> Result<Option<Culprit>, Refusal> {
+        match answered {
+            Some(Refusal::NoMemory) => Err(Refusal::NoMemory),
+            Some(answered) if answered == self.refusal => Ok(self.culprit.get()),
+            _ => Ok(None),
+        }
+    }
 }
 
 impl<S: Schemas> Schemas for Witness<'_, S> {
@@ -80,12 +89,8 @@ pub fn command_culprit<S: Schemas>(
     refusal: Refusal,
 ) -> Result<Option<Culprit>, Refusal> {
     let witness = Witness::of(schemas, refusal);
-    match resolve(&witness, command, block) {
-        Ok(_) => Ok(None),
-        Err(Refusal::NoMemory) => Err(Refusal::NoMemory),
-        Err(answered) if answered == refusal => Ok(witness.culprit.get()),
-        Err(_) => Ok(None),
-    }
+    let answered = resolve(&witness, command, block).err();
+    witness.blamed(answered)
 }
 
 /// What is to blame where a statement is refused so, whatever values come for its holes, if it is. The error is 90, where a growth was
@@ -96,10 +101,6 @@ pub fn statement_culprit<S: Schemas>(
     refusal: Refusal,
 ) -> Result<Option<Culprit>, Refusal> {
     let witness = Witness::of(schemas, refusal);
-    match resolve_statement(&witness, statement) {
-        Ok(_) => Ok(None),
-        Err(Refusal::NoMemory) => Err(Refusal::NoMemory),
-        Err(answered) if answered == refusal => Ok(witness.culprit.get()),
-        Err(_) => Ok(None),
-    }
+    let answered = resolve_statement(&witness, statement).err();
+    witness.blamed(answered)
 }
