@@ -6,6 +6,8 @@ import itertools
 import random
 import threading
 import tracemalloc
+import unittest
+import unittest.mock
 import warnings
 
 from support import binding, embedding, model, sizes
@@ -102,6 +104,22 @@ class Whole(Loads):
             why = self.refused(41, db.load_csv, "t", io.StringIO(f"{block}7,y\n"))
             self.assertEqual((why.text, why.reason), (f"key exists (record {MANY + 1})", "t or an earlier record has the key 7"))
             self.assertEqual(len(db.select("select id from t")), MANY)
+
+    def test_a_full_table(self):
+        """The rows and the records before are those of the whole, wherever a block ends."""
+        lines = "".join(f"{number},text\n" for number in range(20))
+        whole = "t has 1 rows, 6 records come before this one, and a table has at most 7 rows"
+        for block in (20, 28, 40, 60, 1_000):
+            with self.subTest(block=block), mmdb.Database(rows=7, block=block) as db:
+                db.execute("table t (id int, s text)")
+                db.load("t", [(100, "a")])
+                for call, given in (
+                    (db.load, ((number, "text") for number in range(20))),
+                    (db.load_csv, f"id,s\n{lines}"),
+                    (lambda *given: db.load_csv(*given, columns=("id", "s")), f"id,s\n{lines}"),
+                ):
+                    why = self.refused(43, call, "t", given)
+                    self.assertEqual((why.text, why.reason, db.dump("t")), ("table full (record 7)", whole, [(100, "a")]))
 
     def test_random_tables(self):
         draw = random.Random(SEED)
@@ -389,6 +407,35 @@ class Named(binding.WithDatabase):
             self.db.load_csv("t", b"s,id\na,1\n\xff,2\n", columns=("id", "s"))
         self.check_loaded([])
 
+    def test_lines_without_quote_marks(self):
+        """Fields are taken from many pieces of a file, line by line."""
+        rows = [(number, ("", "a", "it's, 5\"", "é")[number % 4], 7 if number % 3 else None) for number in range(60)]
+        for separator, ends in ((";", ("\n",)), ("\t", ("\r\n", "\r", "\n\n")), ("|", ("\n\r", "\r\r"))):
+            lines = ["u,more,s,id,".replace(",", separator)]
+            lines += [separator.join(("" if u is None else str(u), ",", s, str(id), "")) for id, s, u in rows]
+            block = "".join(line + ends[at % len(ends)] for at, line in enumerate(lines))
+            how = {"separator": separator, "quote": None}
+            for piece in (1, 30, 1 << 20):
+                with self.subTest(separator=separator, piece=piece), unittest.mock.patch.object(mmdb.csvs, "PIECE", piece):
+                    self.assertEqual(self.db.load_csv("t", block, columns=("s", "id", "u"), **how), len(rows))
+                    self.check_loaded(rows)
+                    self.assertEqual(self.db.load_csv("t", io.StringIO(block), columns=("id", "s"), **how), len(rows))
+                    self.check_loaded([(id, s, None) for id, s, _ in rows])
+                    for wrong, count in (("7;,;a;60", 4), ("7;,;a;60;;", 6)):
+                        with self.assertRaisesRegex(mmdb.DataError, f"^mmdb: record 61 of the CSV has {count} fields, and its names are 5"):
+                            self.db.load_csv("t", block + wrong.replace(";", separator), columns=("id", "s"), **how)
+        self.check_loaded([])
+
+    def test_one_column_of_lines(self):
+        """A record whose only field is empty is no empty line."""
+        self.db.execute("table w (a text)")
+        block = "b,a\n\n" + "".join(f"{text},{text}\n" for text in ("x", "", "y"))
+        for piece in (1, 1 << 20):
+            with unittest.mock.patch.object(mmdb.csvs, "PIECE", piece):
+                self.assertEqual(self.db.load_csv("w", block, columns=["a"]), 3)
+                self.assertEqual(self.db.dump("w"), [("",), ("x",), ("y",)])
+                self.db.execute("delete w")
+
     def test_random_files_are_read_as_a_load_reads_them(self):
         draw = random.Random(SEED)
         self.db.execute("table w (a text, b text)")
@@ -399,7 +446,8 @@ class Named(binding.WithDatabase):
             loaded += expected is not None
             other = block.translate(str.maketrans(',"', ";'"))
             lines = [block[at : at + 3] for at in range(0, len(block), 3)]
-            with self.subTest(block=block):
+            piece = draw.choice((1, 5, 1 << 20))
+            with self.subTest(block=block, piece=piece), unittest.mock.patch.object(mmdb.csvs, "PIECE", piece):
                 self.assertEqual(self.outcome(lines), expected)
                 self.assertEqual(self.outcome(lines, columns=("b", "a")), expected)
                 found = self.outcome(other, separator=";", quote="'")
@@ -418,6 +466,48 @@ class Named(binding.WithDatabase):
         rows = self.db.dump("w")
         self.db.execute("delete w")
         return [list(row) for row in rows], [str(warning.message) for warning in caught]
+
+
+def last_end(text, most):
+    """Where the last record ends within the first bytes, byte by byte as docs/language.md reads a block; 0 where none does."""
+    state, end = "front", 0
+    for at, mark in enumerate(text[:most], 1):
+        if state == "quoted":
+            state = "behind" if mark == '"' else state
+        elif mark == '"' and state in ("front", "behind"):
+            state = "quoted"
+        elif mark in "\r\n":
+            state, end = "front", at
+        else:
+            state = "front" if mark == "," else "bare"
+    return end
+
+
+class Ends(unittest.TestCase):
+    """The last end of a record in the front of a CSV, by which it is cut."""
+
+    def check(self, text, most):
+        expected = last_end(text, most)
+        self.assertEqual(mmdb.csvs.records_end(text.encode(), most), expected)
+        other = text.translate(str.maketrans(',"', ";'")).encode()
+        self.assertEqual(mmdb.csvs.records_end(other, most, mmdb.quotes.form_of(";", "'")), expected)
+        self.assertEqual(mmdb.csvs.records_end(other, most, mmdb.quotes.form_of(";", None)), last_end(text.replace('"', "b"), most))
+
+    def test_random_texts(self):
+        draw = random.Random(SEED)
+        for _ in range(BLOCKS):
+            text = "".join(draw.choice('"",,\n\rab') for _ in range(draw.randrange(30)))
+            with self.subTest(text=text):
+                self.check(text, draw.randrange(len(text) + 1))
+
+    def test_many_quoted_fields(self):
+        for front in ("", 'a5",x\n', '"x"y,\n'):
+            for field in ('"a"', '"a\n"', '"a""\n"'):
+                text = front + f"{field},b\n{field},{field}," * 700
+                for most in (*range(len(text) - 20, len(text) + 1), 100, len(text) // 2):
+                    with self.subTest(front=front, field=field, most=most):
+                        self.check(text, most)
+                        self.check(text + '"', most)
 
 
 class Odd(Loads):

@@ -796,6 +796,7 @@ static PyType_Spec prepared_spec = {
 static PyMethodDef module_methods[] = {
     { "odd_field", odd_field, METH_O,
       "Where the first field of a CSV begins whose quote marks are odd, and whether it is open." },
+    { "picked_lines", picked_lines, METH_VARARGS, "The records of a load with fields of the lines of a CSV, and how many they are." },
     { "plain_records", plain_records, METH_VARARGS, "The records of a load with these rows, where all values are stored as they are." },
     { NULL, NULL, 0, NULL },
 };

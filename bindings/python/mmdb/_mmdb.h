@@ -151,6 +151,11 @@ PyObject *odd_field(PyObject *module, PyObject *content);
    texts, and large ones where nulls are taken too. Gives None where one of the values isn't stored there as it is. */
 PyObject *plain_records(PyObject *module, PyObject *given);
 
+/* The records of a load with fields of the lines of a CSV, and how many they are: of its bytes, which have no quote marks, the byte that
+   separates fields, how many each line has, where those of the columns are, and whether they may need quote marks in a block. None where a
+   line has another number of fields. */
+PyObject *picked_lines(PyObject *module, PyObject *given);
+
 /* Gives the memory of an object of one of the types here back. */
 void free_object(PyObject *self);
 

@@ -5,6 +5,9 @@ from typing import Any, ContextManager, List, Optional, Tuple
 from .lines import Placed
 
 def odd_field(content: bytes) -> Optional[Tuple[int, bool]]: ...
+def picked_lines(
+    content: bytes, separator: bytes, width: int, places: Tuple[int, ...], is_checked: bool
+) -> Optional[Tuple[bytes, int]]: ...
 def plain_records(columns: bytes, rows: List[Tuple[Any, ...]]) -> Optional[bytes]: ...
 
 class Named(Tuple[Any, ...]):

@@ -1,4 +1,5 @@
-/* The records of a load, of rows whose values are all stored as they are. values.py has the same for any rows. */
+/* The records of a load: of rows whose values are all stored as they are, as values.py has them for any rows, and of the lines of a CSV
+   without quote marks, as csvs.py has them for any CSV. */
 #include "_mmdb.h"
 
 #include <string.h>
@@ -142,6 +143,111 @@ PyObject *plain_records(PyObject *Py_UNUSED(module), PyObject *given)
         made = PyBytes_FromStringAndSize(to.at, (Py_ssize_t)to.length);
     else
         made = outcome == NOT_PLAIN ? none() : PyErr_NoMemory();
+    PyMem_Free(to.at);
+    return made;
+}
+
+/* Finds where the fields of a line begin, and one byte behind its end. Gives its end, or null if the fields are not as many. */
+static const char *find_fields(const char *at, const char *end, char separator, const char **fields, Py_ssize_t width)
+{
+    Py_ssize_t count = 1;
+    fields[0] = at;
+    for (; at < end && *at != '\n' && *at != '\r'; at++) {
+        if (*at != separator)
+            continue;
+        if (count == width)
+            return NULL;
+        fields[count++] = at + 1;
+    }
+    fields[width] = at + 1;
+    return count == width ? at : NULL;
+}
+
+/* The fields that the columns take: their places, where one below 0 has none. */
+typedef struct {
+    Py_ssize_t *places, count, width;
+    char separator;
+    int is_checked;
+} Picks;
+
+/* Puts the record of a line's fields. */
+static Outcome put_fields(Written *to, const char *const *fields, const Picks *picks)
+{
+    const size_t before = to->length;
+    Outcome outcome = WRITTEN;
+    for (Py_ssize_t i = 0; i < picks->count && outcome == WRITTEN; i++) {
+        const Py_ssize_t place = picks->places[i];
+        if (i > 0)
+            outcome = put(to, ",", 1);
+        if (outcome == FAILED || place < 0)
+            continue;
+        const size_t length = (size_t)(fields[place + 1] - 1 - fields[place]);
+        const int is_marked = picks->is_checked && is_quoted(fields[place], length);
+        outcome = is_marked ? put_quoted(to, fields[place], length) : put(to, fields[place], length);
+    }
+    return outcome == WRITTEN && to->length == before ? put(to, "\"\"", 2) : outcome;
+}
+
+/* Puts the records of all lines that have a byte, and counts them. */
+static Outcome put_lines(Written *to, const char *at, const char *end, const char **fields, const Picks *picks, Py_ssize_t *count)
+{
+    Outcome outcome = WRITTEN;
+    while (at < end && outcome == WRITTEN) {
+        if (*at == '\n' || *at == '\r') {
+            at++;
+            continue;
+        }
+        at = find_fields(at, end, picks->separator, fields, picks->width);
+        if (at == NULL)
+            return NOT_PLAIN;
+        if ((*count)++ > 0)
+            outcome = put(to, "\n", 1);
+        if (outcome == WRITTEN)
+            outcome = put_fields(to, fields, picks);
+    }
+    return outcome;
+}
+
+/* Reads the places of the fields, each of which is below the width. */
+static int read_places(PyObject *listed, Picks *picks)
+{
+    picks->count = PyTuple_Size(listed);
+    picks->places = PyMem_Malloc(((size_t)picks->count + 1) * sizeof *picks->places);
+    if (picks->places == NULL) {
+        PyErr_NoMemory();
+        return 0;
+    }
+    for (Py_ssize_t i = 0; i < picks->count; i++) {
+        picks->places[i] = PyLong_AsSsize_t(PyTuple_GetItem(listed, i));
+        if (picks->places[i] >= picks->width)
+            PyErr_SetString(PyExc_IndexError, "a place is past the width");
+        if (PyErr_Occurred() != NULL)
+            return 0;
+    }
+    return 1;
+}
+
+PyObject *picked_lines(PyObject *Py_UNUSED(module), PyObject *given)
+{
+    const char *content, **fields = NULL;
+    Py_ssize_t length, count = 0;
+    PyObject *listed, *made = NULL;
+    Picks picks = { NULL, 0, 0, ',', 0 };
+    if (!PyArg_ParseTuple(given, "y#cnO!p", &content, &length, &picks.separator, &picks.width, &PyTuple_Type, &listed, &picks.is_checked))
+        return NULL;
+    if (picks.width < 1)
+        return none();
+    Written to = { NULL, 0, 0 };
+    if (read_places(listed, &picks)) {
+        fields = PyMem_Malloc(((size_t)picks.width + 1) * sizeof *fields);
+        const Outcome outcome = fields == NULL ? FAILED : put_lines(&to, content, content + length, fields, &picks, &count);
+        if (outcome == WRITTEN)
+            made = Py_BuildValue("y#n", to.at == NULL ? "" : to.at, (Py_ssize_t)to.length, count);
+        else
+            made = outcome == NOT_PLAIN ? none() : PyErr_NoMemory();
+    }
+    PyMem_Free(fields);
+    PyMem_Free(picks.places);
     PyMem_Free(to.at);
     return made;
 }

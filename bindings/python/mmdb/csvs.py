@@ -3,20 +3,25 @@
 from __future__ import annotations
 
 import collections.abc
+import functools
 import io
 import itertools
 import operator
 import re
 import warnings
-from typing import Any, Iterable, Iterator, List, Optional, Protocol, Sequence, Union
+from typing import TYPE_CHECKING, Any, Iterable, Iterator, List, Optional, Protocol, Sequence, Tuple, Union
 
+from .chosen import extension
 from .errors import CsvWarning, WrongType, WrongValue
-from .loads import blocks, checked_names, header_of, written
+from .loads import Records, blocks, checked_names, header_of, written
 from .quotes import MARK, Form, first_odd
 from .values import Column, as_bytes, joined_records, quoted_fields
 
 #: How many bytes or characters are read at once.
 PIECE = 1 << 20
+
+# How many records with quote marks are read at once. (Of more, the collector of garbage would look at each again and again.)
+_READ_AT_ONCE = 500
 
 # How long a record may be.
 _LONGEST = 1 << 24
@@ -89,7 +94,7 @@ def cut(pieces: Iterable[bytes], first: int, others: int) -> Iterator[bytes]:
     for piece in pieces:
         left += piece
         while len(left) > most:
-            end = _records_end(left, max(most, 0), Form())
+            end = records_end(left, max(most, 0))
             if not end:
                 yield left
                 return
@@ -104,7 +109,7 @@ def _whole(pieces: Iterable[bytes], form: Form) -> Iterator[bytes]:
     left = b""
     for piece in pieces:
         left += piece
-        end = _records_end(left, len(left), form)
+        end = records_end(left, len(left), form)
         if end:
             yield left[:end]
             left = left[end:]
@@ -114,9 +119,24 @@ def _whole(pieces: Iterable[bytes], form: Form) -> Iterator[bytes]:
         yield left
 
 
-def _records_end(text: bytes, most: int, form: Form) -> int:
+def records_end(text: bytes, most: int, form: Form = Form()) -> int:
     """Where the last record ends that ends within the first `most` bytes, which begin with one; 0 where none does."""
-    at = end = 0
+    # Quoted fields are passed many at once, and those behind the last of these places one by one. (Mostly a record ends there.)
+    places, at = [0], 0
+    while form.quote and text.find(form.quote, at, most) >= 0:
+        many = form.many.match(text, at, most)
+        opening = form.opening.search(text, many.end() if many else at, most)
+        if not opening:
+            break
+        at = _behind_quotes(text, opening.end(), most, form)
+        places.append(at)
+    ends = (_end_behind(text, place, most, form) for place in reversed(places))
+    return next(filter(None, ends), 0)
+
+
+def _end_behind(text: bytes, at: int, most: int, form: Form) -> int:
+    """The same, of records behind a place that is in no quoted field."""
+    end = 0
     while True:
         opening = form.opening.search(text, at, most) if form.quote else None
         stop = opening.start() if opening else most
@@ -169,83 +189,129 @@ class Watch:
 # ---- records in the order of columns
 
 
+def _not_picked(content: bytes, separator: bytes, width: int, places: Tuple[int, ...], is_checked: bool) -> Optional[Tuple[bytes, int]]:
+    """The records of a load, with line feeds between them, that have fields of lines, and how many they are. Each line has so many
+    fields, and those of the columns are in these places, or -1 for none. They are checked for what needs quote marks in a block.
+    Gives None where a line has another number of fields. (Only the extension has them.)"""
+    return None
+
+
+if TYPE_CHECKING or extension is None:
+    picked_lines = _not_picked
+else:
+    picked_lines = extension.picked_lines
+
+
 class Picked:
     """The records of a CSV, with the fields that columns take, as a load has them."""
 
     def __init__(self, table: str, columns: List[Column], names: Optional[Sequence[str]], form: Form) -> None:
-        self._table, self._columns, self._form = table, columns, form
+        self._table, self._declared, self._form = table, columns, form
+        self._separator = form.separator.decode()
         self._names = None if names is None or not columns else checked_names(table, columns, names)
         #: The names of the block.
         self.header = encode(header_of(columns))
         self._width = 0
         self._places: List[Optional[int]] = []
+        self._numbers: Tuple[int, ...] = ()
 
     def blocks(self, pieces: Iterator[bytes], watch: Watch, limit: int) -> Iterator[bytes]:
         """The blocks of a load of a CSV, each of at most so many bytes."""
-        if not self._columns:
+        if not self._declared:
             # (there is no such table, as the library says)
             return iter([b""])
         records = self._records(pieces, watch)
-        first = next(records, [])
-        chunks = (written(some, encode) for some in itertools.chain((first,), records))
-        return blocks(self.header, chunks, limit)
+        # (the header is known then)
+        first = list(itertools.islice(records, 1))
+        return blocks(self.header, itertools.chain(first, records), limit)
 
-    def _records(self, pieces: Iterable[bytes], watch: Watch) -> Iterator[List[str]]:
+    def _records(self, pieces: Iterable[bytes], watch: Watch) -> Iterator[Records]:
         """The records of a CSV, chunk by chunk, without that of its names, which gives the header."""
         before = -1
         for chunk in _whole(pieces, self._form):
             watch.look(chunk, before + 1)
-            found = self._fields_of(chunk, before)
-            if before < 0 and found:
-                self._take_names(found.pop(0))
-                before = 0
-            if found:
-                yield self._arranged(found, before)
-                before += len(found)
+            if len(chunk) > _LONGEST:
+                raise WrongValue(f"mmdb: record {before + 1} of the CSV has more than {_LONGEST} bytes")
+            has_quotes = bool(self._form.quote) and self._form.quote in chunk
+            if before >= 0 and not has_quotes:
+                picked = picked_lines(chunk, self._form.separator, self._width, self._numbers, self._form != Form())
+                if picked:
+                    yield Records(picked[0], functools.partial(bytes.split, picked[0], b"\n"))
+                    before += picked[1]
+                    continue
+            text = chunk[len(MARK) if before < 0 and chunk.startswith(MARK) else 0 :].decode("utf-8", "surrogateescape")
+            several: Iterable[List[Any]] = self._read(text, before) if has_quotes else [_lines_of(text)]
+            for found in several:
+                if before < 0 and found:
+                    names = found.pop(0)
+                    self._take_names(names if has_quotes else names.split(self._separator))
+                    before = 0
+                if found:
+                    columns = self._columns(found, before) if has_quotes else self._columns_of_lines(found, before)
+                    yield written(joined_records(list(map(quoted_fields, columns))), encode)
+                    before += len(found)
         if before < 0:
             raise WrongValue("mmdb: the CSV has no record of names")
 
-    def _fields_of(self, chunk: bytes, before: int) -> List[List[str]]:
-        """The fields of the records of a chunk."""
-        form = self._form
-        if len(chunk) > _LONGEST:
-            raise WrongValue(f"mmdb: record {before + 1} of the CSV has more than {_LONGEST} bytes")
-        text = chunk[len(MARK) if before < 0 and chunk.startswith(MARK) else 0 :].decode("utf-8", "surrogateescape")
-        separator = form.separator.decode()
-        if not form.quote or form.quote not in chunk:
-            return [line.split(separator) for line in _ENDS.split(text) if line]
+    def _read(self, text: str, before: int) -> Iterator[List[List[str]]]:
+        """The fields of the records of a text with quote marks, of some records at once."""
         import csv
 
-        reader = csv.reader(io.StringIO(text, newline=""), delimiter=separator, quotechar=form.quote.decode())
-        found: List[List[str]] = []
-        try:
-            found.extend(filter(None, reader))
-        except csv.Error as why:
-            raise WrongValue(f"mmdb: the CSV has a bad record behind record {before + len(found)}: {why}") from None
-        return found
+        reader = csv.reader(io.StringIO(text, newline=""), delimiter=self._separator, quotechar=self._form.quote.decode())
+        records = filter(None, reader)
+        while True:
+            found: List[List[str]] = []
+            try:
+                found.extend(itertools.islice(records, _READ_AT_ONCE))
+            except csv.Error as why:
+                raise WrongValue(f"mmdb: the CSV has a bad record behind record {before + len(found)}: {why}") from None
+            if not found:
+                return
+            before += len(found)
+            yield found
 
     def _take_names(self, fields: List[str]) -> None:
         """Finds the fields of the columns by the record of names."""
         self._width = len(fields)
         if self._names is None:
             self.header = encode(joined_records([quoted_fields([field]) for field in fields])[0])
-            self._places = list(range(self._width))
+            self._place(range(self._width))
             return
         for name in self._names:
             if fields.count(str(name)) != 1:
                 many = "no column" if str(name) not in fields else "several columns"
                 raise WrongValue(f"mmdb: the CSV has {many} {name}: its first record is the names of its columns")
-        self._places = [fields.index(column.name) if column.name in self._names else None for column in self._columns]
+        self._place(fields.index(column.name) if column.name in self._names else None for column in self._declared)
 
-    def _arranged(self, found: List[List[str]], before: int) -> List[str]:
-        """Records of the fields that the columns take."""
-        counts = list(map(len, found))
-        if set(counts) != {self._width}:
-            at, count = next((at, count) for at, count in enumerate(counts) if count != self._width)
-            raise WrongValue(f"mmdb: record {before + 1 + at} of the CSV has {count} fields, and its names are {self._width}")
+    def _place(self, places: Iterable[Optional[int]]) -> None:
+        """Keeps where the fields of the columns are."""
+        self._places = list(places)
+        self._numbers = tuple(-1 if at is None else at for at in self._places)
+
+    def _columns(self, found: List[List[str]], before: int) -> List[List[str]]:
+        """The fields that the columns take of some records."""
+        self._check_widths(list(map(len, found)), self._width, before)
         nulls = [""] * len(found)
-        columns = [nulls if at is None else list(map(operator.itemgetter(at), found)) for at in self._places]
-        return joined_records(list(map(quoted_fields, columns)))
+        return [nulls if at is None else list(map(operator.itemgetter(at), found)) for at in self._places]
+
+    def _columns_of_lines(self, lines: List[str], before: int) -> List[List[str]]:
+        """The same of records without quote marks, each a line. (To split each line would take several times as long.)"""
+        separator = self._separator
+        self._check_widths(list(map(str.count, lines, itertools.repeat(separator))), self._width - 1, before)
+        nulls, fields = [""] * len(lines), separator.join(lines).split(separator)
+        return [nulls if at is None else fields[at :: self._width] for at in self._places]
+
+    def _check_widths(self, counts: List[int], wanted: int, before: int) -> None:
+        """Raises WrongValue where a record has another number of fields, or of separators, than the names."""
+        if set(counts) != {wanted}:
+            at, count = next((at, count) for at, count in enumerate(counts) if count != wanted)
+            count += self._width - wanted
+            raise WrongValue(f"mmdb: record {before + 1 + at} of the CSV has {count} fields, and its names are {self._width}")
+
+
+def _lines_of(text: str) -> List[str]:
+    """The lines of a text that have a character."""
+    return list(filter(None, _ENDS.split(text) if "\r" in text else text.split("\n")))
 
 
 def encode(text: str) -> bytes:

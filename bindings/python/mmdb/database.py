@@ -21,12 +21,16 @@ from typing import (
     Optional,
     Sequence,
     Tuple,
+    Type,
+    TypeVar,
     Union,
 )
 
+from . import dumps
 from .conversions import Converter, converter_of
 from .csvs import Picked, Readable, Watch, cut, front_of, pieces_of
 from .errors import InTransaction, NoMemory, NoTransaction, OperationalError, Refused, Shared, WrongType, WrongUse, refusal_of
+from .files import written
 from .handles import Handle
 from .indexes import Index, indexes_of
 from .lines import CHANGES, CHANGING, Placed, check_kind, check_line, one_line, placed
@@ -44,6 +48,8 @@ MOST = 1 << 24
 
 #: The parameters of one line: values in their order, or by name.
 Parameters = Union[Sequence[Any], Mapping[str, Any]]
+
+_Restored = TypeVar("_Restored", bound="Database")
 
 # The lines of the calls that don't take all.
 _TAKEN = {"select": ("select",), "change": CHANGES}
@@ -403,6 +409,39 @@ class Database(Handle):
                 raise refusal_of(answer, sent, self._reason(sent, b""), at.given if at.places else None)
         return answer.decode().splitlines()
 
+    def save(self, path: Union[str, os.PathLike[str]]) -> None:
+        """Writes all tables, their rows and their indexes to a file, which `restore` reads.
+
+        The file takes the place of another at that path once it is whole; if something is raised, that one is as it was.
+        In a transaction its changes are saved too. Other threads wait with their calls meanwhile. It needs memory for a
+        block, and for the keys of a table that is longer than one.
+
+        Raises OSError if the file can't be written. Raises ValueError for a row that no dump can hold: one whose key has a
+        line feed and in which a reference that takes nulls is the empty text, or that is longer than a block.
+        """
+        self._check_open()
+        with written(os.fsdecode(path)) as file:
+            dumps.write(self, file)
+
+    @classmethod
+    def restore(
+        cls: Type[_Restored], path: Union[str, os.PathLike[str]], policy: str = "auto", rows: int = MOST, block: int = MOST
+    ) -> _Restored:
+        """A new database with the tables, rows and indexes of a file that `save` has written, or the shell's `.dump`.
+
+        The others are those of the constructor. Raises OSError if the file can't be read. Raises ValueError, a `DataError`,
+        if it is no dump, a part of one, of a version that isn't known, or has a line that is refused.
+        """
+        name = os.fsdecode(path)
+        with open(name, "rb") as file:
+            db = cls(policy, rows, block)
+            try:
+                dumps.restore(db, file, name)
+            except BaseException:
+                db.close()
+                raise
+        return db
+
     def reader(self) -> Reader:
         """A reader of these tables, for a thread that reads while others do.
 
@@ -494,6 +533,17 @@ class Database(Handle):
             raise InTransaction("mmdb: this isn't done in a transaction: commit it or roll it back first")
         raise WrongUse(f"mmdb: the library answers {status}")
 
+    def _check_open(self) -> None:
+        """Raises WrongUse if the database is closed."""
+        with self._turn:
+            if self.closed:
+                self._failed(_NOT_OPEN)
+
+    def _asked(self, line: Union[str, bytes], block: Optional[bytes] = None) -> bytes:
+        """What is answered. Raises the refusal where it is one."""
+        with self._turn:
+            return self._accepted(as_bytes(line), block)
+
     # The calls below need their turn held.
 
     def _end(self, depth: int, end: Callable[[], None]) -> None:
@@ -572,6 +622,7 @@ class Reader(Database):
 
     def __init__(self, database: Database) -> None:
         super().__init__()
+        self._block = database._block
         if database._converters:
             self._read_by(database._converters)
         try:
@@ -591,6 +642,11 @@ class Reader(Database):
         with self._turn:
             self._leave()
             self._forget_columns()
+
+    @classmethod
+    def restore(cls, *_: Any, **__: Any) -> NoReturn:
+        """Raises ValueError: a database is restored."""
+        raise WrongUse("mmdb: a file is restored by mmdb.Database")
 
     def reader(self) -> NoReturn:
         """Raises ValueError: readers are made by the database."""

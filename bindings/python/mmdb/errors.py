@@ -134,6 +134,15 @@ class WrongValue(DataError, ValueError):
     """A value of the right type that can't be sent, or can't be told from another."""
 
 
+class WrongFile(WrongValue):
+    """A file that is no whole dump. Where a line of it was refused, the reason for that is told behind it."""
+
+    def __init__(self, told: str, reason: Optional[str] = None) -> None:
+        super().__init__(f"mmdb: {told}" + (f": {reason}" if reason else ""))
+        self.told = told
+        self.reason = reason
+
+
 _CLASSES: Dict[int, Type[Refused]] = {
     **dict.fromkeys((46, 61, 62), DataRefused),
     **dict.fromkeys((12, 43, 64), LimitRefused),

@@ -22,6 +22,7 @@ CHUNK = 1_000
 _OF_A_RECORD = re.compile(r"record \d+\)?\Z")
 _OF_ANOTHER_RECORD = re.compile(r"\Arecord \d+ ")
 _KEY_IN_TABLE = re.compile(r"\A(\w+) has a row with the key ")
+_TABLE_FULL = re.compile(r"\A(\w+) has (\d+) rows, (?:and there can be no more|(\d+) records come before this one, .*)\Z")
 _DIGITS = re.compile(r"\d+")
 
 
@@ -196,7 +197,13 @@ def in_whole(why: Refused, before: int) -> Refused:
     def moved(found: re.Match[str]) -> str:
         return _DIGITS.sub(lambda number: str(before + int(number[0])), found[0])
 
+    def without_them(found: re.Match[str]) -> str:
+        rows, records = int(found[2]), int(found[3] or 0)
+        most = f"and a table has at most {rows + records} rows"
+        return f"{found[1]} has {rows - before} rows, {before + records} records come before this one, {most}"
+
     reason = why.reason
     if reason:
-        reason = _OF_ANOTHER_RECORD.sub(moved, _KEY_IN_TABLE.sub(r"\1 or an earlier record has the key ", reason))
+        reason = _TABLE_FULL.sub(without_them, _KEY_IN_TABLE.sub(r"\1 or an earlier record has the key ", reason))
+        reason = _OF_ANOTHER_RECORD.sub(moved, reason)
     return type(why)(why.number, _OF_A_RECORD.sub(moved, why.text), why.line, reason, why.written)

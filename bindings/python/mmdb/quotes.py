@@ -26,6 +26,11 @@ class Form(NamedTuple):
         """The marks that open a quoted field."""
         return _patterns(self).opening
 
+    @property
+    def many(self) -> Pattern[bytes]:
+        """Quoted fields that are whole, with what is before each."""
+        return _patterns(self).many
+
 
 class _Patterns(NamedTuple):
     """What quote marks are searched by."""
@@ -44,7 +49,9 @@ def _patterns(form: Form) -> _Patterns:
     field = rb"%b[^%b]*(?:%b%b[^%b]*)*%b" % ((mark,) * 6)
     # Many fields that are whole, with what stands before each. (One by one they would take several times as long.)
     many = rb"(?:[^%b]*%b%b%b){1,500}" % (mark, before, field, behind)
-    patterns = before + mark, field + rb"(?!%b)" % mark, before + field + behind, many
+    # (a pattern that begins with a character is found sooner)
+    opening = rb"%b(?<![^%b\r\n]%b)" % (mark, separator, mark)
+    patterns = opening, field + rb"(?!%b)" % mark, before + field + behind, many
     return _Patterns(*map(re.compile, patterns))
 
 

@@ -138,7 +138,11 @@ def _field(value: Any, column: Column) -> str:
 
 def quoted_fields(texts: Sequence[str]) -> Sequence[str]:
     """Texts as fields of CSV."""
-    return list(map(quoted_field, texts)) if _IS_QUOTED("".join(texts)) else texts
+    together, is_quoted = "".join(texts), _IS_QUOTED
+    if not any(mark in together for mark in '",\r\n'):
+        return texts
+    doubled = [text.replace('"', '""') for text in texts] if '"' in together else texts
+    return [f'"{text}"' if is_quoted(text) else text for text in doubled]
 
 
 def _fields(values: List[Any], column: Column, before: int) -> Sequence[str]:

@@ -5,6 +5,7 @@ is called again. A second database, which is never refused anything, tells what 
 import ctypes
 import itertools
 import os
+import tempfile
 
 import mmdb
 
@@ -64,6 +65,16 @@ class Kept:
     def prepare(self):
         self.more.append(self.db.prepare("select s, c from t where s = ? and id < ? and c <> 'a text that is given'"))
 
+    def restored(self):
+        """What is saved of a database that was restored from what was saved of this one."""
+        with tempfile.TemporaryDirectory(prefix="mmdb-tests-") as folder:
+            first, second = os.path.join(folder, "first"), os.path.join(folder, "second")
+            self.db.save(first)
+            with mmdb.Database.restore(first) as db:
+                db.save(second)
+            with open(second, "rb") as file:
+                return file.read()
+
     def state(self):
         return self.db.execute("tables"), self.db.select("select * from t"), self.select.execute(2)
 
@@ -84,6 +95,7 @@ STEPS = (
     lambda of: of.delete_in_transaction(),
     lambda of: of.declare_in_transaction(),
     lambda of: of.drop_in_transaction(),
+    lambda of: of.restored(),
     lambda of: of.db.change("update t set c = ? where id = ?", KEY, 1),
 )
 

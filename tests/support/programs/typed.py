@@ -1,6 +1,8 @@
 """A program that uses the package as its annotations allow: mypy finds nothing in it in strict mode."""
 
 import datetime
+import pathlib
+import tempfile
 from typing import List, Tuple
 
 import mmdb
@@ -30,6 +32,10 @@ with mmdb.Database() as database:
         found: mmdb.Rows = reader.select("select name from emp where id > ?", 1)
         reader.leave()
         database.share(reader)
+    with tempfile.TemporaryDirectory(prefix="mmdb-tests-") as folder:
+        database.save(pathlib.Path(folder, "all.mmdb"))
+        with mmdb.Database.restore(f"{folder}/all.mmdb", policy="tree") as restored:
+            count += restored.change("delete emp")
     for name, group in database.dump("emp").group("name").items():
         print(name, group.sum("pay"), group.column("id"), group.names)
     mmdb.register_adapter(complex, str)
