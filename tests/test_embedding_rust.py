@@ -2,13 +2,15 @@
 
 import os
 import pathlib
+import random
 import re
 import shutil
 import subprocess
 import tempfile
 import unittest
 
-from support import compiling, drawn, embedding, harness, sizes, tested
+from support import compiling, drawn, embedding, harness, limited, sizes, tested
+from support.binding import mmdb
 
 CRATE = harness.ROOT / "bindings" / "rust"
 EXAMPLE = harness.ROOT / "examples" / "rust"
@@ -17,6 +19,20 @@ SECONDS = sizes.size(600, 3_600)
 PASSED = re.compile(r"^test result: ok\. (\d+) passed; 0 failed; 0 ignored;", re.MULTILINE)
 LICENSES = ("LICENSE-MIT", "LICENSE-APACHE")
 PIECE = re.compile(r"^```rust\n(.*?)^```$", re.MULTILINE | re.DOTALL)
+
+
+def saved(block, draw, path):
+    """A database with two tables of drawn rows, which is saved to a file."""
+    db = mmdb.Database(block=block)
+    db.execute("table t (k text, n int)")
+    db.execute("table u (id int, s text, t ref t null)")
+    db.execute("index u t hash")
+    keys = sorted({embedding.text(draw) + draw.choice(["", *embedding.LINE_FEEDS]) for _ in range(200)} | {"", "a"})
+    db.load("t", [(key, -at) for at, key in enumerate(keys)])
+    given = ((at, embedding.text(draw) + "x" * (at % 9), draw.choice([None, "a", "", *keys])) for at in range(25_000))
+    db.executemany("insert u (?, ?, ?)", list(given))
+    db.save(path)
+    return db
 
 
 class Cargo(unittest.TestCase):
@@ -71,7 +87,7 @@ class Cargo(unittest.TestCase):
     def test_the_pieces_of_the_page(self):
         """Those behind the first program are one program."""
         pieces = PIECE.findall((harness.ROOT / "docs" / "rust.md").read_text())[1:]
-        self.assertEqual(len(pieces), 9)
+        self.assertEqual(len(pieces), 10)
         program = f"#![allow(unused)]\nfn main() -> Result<(), mmdb::Error> {{\n{''.join(pieces)}Ok(())\n}}\n"
         refused = "error 42 no referenced row: column 19: dept has no row with the key 99, which column dept names"
         refused += "\n  insert emp (?, ?, ?)\n                    ^"
@@ -84,6 +100,33 @@ class Cargo(unittest.TestCase):
         self.assertEqual(built.status, 0, built.err)
         self.assertNotIn("warning", built.err)
         drawn.check(self, self.folder / "target" / "debug" / "by_statements", SEED)
+
+    def resave(self, block, *files):
+        """What a program tells that restores a database from a file, under a limit of blocks, and saves it to another."""
+        program = self.folder / "target" / "debug" / "resave"
+        how = {"timeout": harness.SECONDS, "check": True, "capture_output": True, "text": True}
+        # (a signal that comes of a full file is ignored)
+        return subprocess.run([program, str(block), *files], restore_signals=False, **how).stdout
+
+    def test_dumps_of_python(self):
+        """What Python saves and Rust restores, Rust saves as it was, and Python restores it. A full disk leaves a file as it was."""
+        built = self.cargo(embedding.crate(self.folder, "resave", (compiling.PROGRAMS / "resave.rs").read_text()), "build")
+        self.assertEqual(built.status, 0, built.err)
+        self.assertNotIn("warning", built.err)
+        first, second = self.folder / "first.mmdb", self.folder / "second.mmdb"
+        draw = random.Random(SEED)
+        for block in (1 << 11, 1 << 13, mmdb.MOST):
+            with self.subTest(block=block), saved(block, draw, first) as db:
+                self.assertEqual(self.resave(block, first, second), "")
+                self.assertEqual(second.read_bytes(), first.read_bytes())
+                with mmdb.Database.restore(second) as again:
+                    self.assertEqual([again.dump(table) for table in "tu"], [db.dump(table) for table in "tu"])
+        second.write_bytes(b"old")
+        for most in (0, 1, 1000, first.stat().st_size - 1):
+            with limited.small_files(most):
+                self.assertIn("the dump can't be written: File too large", self.resave(mmdb.MOST, first, second))
+            self.assertEqual(second.read_bytes(), b"old")
+            self.assertEqual([path.name for path in self.folder.glob(".second*")], [])
 
     def test_the_package(self):
         """It is made without a warning, and has the licences."""

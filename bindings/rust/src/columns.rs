@@ -3,7 +3,7 @@
 use std::collections::HashMap;
 
 use crate::error::{Error, Result};
-use crate::fields::Fields;
+use crate::fields::{wants_marks, Fields};
 use crate::params::Values;
 use crate::spelling::{push_integer, push_marked};
 use crate::value::ValueRef;
@@ -91,8 +91,8 @@ impl<'t> Given<'t> {
     }
 
     /// Where the value of each column of the table is.
-    pub(crate) fn places(&self) -> &[usize] {
-        &self.places
+    pub(crate) fn places(&self) -> impl Iterator<Item = Option<usize>> + '_ {
+        self.places.iter().copied().map(Some)
     }
 
     /// The fields of a row of a number, in the order in which its values are given.
@@ -125,7 +125,7 @@ pub(crate) fn record_of<'n>(names: impl Iterator<Item = &'n str>) -> String {
         if at > 0 {
             record.push(',');
         }
-        match wants_marks(name) {
+        match wants_marks(name.as_bytes()) {
             true => push_marked(&mut record, name, '"'),
             false => record.push_str(name),
         }
@@ -139,14 +139,11 @@ fn push_field(fields: &mut Fields, value: ValueRef<'_>, column: &Column, row: us
         (ValueRef::Null, _) if column.takes_null => {}
         (ValueRef::Integer(integer), Kind::Integer) => fields.push_spelled(|to| push_integer(to, integer)),
         (ValueRef::Text(""), Kind::Text) if column.takes_null => return Err(Error::EmptyText { row, column: named() }),
-        (ValueRef::Text(text), Kind::Text) if wants_marks(text) => fields.push_spelled(|to| push_marked(to, text, '"')),
+        (ValueRef::Text(text), Kind::Text) if wants_marks(text.as_bytes()) => {
+            fields.push_spelled(|to| push_marked(to, text, '"'))
+        }
         (ValueRef::Text(text), Kind::Text) => fields.push(text.as_bytes()),
         _ => return Err(Error::WrongType { row, column: named() }),
     }
     Ok(())
-}
-
-/// Whether a field of this text needs quote marks.
-fn wants_marks(text: &str) -> bool {
-    text.bytes().any(|byte| matches!(byte, b',' | b'"' | b'\r' | b'\n'))
 }

@@ -2,9 +2,9 @@
 
 use std::fmt;
 
-use crate::pointing::fmt_pointed;
-
+use crate::csv_options::mark_of;
 use crate::from_value::FromValueError;
+use crate::pointing::fmt_pointed;
 
 /// The result of a call.
 pub type Result<T, E = Error> = std::result::Result<T, E>;
@@ -127,6 +127,15 @@ pub enum Error {
         /// Whether no mark closes the field, so that it holds all that follows. Else text is behind the mark that does.
         is_open: bool,
     },
+    /// The characters of [`CsvOptions`](crate::CsvOptions) can't be those of a CSV: one isn't of ASCII or is a line end or NUL, or
+    /// they are the same.
+    #[non_exhaustive]
+    CsvMarks {
+        /// What was to separate fields.
+        separator: char,
+        /// What was to enclose them.
+        quote: Option<char>,
+    },
     /// The CSV to load couldn't be read to its end.
     #[non_exhaustive]
     Io {
@@ -147,6 +156,38 @@ pub enum Error {
     NoTransaction,
     /// A transaction is open, and no reader is made in one.
     InTransaction,
+    /// A database couldn't be saved, since what it was written to failed.
+    #[non_exhaustive]
+    Unwritten {
+        /// Of which kind the error was.
+        kind: std::io::ErrorKind,
+        /// What it said.
+        message: String,
+    },
+    /// A database couldn't be saved, since no dump can hold one of its rows.
+    #[non_exhaustive]
+    Unsaved {
+        /// The table of the row.
+        table: String,
+        /// Why not.
+        message: String,
+    },
+    /// A dump couldn't be read to its end.
+    #[non_exhaustive]
+    UnreadDump {
+        /// Of which kind the error was.
+        kind: std::io::ErrorKind,
+        /// What it said.
+        message: String,
+    },
+    /// What was to be restored is no whole dump, is of a version that isn't known, or has a line that is refused.
+    #[non_exhaustive]
+    BadDump {
+        /// The number of the line, counted from 1.
+        line: usize,
+        /// What is wrong with it.
+        message: String,
+    },
     /// The library answered with a status that has no place there.
     Status(u32),
 }
@@ -231,6 +272,7 @@ impl fmt::Display for Error {
             Error::NotAStatement => write!(to, "the line to prepare is no insert, update, delete or select"),
             Error::NotASelect => write!(to, "the line to query is no select"),
             Error::NotAChange => write!(to, "the line to execute is a select, a dump or tables"),
+            Error::CsvMarks { separator, quote } => fmt_of_marks(to, *separator, *quote),
             Error::Io { message, .. } => write!(to, "the CSV can't be read: {message}"),
             Error::Other(text) => to.write_str(text),
             Error::TooLarge => write!(
@@ -296,9 +338,37 @@ impl Error {
                 to,
                 "an empty field of {column} is null or the empty text: select where it is either, without it"
             ),
+            other => other.fmt_of_dumps(to),
+        }
+    }
+
+    /// Writes an error about a dump: one that is saved, or restored.
+    fn fmt_of_dumps(&self, to: &mut fmt::Formatter<'_>) -> fmt::Result {
+        match self {
+            Error::Unwritten { message, .. } => write!(to, "the dump can't be written: {message}"),
+            Error::Unsaved { table, message } => write!(to, "no dump can hold the rows of {table}: {message}"),
+            Error::UnreadDump { message, .. } => write!(to, "the dump can't be read: {message}"),
+            Error::BadDump { line, message } => write!(to, "line {line} of the dump: {message}"),
             _ => Ok(()),
         }
     }
+}
+
+/// Writes why these can't separate and enclose the fields of a CSV.
+fn fmt_of_marks(to: &mut fmt::Formatter<'_>, separator: char, quote: Option<char>) -> fmt::Result {
+    let marks = [("separator", Some(separator)), ("quote", quote)];
+    for (what, mark) in marks.iter().filter_map(|(what, mark)| Some((what, (*mark)?))) {
+        if mark_of(mark).is_none() {
+            return write!(
+                to,
+                "the {what} of a CSV is a character of ASCII and no line end, not {mark:?}"
+            );
+        }
+    }
+    write!(
+        to,
+        "a CSV has different characters as its separator and its quote, not both {separator:?}"
+    )
 }
 
 impl std::error::Error for Error {

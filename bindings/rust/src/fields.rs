@@ -1,4 +1,6 @@
-//! The fields of a record, as a block has them.
+//! The fields of a record, and how a block has them.
+
+use crate::csv_options::Form;
 
 /// The fields of a record, in room that is used again: each as it is written in a CSV, with the quote marks that it has.
 #[derive(Debug, Default)]
@@ -48,44 +50,77 @@ impl Fields {
         self.bytes.len()
     }
 
-    pub(crate) fn iter(&self) -> impl Iterator<Item = &[u8]> {
-        (0..self.len()).map(move |at| self.get(at))
-    }
-
     fn get(&self, at: usize) -> &[u8] {
         let from = at.checked_sub(1).map_or(0, |before| self.ends[before]);
         &self.bytes[from..self.ends[at]]
     }
 
-    /// Writes the record, with its fields in an order: that of their places. If there are more places than fields, or fewer, they
-    /// are written as they come.
-    pub(crate) fn write(&self, places: &[usize], to: &mut Vec<u8>) {
-        let is_of_columns = places.len() == self.len();
-        for at in 0..self.len() {
+    /// What each field says, in a CSV of a form.
+    pub(crate) fn said(&self, form: Form) -> impl Iterator<Item = Vec<u8>> + '_ {
+        (0..self.len()).map(move |at| said(self.get(at), form))
+    }
+
+    /// Writes a record of a block, with the fields of these places, which are in a form. A field without a place is empty.
+    pub(crate) fn write(&self, places: impl Iterator<Item = Option<usize>>, form: Form, to: &mut Vec<u8>) {
+        let front = to.len();
+        for (at, place) in places.enumerate() {
             if at > 0 {
                 to.push(b',');
             }
-            let place = places.get(at).filter(|_| is_of_columns);
-            to.extend_from_slice(self.get(*place.unwrap_or(&at)));
+            match place.map(|place| self.get(place)) {
+                Some(field) if form == Form::BLOCK => to.extend_from_slice(field),
+                Some(field) if is_as_in_a_block(field, form) => to.extend_from_slice(field),
+                Some(field) => push_marked(to, field, form),
+                None => {}
+            }
+        }
+        if to.len() == front {
+            // (a line without a byte would be no record)
+            to.extend_from_slice(b"\"\"");
         }
     }
 }
 
+/// Whether bytes of a field need quote marks in a block.
+pub(crate) fn wants_marks(field: &[u8]) -> bool {
+    field.iter().any(|byte| matches!(byte, b',' | b'"' | b'\r' | b'\n'))
+}
+
+/// Whether a field in a form is written in a block as it is.
+fn is_as_in_a_block(field: &[u8], form: Form) -> bool {
+    !field.first().map_or(false, |byte| form.is_quote(*byte)) && !wants_marks(field)
+}
+
+/// Writes a field of a form with the quote marks of a block.
+fn push_marked(to: &mut Vec<u8>, field: &[u8], form: Form) {
+    to.push(b'"');
+    say(field, form, |byte| {
+        if byte == b'"' {
+            to.push(b'"');
+        }
+        to.push(byte);
+    });
+    to.push(b'"');
+}
+
 /// What a field says, without its quote marks.
-pub(crate) fn said(field: &[u8]) -> Vec<u8> {
-    let quoted = match field.strip_prefix(b"\"") {
-        Some(quoted) => quoted,
-        None => return field.to_vec(),
-    };
-    let (mut said, mut rest) = (Vec::new(), quoted.iter().copied().peekable());
-    while let Some(byte) = rest.next() {
-        if byte != b'"' {
-            said.push(byte);
-        } else if rest.next_if_eq(&b'"').is_some() {
-            said.push(b'"');
+fn said(field: &[u8], form: Form) -> Vec<u8> {
+    let mut said = Vec::new();
+    say(field, form, |byte| said.push(byte));
+    said
+}
+
+/// Hands out what a field says, byte by byte. What is behind its closing quote mark is a part of it as it is.
+fn say(field: &[u8], form: Form, mut take: impl FnMut(u8)) {
+    let mut bytes = field.iter().copied().peekable();
+    if bytes.next_if(|byte| form.is_quote(*byte)).is_none() {
+        return bytes.for_each(take);
+    }
+    while let Some(byte) = bytes.next() {
+        if !form.is_quote(byte) || bytes.next_if_eq(&byte).is_some() {
+            take(byte);
         } else {
-            said.extend(rest.by_ref());
+            bytes.by_ref().for_each(&mut take);
         }
     }
-    said
 }

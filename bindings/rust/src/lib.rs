@@ -28,7 +28,8 @@
 //! [`Database::query`] keep those of their lines.
 //!
 //! [`Database::transaction`] begins a transaction, [`Database::load`] and [`Database::load_csv_from`] insert any number of rows or
-//! none, and threads read a [`Shared`] database at the same time.
+//! none, and threads read a [`Shared`] database at the same time. [`Database::save`] writes a whole database, and
+//! [`Database::restore`] makes one of that.
 //!
 //! The archive `libmmdb.a` is linked from the folder that the environment variable `MMDB_LIBRARY` names when the crate
 //! is built, else from `release` of a clone, else from where pkg-config knows `mmdb`.
@@ -43,9 +44,12 @@ pub struct Readme;
 mod bound;
 mod cells;
 mod columns;
+mod csv;
+mod csv_options;
 mod database;
 mod error;
 mod fields;
+mod files;
 mod from_value;
 mod index;
 mod kept;
@@ -60,8 +64,10 @@ mod params;
 mod pointing;
 mod readers;
 mod records;
+mod restoring;
 mod row;
 mod rows;
+mod saving;
 mod session;
 mod shared;
 mod spelling;
@@ -70,6 +76,7 @@ mod to_value;
 mod transaction;
 mod value;
 
+pub use csv_options::CsvOptions;
 pub use database::Database;
 pub use error::{Error, Result};
 pub use from_value::{FromValue, FromValueError};

@@ -56,13 +56,13 @@ impl Reader<'static> {
             lent: PhantomData,
         }
     }
-
-    pub(crate) fn database(&self) -> &Database {
-        &self.database
-    }
 }
 
 impl Reader<'_> {
+    pub(crate) fn database(&self) -> &Database {
+        &self.database
+    }
+
     /// Prepares a select, to be executed more than once.
     pub fn prepare(&self, line: &str) -> Result<Statement<'_>> {
         match is_select(line) {

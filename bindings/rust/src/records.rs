@@ -3,6 +3,7 @@
 use std::io::{ErrorKind, Read};
 use std::ops::Range;
 
+use crate::csv_options::Form;
 use crate::error::{Error, Result};
 use crate::fields::Fields;
 
@@ -15,6 +16,7 @@ const MARK: &[u8] = b"\xef\xbb\xbf";
 /// return. So an empty line is a record of one empty field here, which a load skips.
 pub(crate) struct Records<R> {
     from: R,
+    form: Form,
     piece: Box<[u8]>,
     /// What of the piece wasn't taken yet.
     left: Range<usize>,
@@ -53,9 +55,10 @@ pub(crate) enum End {
 }
 
 impl<R: Read> Records<R> {
-    pub(crate) fn of(from: R) -> Records<R> {
+    pub(crate) fn of(from: R, form: Form) -> Records<R> {
         Records {
             from,
+            form,
             piece: vec![0; PIECE].into_boxed_slice(),
             left: 0..0,
             odd: None,
@@ -88,7 +91,7 @@ impl<R: Read> Records<R> {
         let mut within = Within::Front;
         while self.has_more()? {
             let left = &self.piece[self.left.clone()];
-            let run = within.run(left);
+            let run = within.run(left, self.form);
             fields.push(&left[..run]);
             let next = left.get(run).copied();
             self.left.start += run + usize::from(next.is_some());
@@ -100,11 +103,11 @@ impl<R: Read> Records<R> {
                 return Ok(End::TooLong);
             }
             match next {
-                Some(b'"') => {
-                    fields.push(b"\"");
+                Some(mark) if self.form.is_quote(mark) => {
+                    fields.push(&[mark]);
                     within = within.behind_mark();
                 }
-                Some(b',') => {
+                Some(mark) if mark == self.form.separator => {
                     fields.end();
                     within = Within::Front;
                 }
@@ -116,7 +119,7 @@ impl<R: Read> Records<R> {
             }
         }
         self.note(Odd::Open, within == Within::Quoted);
-        within.end_file(fields);
+        within.end_file(fields, self.form);
         Ok(End::File)
     }
 
@@ -147,22 +150,22 @@ impl<R: Read> Records<R> {
 impl Within {
     /// How many of the bytes are simply the next ones of the field. A quote mark is at the front of a field, or in a quoted one,
     /// more than that.
-    fn run(self, bytes: &[u8]) -> usize {
+    fn run(self, bytes: &[u8], form: Form) -> usize {
         let ends = |byte: &u8| match self {
-            Within::Quoted => *byte == b'"',
-            _ => matches!(*byte, b',' | b'\r' | b'\n'),
+            Within::Quoted => form.is_quote(*byte),
+            _ => *byte == form.separator || matches!(*byte, b'\r' | b'\n'),
         };
         let is_plain = matches!(self, Within::Plain | Within::Quoted);
         match bytes.first() {
-            Some(b'"') if !is_plain => 0,
+            Some(first) if !is_plain && form.is_quote(*first) => 0,
             _ => bytes.iter().position(ends).unwrap_or(bytes.len()),
         }
     }
 
     /// Ends the last record, if there is one, and the quoted field that isn't closed.
-    fn end_file(self, fields: &mut Fields) {
-        if self == Within::Quoted {
-            fields.push(b"\"");
+    fn end_file(self, fields: &mut Fields, form: Form) {
+        if let (Within::Quoted, Some(mark)) = (self, form.quote) {
+            fields.push(&[mark]);
         }
         if fields.size() + fields.len() > 0 {
             fields.end();

@@ -80,6 +80,12 @@ impl Session {
         self.accepted(line, line, block, read)
     }
 
+    /// Does a line without a block, in which nothing is a place for a parameter.
+    pub(crate) fn tell(&self, line: &str) -> Result<()> {
+        self.handle.command(line.as_bytes())?;
+        self.accepted(line, line, &[], |_| ())
+    }
+
     /// What a function makes of what is told of the indexes of a table, where it is there.
     pub(crate) fn indexes<T>(&self, table: &str, read: impl FnOnce(&str) -> T) -> Result<T> {
         self.handle.indexes(table.as_bytes())?;

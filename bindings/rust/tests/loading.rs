@@ -2,10 +2,10 @@
 
 mod common;
 
-use std::io::{self, Read};
+use std::io::Read;
 
 use common::draw::Draw;
-use common::{open, row, selected, with_table};
+use common::{open, row, selected, with_table, OneByOne};
 use mmdb::{params, Database, Error, Outcome, Take, Value, Values};
 
 #[test]
@@ -192,16 +192,6 @@ fn columns_are_known_anew_after_each_declaration() {
             assert_eq!(selected(&db, "select v from x", []), [[value]]);
             way(&mut db, "drop table x");
         }
-    }
-}
-
-/// Bytes that are read one by one.
-struct OneByOne<'b>(&'b [u8]);
-
-impl Read for OneByOne<'_> {
-    fn read(&mut self, room: &mut [u8]) -> io::Result<usize> {
-        let most = room.len().min(1);
-        self.0.read(&mut room[..most])
     }
 }
 

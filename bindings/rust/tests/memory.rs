@@ -4,7 +4,7 @@ use std::alloc::{GlobalAlloc, Layout, System};
 use std::cell::Cell;
 use std::io::Read;
 
-use mmdb::{named_params, params, Database, Limits, Policy, Row};
+use mmdb::{named_params, params, CsvOptions, Database, Limits, Policy, Row};
 
 /// Counts the blocks that a thread takes by Rust's allocator, and their bytes. The library's own aren't counted.
 struct Counting;
@@ -121,13 +121,16 @@ fn a_load_takes_as_much_as_its_blocks() {
     };
     let db = Database::open(Policy::Auto, limits).unwrap();
     db.execute("table t (id int, s text)", []).unwrap();
-    let csv = Endless {
+    let csv = || Endless {
         id: 0,
         row: b"id,s\n".to_vec(),
     };
     let before = HELD.with(Cell::get);
     MOST_HELD.with(|most| most.set(before));
-    let refused = db.load_csv_from("t", csv.take(4_000_000)).unwrap_err();
+    let refused = db.load_csv_from("t", csv().take(4_000_000)).unwrap_err();
+    assert_eq!(refused.text(), Some("bad record 293651"));
+    let named = CsvOptions::new().columns(["s", "id"]).quote('\'').strict(true);
+    let refused = db.load_csv_with("t", csv().take(4_000_000), &named).unwrap_err();
     assert_eq!(refused.text(), Some("bad record 293651"));
     assert_eq!(db.load("t", (0..200_000).map(|id| (id, "a text"))), Ok(200_000));
     let most = MOST_HELD.with(Cell::get) - before;

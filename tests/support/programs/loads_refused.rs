@@ -1,12 +1,17 @@
-//! Refuses each of the library's calls for memory in turn that a transaction makes, a load of many blocks, or a reader of shared
-//! tables, and tells of each of these how many they are.
+//! Refuses each of the library's calls for memory in turn that a transaction makes, a load of many blocks, a dump, or a reader of
+//! shared tables, and tells of each of these how many they are.
 
 mod refusing;
 
-use mmdb::{Database, Limits, Policy, Result, Shared, SharedReader, Value};
+use mmdb::{CsvOptions, Database, Limits, Policy, Result, Shared, SharedReader, Value, MOST};
 use refusing::{is_refused, refused_calls, Step};
 
 const LONG: &str = "a text that is longer than a slot of few bytes";
+
+const LIMITS: Limits = Limits {
+    rows: MOST,
+    block: 120,
+};
 
 /// A shared database with small blocks, and one who reads it.
 struct Both {
@@ -16,11 +21,7 @@ struct Both {
 
 impl Both {
     fn of() -> Result<Both> {
-        let limits = Limits {
-            block: 120,
-            ..Limits::default()
-        };
-        let db = Database::open(Policy::Auto, limits)?;
+        let db = Database::open(Policy::Auto, LIMITS)?;
         db.execute("table t (id int, s text)", [])?;
         db.execute("index t s hash", [])?;
         db.load("t", [(1, "a"), (2, LONG)])?;
@@ -78,6 +79,13 @@ impl Both {
         self.shared.write()?.load_csv_columns("t", &["s", "id"], csv.as_bytes())
     }
 
+    fn load_csv_with(&mut self) -> Result<usize> {
+        let mut csv = "more;s;id\n".to_string();
+        (10..30).for_each(|id| csv += &format!("{id};'{LONG}, {id}';{id}\n"));
+        let options = CsvOptions::new().columns(["id", "s"]).separator(';').quote('\'');
+        self.shared.write()?.load_csv_with("t", csv.as_bytes(), &options)
+    }
+
     fn read(&mut self) -> Result<usize> {
         let rows = self.reader.read()?.query("select * from t where id > ?", [1])?;
         Ok(rows.len())
@@ -88,17 +96,31 @@ impl Both {
         self.read()
     }
 
+    /// What is saved of a database that was restored from what a reader saved, with rows of more than a block.
+    fn restored(&mut self) -> Result<usize> {
+        let (mut first, mut second, mut third) = (Vec::new(), Vec::new(), Vec::new());
+        self.reader.read()?.save(&mut first)?;
+        let db = Database::restore_as(Policy::Auto, LIMITS, &first[..])?;
+        db.load("t", (10..30).map(|id| (id, LONG)))?;
+        db.save(&mut second)?;
+        Database::restore_as(Policy::Auto, LIMITS, &second[..])?.save(&mut third)?;
+        assert_eq!(second, third);
+        Ok(third.len())
+    }
+
     fn another_reader(&mut self) -> Result<usize> {
         self.reader = self.shared.reader()?;
         self.read()
     }
 }
 
-const STEPS: [Step<Both, usize>; 7] = [
+const STEPS: [Step<Both, usize>; 9] = [
     Both::commit,
     Both::roll_back,
     Both::load,
     Both::load_csv,
+    Both::load_csv_with,
+    Both::restored,
     Both::read,
     Both::write_and_read,
     Both::another_reader,

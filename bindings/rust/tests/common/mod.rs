@@ -3,6 +3,8 @@
 
 pub mod draw;
 
+use std::io::{self, Read};
+
 use mmdb::{Database, Error, Params, Value};
 
 pub fn open() -> Database {
@@ -33,4 +35,14 @@ pub fn selected(db: &Database, line: &str, params: impl Params) -> Vec<Vec<Value
 
 pub fn number<T: std::fmt::Debug>(answered: Result<T, Error>) -> Option<u32> {
     answered.expect_err("it is refused").number()
+}
+
+/// Bytes that are read one by one.
+pub struct OneByOne<'b>(pub &'b [u8]);
+
+impl Read for OneByOne<'_> {
+    fn read(&mut self, room: &mut [u8]) -> io::Result<usize> {
+        let most = room.len().min(1);
+        self.0.read(&mut room[..most])
+    }
 }
