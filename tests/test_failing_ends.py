@@ -2,33 +2,21 @@
 
 import bisect
 import concurrent.futures
-import contextlib
 import functools
 import itertools
 import os
-import resource
 import subprocess
 import tempfile
 import unittest
 
 from support import harness, model, sizes, streams
+from support.limited import small_files
 
 LINES = (harness.ROWS / "departments-and-employees.in").read_bytes() + b"tables\n"
 BLOCKS = (harness.ROWS / "load-of-references.in").read_bytes()
 APART = sizes.size(41, 1)
 READ_FAULT = (1, b"mmdb: read fault\n")
 WRITE_FAULT = (3, b"mmdb: write fault\n")
-
-
-@contextlib.contextmanager
-def small_files(most):
-    """In it files take so many bytes and no further one, also from programs that are started there."""
-    before = resource.getrlimit(resource.RLIMIT_FSIZE)
-    resource.setrlimit(resource.RLIMIT_FSIZE, (most, before[1]))
-    try:
-        yield
-    finally:
-        resource.setrlimit(resource.RLIMIT_FSIZE, before)
 
 
 def close_input():

@@ -16,7 +16,8 @@ from unittest import mock
 
 from support import harness, model, shell_modules, sizes, tested
 
-from mmdb_shell import files
+from mmdb import files
+from mmdb_shell.files import Trouble, written
 
 SEED = 20261127
 KILLS = sizes.size(10, 150)
@@ -37,7 +38,7 @@ def csv(names, rows):
 T = csv([b"id", b"s"], [[number, b"row %d, with a text" % number] for number in range(ROWS)])
 U = csv([b"id", b"t"], [[number, number if number % 3 else None] for number in range(ROWS)])
 LOADS = b"load t %d\n%bload u %d\n%b" % (len(T), T, len(U), U)
-DUMP = b"# mmdb dump\n" + TABLES + LOADS + b"# end of the dump\n"
+DUMP = b"# mmdb dump 1\n%b%b# end of the dump: 3 tables, %d rows\n" % (TABLES, LOADS, 2 * ROWS)
 
 
 def lines(name):
@@ -137,17 +138,17 @@ class Written(unittest.TestCase):
 
     def check(self, while_written):
         """A new file, one in its place, which keeps its rights, and one that fails. So many files have a name meanwhile."""
-        with files.written(self.place) as file:
+        with written(self.place) as file:
             self.assertEqual(len(self.there()), while_written)
             file.write(b"one")
         mode = os.stat(self.place).st_mode & 0o777
         self.assertEqual(self.there(), {"file": (b"one", mode)})
         os.chmod(self.place, 0o640)
-        with files.written(self.place) as file:
+        with written(self.place) as file:
             self.assertEqual(len(self.there()), 1 + while_written)
             file.write(b"two")
         self.assertEqual(self.there(), {"file": (b"two", 0o640)})
-        with self.assertRaises(KeyError), files.written(self.place) as file:
+        with self.assertRaises(KeyError), written(self.place) as file:
             file.write(b"three")
             raise KeyError
         self.assertEqual(self.there(), {"file": (b"two", 0o640)})
@@ -172,12 +173,12 @@ class Written(unittest.TestCase):
             self.check(1)
 
     def test_a_place_that_is_taken_meanwhile(self):
-        with files.written(self.place) as file:
+        with written(self.place) as file:
             file.write(b"one")
             pathlib.Path(self.place).write_bytes(b"another's")
         self.assertEqual([text for text, _ in self.there().values()], [b"one"])
 
     def test_a_folder_that_is_not_there(self):
-        with self.assertRaises(files.Trouble) as raised, files.written(str(self.room / "none" / "file")):
+        with self.assertRaises(Trouble) as raised, written(str(self.room / "none" / "file")):
             pass
         self.assertEqual(str(raised.exception), f"there is no {self.room / 'none'}")

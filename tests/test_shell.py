@@ -111,7 +111,7 @@ class ThroughAPipe(shells.Piped):
         self.assertEqual(ran.returncode, 1)
         self.assertEqual(csv.read_text(), "id,name,dept\n1,Ann,10\n2,,\n3,Cy,10\n")
         read = harness.run_whole(dump.read_bytes() + b"select id from emp\n")
-        self.assertEqual(read.out, b"ok\n" * 3 + b"ok 1\nok 3\nrows 3\nemp.id\n1\n2\n3\n")
+        self.assertEqual(read.out, b"ok\n" * 2 + b"ok 1\nok 3\nok\nrows 3\nemp.id\n1\n2\n3\n")
 
     def test_words_of_the_start(self):
         self.assertEqual(self.ran([], "--version").stdout.decode(), f"mmdb-shell {harness.VERSION}\n")
@@ -386,7 +386,11 @@ class Loads(shells.InThisProcess):
                 shell.run(reading.Stream(io.BytesIO(f".load t {self.file('t.csv', content + last)}\n".encode()), ""))
                 self.assertEqual(shell._err.getvalue(), f"mmdb-shell: warning: record 41 of the CSV has {told}\n")
                 self.assertEqual(shell.db.select("select s from t where id = 40"), [(text,)])
-                self.do(shell, "drop table t")
+                self.do(shell, "drop table t", "table t (id int, s text)", ".bail on")
+                refused = f"record 41 of the CSV has {told} (no row of the file went in)"
+                self.do(shell, f".load t {self.file('t.csv', content + last)}", refused=refused)
+                self.assertEqual(shell.db.dump("t"), [])
+                self.do(shell, ".bail off", "drop table t")
 
     def test_what_is_refused_later_is_taken_back(self):
         for kind, keys, old in (
@@ -435,6 +439,16 @@ class Loads(shells.InThisProcess):
         self.assertEqual(shell.db.execute("select * from t"), [["a\nb"]])
         self.do(shell, f".load t {self.file('t.csv', chr(10).join(['k', *keys]))}", ".count t", said="51\n")
 
+    def test_a_full_table(self):
+        whole = "t has 1 rows, 20 records come before this one, and a table has at most 21 rows"
+        path = self.file("t.csv", "\n".join(["id", *map(str, range(100, 130))]) + "\n")
+        for block in (7, 9, 40, 1_000):
+            with self.subTest(block=block):
+                shell = self.shell(block, 21)
+                refused = f"error 43 table full (record 21); no row of {path} went in: {whole}"
+                self.do(shell, "table t (id int)", "insert t (7)", f".load t {path}", refused=refused)
+                self.assertEqual(shell.db.dump("t"), [(7,)])
+
     def test_ctrl_c_takes_back(self):
         shell = self.shell()
         self.do(shell, "table t (id int)", "insert t (7)")
@@ -448,7 +462,7 @@ class Loads(shells.InThisProcess):
                     held.on_interrupt(signal.SIGINT, None)
                 return super().read(count)
 
-        load = moving.Load(shell.db, table, held)
+        load = moving.Load(shell.db, table, held, is_strict=False)
         file = File(("id\n" + "".join(f"{at}\n" for at in range(100, 999))).encode())
         with self.assertRaises(KeyboardInterrupt):
             shell.transactions.whole("", lambda: load.run(file, 64))
@@ -547,6 +561,10 @@ class Dumps(shells.InThisProcess):
         path = str(self.room / "dump")
         self.do(shell, f".dump {path}")
         self.assertGreater(pathlib.Path(path).read_bytes().count(b"\nload e "), 3)
+        shell.db.save(self.room / "saved")
+        self.assertEqual((self.room / "saved").read_bytes(), pathlib.Path(path).read_bytes())
+        with mmdb.Database.restore(path) as restored:
+            self.assertEqual(self.held_by(restored), self.held_by(shell.db))
         again = self.shell(block=1 << 15)
         self.do(again, f".restore {path}")
         self.assertEqual(self.held_by(again.db), self.held_by(shell.db))
@@ -562,10 +580,10 @@ class Dumps(shells.InThisProcess):
         for content, why in (
             (b"", "is no dump"),
             (whole[20:], "is no dump"),
-            (whole[:9000], "error 13 block cut short"),
+            (whole[:9000], "the file is cut short, "),
             (whole[: whole.index(b"load e")], "is a part of a dump"),
-            (whole + b"tables\n", "goes on behind the end of the dump"),
-            (whole.replace(b"index u k hash", b"drop table u ", 1), "line 3 is no line of a dump"),
+            (whole + b"tables\n", "goes on after the end of the dump"),
+            (whole.replace(b"table v (k int)", b"drop table u ", 1), "line 3: this is no line of a dump"),
             (whole.replace(b"load e ", b"load f ", 1), "error 30 no such table: f is no table"),
         ):
             with self.subTest(why=why):

@@ -126,6 +126,22 @@ class Imports(shells.InThisProcess):
                     self.assertEqual(shell._err.getvalue(), "" if record is None else warning)
                     self.assertEqual(shell.db.execute("select * from t"), rows)
 
+    def test_odd_quotes_are_refused_by_bail(self):
+        refused = "record 2 of the CSV has a field with text behind its closing quote mark, which is read as a part of it (no row of the file went in)"
+        for lines, content, options in (
+            (["table t (id int, s text)", "insert t (7, 'a')"], 'id,s\n1,a\n2,"x"y\n', ""),
+            (["table t (id int, s text)", "insert t (7, 'a')"], 's,more,id\na,,1\n"x"y,,2\n', ""),
+            (["table t (id int, s text)"], '1;a\n2;"x"y\n', "--separator ';' --columns id,s"),
+            ([], 'id,s\n1,a\n2,"x"y\n', ""),
+        ):
+            with self.subTest(content=content, options=options):
+                shell = self.shell()
+                self.do(shell, *lines, ".bail on")
+                before = shell.db.answer("tables"), lines and shell.db.dump("t")
+                self.do(shell, f".import {self.file('f.csv', content)} t {options}", refused=refused)
+                self.assertEqual((shell.db.answer("tables"), lines and shell.db.dump("t")), before)
+                self.do(shell, f".import {self.file('f.csv', content.replace('y', ''))} t {options}")
+
     def test_odd_quotes_are_those_of_a_load(self):
         draw = random.Random(SEED)
         odd = 0

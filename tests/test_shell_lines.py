@@ -176,7 +176,7 @@ class Started(shells.Piped):
         dump = str(self.room / "dump")
         self.check_started([self.company, "-c", f".dump {dump}"], [])
         self.check(["select id from dept"], ["dept.id", "10"], said=["--restore", dump])
-        self.check([".tables"], [], [f"{self.company} is no dump: it doesn't begin with the line # mmdb dump"], said=["--restore", self.company])
+        self.check([".tables"], [], [f"{self.company} is no dump: it doesn't begin with the line # mmdb dump 1"], said=["--restore", self.company])
 
     def test_bail(self):
         bad = self.file("bad", "selct\n.print never\n")
@@ -218,7 +218,7 @@ class Started(shells.Piped):
         self.check(
             [*COMPANY, f".open {self.company}", ".tables"],
             ["dept", "emp"],
-            [f"line 7: {self.company} is no dump: it doesn't begin with the line # mmdb dump"],
+            [f"line 7: {self.company} is no dump: it doesn't begin with the line # mmdb dump 1"],
         )
 
     def test_changes(self):
@@ -324,7 +324,7 @@ class Typed(shells.AtATerminal):
             self.assertEqual(shell.end(), 0)
 
     def test_a_dump_and_a_file_that_bails(self):
-        dump = self.file("dump", "# mmdb dump\ntable t (id int)\nload t 5\nid\n7\n# end of the dump\n")
+        dump = self.file("dump", "# mmdb dump 1\ntable t (id int)\nload t 5\nid\n7\n# end of the dump: 1 tables, 1 rows\n")
         shell = self.typed("--restore", dump)
         self.assertIn("│    7 │\n", shell.ask("select * from t"))
         shell.ask(".bail on")

@@ -11,6 +11,7 @@ from support import shells
 from support.binding import mmdb
 from support.shells import COMPANY
 
+from mmdb import ranges as key_ranges
 from mmdb_shell import bars, boxes, modes, moving, reading, selecting
 
 SEED = 20261128
@@ -232,7 +233,7 @@ class ByRange(shells.InThisProcess):
 
     def test_the_rows_are_the_same(self):
         shell = self.filled(50)
-        with unittest.mock.patch.object(selecting, "LEAST", 10), unittest.mock.patch.object(moving, "_RANGE", 7):
+        with unittest.mock.patch.object(selecting, "LEAST", 10), unittest.mock.patch.object(key_ranges, "_RANGE", 7):
             for line in (
                 "select * from t",
                 " select s , id from t\t",
@@ -299,7 +300,8 @@ class AsRecords(shells.InThisProcess):
         for texts in (["a", "é,"], ["a", ""], ["", "\n", ",,", '"', "\n,\n"], ["a", "\n,", ",\n", "x,,y"]):
             shell = self.drawn(draw, texts)
             for line in self.LINES:
-                with self.subTest(texts=texts, line=line), unittest.mock.patch.multiple(moving, _RANGE=4, PIECE=16):
+                pieces = unittest.mock.patch.object(moving, "PIECE", 16)
+                with self.subTest(texts=texts, line=line), unittest.mock.patch.object(key_ranges, "_RANGE", 4), pieces:
                     rows = shell.db.execute(line)
                     expected = "".join(modes.MODES["csv"](rows.names, rows, look))
                     written = selecting.RowsAsRecords(shell.db, line.encode())
@@ -384,7 +386,7 @@ class LongWork(shells.AtATerminal):
         self.assertEqual(shell.ask(".count t"), "50000\n")
 
     def test_ctrl_c_ends_what_reads_and_writes(self):
-        dump = self.file("dump", "# mmdb dump\ntable t (id int)\n")
+        dump = self.file("dump", "# mmdb dump 1\ntable t (id int)\n")
         shell = self.typed()
         shell.ask("table t (id int)")
         rows = self.file("rows", "id\n" + "".join(f"{at}\n" for at in range(50_000)))

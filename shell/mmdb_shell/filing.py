@@ -3,7 +3,7 @@
 from __future__ import annotations
 
 from contextlib import contextmanager
-from typing import TYPE_CHECKING, Callable, Iterator, Optional
+from typing import TYPE_CHECKING, Callable, Iterator, List, Optional
 
 import mmdb
 
@@ -24,7 +24,7 @@ if TYPE_CHECKING:
 @dotted(".load TABLE FILE", "loads a CSV file, all rows or none")
 def _load(shell: Shell, name: str, path: str) -> None:
     table = table_of(shell.db, name)
-    load = moving.Load(shell.db, table, shell.interrupts)
+    load = moving.Load(shell.db, table, shell.interrupts, shell.bails)
     try:
         with opened(path, shell.interrupts) as file, told_of(path), shell.bar(size_of(file), "bytes") as bar:
             source = Read(file, bar)
@@ -33,9 +33,14 @@ def _load(shell: Shell, name: str, path: str) -> None:
         wanted = f"; its first record has to be {table.header.decode().strip()}" if why.number == 61 else ""
         raise Trouble(f"{moving.numbered(why)}{wanted}; no row of {path} went in", why.reason) from why
     finally:
-        for warning in load.warnings:
-            shell.tell(warning)
+        _warn(shell, load.odd)
     shell.note(f"{count} rows of {path} are in {name}")
+
+
+def _warn(shell: Shell, odd: List[str]) -> None:
+    """Tells what is odd in a file that is loaded nevertheless."""
+    for told in odd:
+        shell.tell(f"warning: {told}")
 
 
 @dotted(".save TABLE FILE", "writes a table to a CSV file")
@@ -66,8 +71,7 @@ def _import(shell: Shell, path: str, name: str, *options: str) -> None:
         with opened(path, shell.interrupts) as file, told_of(path), shell.bar(size_of(file), "bytes") as bar:
             count, left_out = work.run(file, path, bar)
     finally:
-        for warning in work.warnings:
-            shell.tell(warning)
+        _warn(shell, work.odd)
     shell.note(f"{count} rows of {path} are in {name}")
     if left_out:
         shell.note(f"{name} has no column for {', '.join(left_out)}")
@@ -96,7 +100,7 @@ def _read(shell: Shell, path: str) -> None:
 @dotted(".dump FILE", "writes the whole database to a file")
 def _dump(shell: Shell, path: str) -> None:
     with _new_file(shell, path, _all_rows(shell)) as file:
-        dumping.write(shell.db, shell.settings.block, file)
+        dumping.write(shell.db, file)
     shell.note(f"the database is in {path}")
 
 
@@ -120,7 +124,7 @@ def _open_dump(shell: Shell, path: str) -> None:
     with opened(path, shell.interrupts) as file:
 
         def fill(db: mmdb.Database, bar: Bar) -> None:
-            dumping.restore(Read(file, bar), path, shell.settings.block, db)
+            dumping.restore(Read(file, bar), path, db)
 
         _move(shell, shell.settings, fill, size_of(file))
     shell.note(f"the database is that of {path}")
@@ -134,7 +138,7 @@ def _policy(shell: Shell, name: str = "") -> None:
     if name not in mmdb.POLICIES:
         raise Trouble(f"a policy is one of {', '.join(mmdb.POLICIES)}")
     settings = shell.settings._replace(policy=name)
-    _move(shell, settings, lambda db, bar: dumping.copy(shell.db, settings.block, db, bar), _all_rows(shell))
+    _move(shell, settings, lambda db, bar: dumping.copy(shell.db, db, bar), _all_rows(shell))
     shell.note(f"the tables are in a new database, whose policy is {name}")
 
 

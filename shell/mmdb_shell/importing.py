@@ -15,7 +15,7 @@ from mmdb.quotes import BEHIND, OPEN, Odd
 
 from .bars import Bar, Read
 from .cutting import MARK
-from .moving import Load, Readable, answer, numbered, warning_of
+from .moving import Load, Readable, answer, numbered, refuse_odd, unnamed
 from .schema import Table, table_of, tables_of
 from .trouble import Trouble
 from .words import RESERVED
@@ -81,7 +81,7 @@ class Import:
         #: The columns of the file that the table has no place for.
         self._left: List[str] = []
         #: What is odd in the file, each in a sentence.
-        self.warnings: List[str] = []
+        self.odd: List[str] = []
 
     def run(self, file: BufferedReader, path: str, bar: Bar) -> Tuple[int, List[str]]:
         """Puts in the rows, and gives how many they are, and the columns of the file that the table has no place for.
@@ -102,19 +102,20 @@ class Import:
         try:
             count = self._put(table, _Pieces(table.header, parsed.records, len(names), order), path)
         finally:
-            self.warnings.extend(warning_of(odd.told()) for odd in parsed.odd[:1])
+            self.odd.extend(unnamed(odd.told()) for odd in parsed.odd[:1])
+        refuse_odd(self.odd, self._shell.bails)
         self._left = [name for at, name in enumerate(names) if at not in order and name != _LEFT_OUT]
         return count
 
     def _put(self, table: Table, file: Readable, path: str) -> int:
         """Loads what is in the form of a load."""
-        load = Load(self._shell.db, table, self._shell.interrupts)
+        load = Load(self._shell.db, table, self._shell.interrupts, self._shell.bails)
         try:
             return load.run(file, self._shell.settings.block)
         except mmdb.Refused as why:
             raise Trouble(f"{numbered(why)}; no row of {path} went in", why.reason) from why
         finally:
-            self.warnings.extend(load.warnings)
+            self.odd.extend(load.odd)
 
     def _parsed(self, file: BufferedReader, bar: Bar, is_looked_at: bool) -> Tuple[List[str], _Parsed]:
         """The names of the file's columns, and its records behind them."""

@@ -6,10 +6,11 @@ from itertools import islice
 from typing import TYPE_CHECKING, List
 
 import mmdb
+from mmdb.ranges import count_in, keys_in
 
 from . import helping
 from .dotted import dotted
-from .moving import all_keys, answer, count_in, keys_in
+from .moving import all_keys, answer
 from .schema import Table, table_of, tables_of
 from .selecting import count_of
 from .trouble import Trouble
@@ -94,7 +95,7 @@ def _first_rows(db: mmdb.Database, table: Table, most: int) -> mmdb.Rows:
     """The first rows of a table, without a look at the others: those up to the last of the first keys."""
     line = f"select * from {table.name}"
     if most and count_of(db, table.name) > most:
-        keys = keys_in(answer(db, all_keys(table)), table.key.kind)
+        keys = keys_in(answer(db, all_keys(table)), table.key.kind == "int")
         return db.select(f"{line} where {table.key.name} <= ?", next(islice(keys, most - 1, None)))
     return db.select(line)
 

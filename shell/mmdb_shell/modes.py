@@ -11,10 +11,10 @@ from itertools import chain, islice
 from typing import Callable, Dict, Iterable, Iterator, List, Sequence, Union
 
 import mmdb
+from mmdb.values import spelled
 
 from . import boxes
 from .boxes import Cells, Look
-from .moving import spelled
 from .selecting import RowsAsRecords, RowsByRange
 from .showing import Names, Rows, cell
 

@@ -8,9 +8,10 @@ from functools import cached_property
 from typing import Dict, Iterator, Optional, Sequence, Tuple, Union
 
 import mmdb
+from mmdb.ranges import count_in, ranges_in, record_behind, records_at
 
 from . import moving
-from .moving import all_keys, answer, count_in, ranges_in, record_behind, records_at
+from .moving import all_keys, answer
 from .schema import Column, Table, tables_of
 
 #: Some rows of a select: the records of a CSV, or rows whose values are still to be written.
@@ -97,7 +98,7 @@ class RowsByRange:
         keys = answer(db, all_keys(table))
         self._count = count_in(keys)
         #: The line of each range.
-        self._lines = [line + where for where in ranges_in(keys, table.key)]
+        self._lines = [line + where for where in ranges_in(keys, table.key.name, table.key.kind == "int")]
 
     def __len__(self) -> int:
         return self._count

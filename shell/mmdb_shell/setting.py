@@ -94,7 +94,7 @@ def _parameter(shell: Shell, what: str = "list", place: str = "", value: str = "
 
 # The switches: what each does when it is on, and where the shell keeps it.
 _SWITCHES = (
-    (".bail", "stops a script at the first refused line", "bails"),
+    (".bail", "stops a script at the first refused line; refuses CSV files with odd quotes", "bails"),
     (".changes", "shows how many rows each change affected", "tells_changes"),
     (".explain", "explains why a line is refused", "explains"),
     (".pager", "shows long answers with the command in $PAGER", "has_pager"),

@@ -21,6 +21,7 @@ from . import harness, shell_modules, tested
 
 from mmdb_shell import boxes, reading
 from mmdb_shell.shell import Settings, Shell
+from mmdb_shell.trouble import Bailed
 
 RUN = [sys.executable, str(shell_modules.FOLDER / "mmdb-shell")]
 WHERE = {"MMDB_LIBRARY": str(tested.library()), "PYTHONDONTWRITEBYTECODE": "1", "INPUTRC": "/dev/null", "TERM": "xterm", "PAGER": ""}
@@ -155,9 +156,9 @@ class AtATerminal(WithFolder):
 class InThisProcess(WithFolder):
     """A test with a shell whose blocks are small."""
 
-    def shell(self, block=64):
+    def shell(self, block=64, rows=Settings().rows):
         out, err = io.StringIO(), io.StringIO()
-        shell = Shell(Settings(block=block), out, err, boxes.look("utf-8"), False)
+        shell = Shell(Settings(rows=rows, block=block), out, err, boxes.look("utf-8"), False)
         self.addCleanup(lambda: shell.db.close())
         return shell
 
@@ -166,7 +167,8 @@ class InThisProcess(WithFolder):
         for stream in (shell._out, shell._err):
             stream.seek(0)
             stream.truncate()
-        shell.run(reading.Stream(io.BytesIO("".join(f"{line}\n" for line in lines).encode()), ""))
+        with contextlib.suppress(Bailed):
+            shell.run(reading.Stream(io.BytesIO("".join(f"{line}\n" for line in lines).encode()), ""))
         self.assertEqual(shell._err.getvalue().replace("mmdb-shell: ", ""), refused and f"line {len(lines)}: {refused}\n")
         if said is not None:
             self.assertEqual(shell._out.getvalue(), said)
