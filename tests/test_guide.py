@@ -42,7 +42,7 @@ class Snippets(unittest.TestCase):
     def test_each_has_what_it_prints(self):
         fences = re.findall(r"^```", GUIDE, re.MULTILINE)
         self.assertEqual(len(fences), 4 * len(snippets("sh", "python", "c", "rust")))
-        for language, count in (("sh", 12), ("python", 7), ("c", 1), ("rust", 1)):
+        for language, count in (("sh", 11), ("python", 7), ("c", 1), ("rust", 1)):
             self.assertEqual(len(snippets(language)), count, language)
 
     def test_shell_and_python(self):
