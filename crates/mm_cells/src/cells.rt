@@ -126,12 +126,12 @@ impl Cells {
         };
         self.cells.reserve(1)?;
         self.texts.extend_from_slice(text.as_bytes())?;
-        self.cells.push(Cell {
+        self.cells.push_reserved(Cell {
             integer: 0,
             at,
             length,
             kind: TEXT,
-        })?;
+        });
         Ok(())
     }
 
