@@ -7,3 +7,4 @@ pub mod Rising
 pub mod Room
 pub mod Searching
 pub mod Shape
+pub mod Warming

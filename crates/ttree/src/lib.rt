@@ -24,7 +24,9 @@ mod settle;
 mod shape;
 mod steps;
 mod tree;
+mod warming;
 
 pub use shape::{LEAST_ITEMS, MOST_ITEMS, TableTree, TreeShape, table_tree_shape};
 pub use tree::TTree;
 pub use ttree_node::{Look, Walk};
+pub use warming::{ABREAST, Leading};

@@ -35,13 +35,13 @@ struct Below {
     right: Option<TupleRef>,
 }
 
-// Reads the least items of both children, or nothing.
+// Reads the least items of both children in a tall tree, and else nothing.
 #[inline]
-fn read_below<const MAX: usize>(look: &Look<'_, MAX>, is_tall: bool) -> Below
+fn read_below<const MAX: usize, const IS_TALL: bool>(look: &Look<'_, MAX>) -> Below
     ensures left { IfSome result.left (λ r. slice_get (items_of (left_of (position look.now).here)) 0 ≡ Some r) }
     ensures right { IfSome result.right (λ r. slice_get (items_of (right_of (position look.now).here)) 0 ≡ Some r) }
 {
-    if !is_tall {
+    if !IS_TALL {
         return Below {
             left: None,
             right: None,
@@ -65,6 +65,57 @@ fn least_here<const MAX: usize>(look: &Look<'_, MAX>, read: Option<TupleRef>) ->
 }
 
 // Goes down from the root: to the left where the least item stands above the range, and to the right where it stands below.
+fn descend_in<'a, P: Probe, const MAX: usize, const IS_TALL: bool>(
+    look: &mut Look<'a, MAX>,
+    probe: &mut P,
+    seek: Seek,
+) -> Descent<'a, MAX>
+    requires root { is_root (position look.old).above ≡ true }
+    requires node { is_node (position look.old).here ≡ true }
+    requires some { HasItemsInEach MAX (whole (position look.old)) }
+    requires sound { P.is_sound probe.old }
+    requires placed { All (P.can_place probe.old) (list (whole (position look.old))) }
+    requires in_order { NeverFalls (λ r. taken seek (P.place probe.old r)) (list (whole (position look.old))) }
+    ensures nodes { look.new.nodes ≡ look.old.nodes }
+    ensures node { is_node (position look.new).here ≡ true }
+    ensures whole { whole (position look.new) ≡ whole (position look.old) }
+    ensures end { IsDescent (λ r. taken seek (P.place probe.old r)) look.new result }
+    ensures probe { IsAskedAtMost (height (whole (position look.old))) P.is_sound P.can_place P.place P.asked probe.old probe.new }
+    ensures asks { counted (P.asked probe.old) ≤ P.asked probe.new }
+{
+    let mut here = *look;
+    let mut last = None;
+    let mut known = None;
+    loop {
+        let item = least_here(&here, known);
+        let below = read_below::<MAX, IS_TALL>(&here);
+        match ask(probe, item, seek) {
+            Ordering::Equal => {
+                *look = here;
+                return Descent::Hit;
+            }
+            Ordering::Greater => {
+                if !here.has_left() {
+                    *look = here;
+                    return Descent::End(last);
+                }
+                here.down_left();
+                known = below.left;
+            }
+            Ordering::Less => {
+                last = Some(here);
+                if !here.has_right() {
+                    *look = here;
+                    return Descent::End(last);
+                }
+                here.down_right();
+                known = below.right;
+            }
+        }
+    }
+}
+
+// The same, as is best for a tree of its height.
 fn descend<'a, P: Probe, const MAX: usize>(
     look: &mut Look<'a, MAX>,
     probe: &mut P,
@@ -83,30 +134,10 @@ fn descend<'a, P: Probe, const MAX: usize>(
     ensures probe { IsAskedAtMost (height (whole (position look.old))) P.is_sound P.can_place P.place P.asked probe.old probe.new }
     ensures asks { counted (P.asked probe.old) ≤ P.asked probe.new }
 {
-    let is_tall = look.height() >= TALL;
-    let mut last = None;
-    let mut known = None;
-    loop {
-        let item = least_here(look, known);
-        let below = read_below(look, is_tall);
-        match ask(probe, item, seek) {
-            Ordering::Equal => return Descent::Hit,
-            Ordering::Greater => {
-                if !look.has_left() {
-                    return Descent::End(last);
-                }
-                look.down_left();
-                known = below.left;
-            }
-            Ordering::Less => {
-                last = Some(*look);
-                if !look.has_right() {
-                    return Descent::End(last);
-                }
-                look.down_right();
-                known = below.right;
-            }
-        }
+    if look.height() >= TALL {
+        descend_in::<P, MAX, true>(look, probe, seek)
+    } else {
+        descend_in::<P, MAX, false>(look, probe, seek)
     }
 }
 

@@ -3,7 +3,7 @@
 use no_memory::NoMemory;
 use part_raw::TupleRef;
 use std::alloc::Global;
-use ttree::{TableTree, TreeShape};
+use ttree::{ABREAST, Leading, TableTree, TreeShape};
 
 // How many references, and how high a tree of how many nodes holds them.
 const SIZES: [TreeShape; 8] = [
@@ -75,5 +75,41 @@ fn is_built(alloc: Global, wanted: TreeShape) -> Result<bool, NoMemory> {
 fn trees_are_built_of_so_many_references(rt: HostRuntime) {
     for wanted in SIZES {
         assert_eq!(rt; is_built(rt.alloc(), wanted), Ok(true));
+    }
+}
+
+// References begin with their numbers.
+struct Numbers;
+
+impl Leading for Numbers {
+    ghost can_read = { λ _ _. Unit {0} };
+
+    fn number(&self, r: TupleRef) -> i64 {
+        i64::from(r.number)
+    }
+}
+
+// Sixteen numbers that a tree of every third number below 3,000 has.
+const HELD: [i64; ABREAST] = [
+    0, 186, 372, 558, 744, 930, 1_116, 1_302, 1_488, 1_674, 1_860, 2_046, 2_232, 2_418, 2_604,
+    2_790,
+];
+
+// How many searches side by side find such numbers in that tree.
+fn found(alloc: Global, sought: &[i64]) -> Result<usize, NoMemory> {
+    let refs = rising_refs(alloc, 1_000)?;
+    if refs.len() > 1_000 {
+        return Ok(0);
+    }
+    let tree = TableTree::from_slice(alloc, refs.as_slice())?;
+    Ok(tree.warm(&Numbers, sought))
+}
+
+#[test]
+fn searches_side_by_side_find_what_is_held(rt: HostRuntime) {
+    assert_eq!(rt; found(rt.alloc(), &HELD), Ok(16));
+    assert_eq!(rt; found(rt.alloc(), &[2_997; ABREAST]), Ok(16));
+    for absent in [-1, 1, 2_791, 3_000] {
+        assert_eq!(rt; found(rt.alloc(), &[absent; ABREAST]), Ok(0));
     }
 }

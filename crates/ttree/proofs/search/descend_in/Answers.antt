@@ -8,20 +8,20 @@ use Rattle.ttree_node.specs.Tree.{Tree, Zipper, Label, whole, left_of, right_of,
 use Rattle.ttree_node.specs.Look.{position}
 use Rattle.ttree.specs.Searching.{taken, IsCut}
 use Rattle.ttree.proofs.Descent.{left_lower, right_lower, left_here, right_here, some_node, some_here, least_is, All-here, NeverFalls-here, IsAhead, IsLast, ahead-left, ahead-right, first-left, last-left, last-right, end-first, end-above, end-next, end-here, least-below, if_none, is_descent}
-use Rattle.ttree.proofs.search.descend.Goals as goal
+use Rattle.ttree.proofs.search.descend_in.Goals as goal
 
 abbrev none : TupleRef
 none = record { number = 0 }
 
 pub least_here-item-requires : goal.least_here-item-requires
 least_here-item-requires g c =
-    let kept = c.loop-look.invariant in
-    (lit< tt, (some_here g.row.MAX (whole (position c.args.look.now)) (position c.loop-look.look) kept.ahead.same c.requires.some kept.node, kept.known))
+    let kept = c.loop-here.invariant in
+    (lit< tt, (some_here g.row.MAX (whole (position c.args.look.now)) (position c.loop-here.here) kept.ahead.same c.requires.some kept.node, kept.known))
 
 pub ask-requires-clause-may_ask : goal.ask-requires-clause-may_ask
 ask-requires-clause-may_ask g c =
-    let z : Zipper (Label TupleRef) = position c.loop-look.look in
-    let kept = c.loop-look.invariant in
+    let z : Zipper (Label TupleRef) = position c.loop-here.here in
+    let kept = c.loop-here.invariant in
     let some : 0 < length (items_of z.here) = some_here g.row.MAX (whole (position c.args.look.now)) z kept.ahead.same c.requires.some kept.node in
     let held : All (g.P.Probe.can_place c.args.probe.now) (items_of z.here) =
     All-here g.row.MAX (whole (position c.args.look.now)) z kept.ahead.same (g.P.Probe.can_place c.args.probe.now) c.requires.placed in
@@ -30,8 +30,8 @@ ask-requires-clause-may_ask g c =
 pub returns-in-Equal-clause-end : goal.returns-in-Equal-clause-end
 returns-in-Equal-clause-end g c =
     let f : TupleRef → Ordering = λ r. taken c.args.seek (g.P.Probe.place c.args.probe.now r) in
-    let z : Zipper (Label TupleRef) = position c.loop-look.look in
-    let kept = c.loop-look.invariant in
+    let z : Zipper (Label TupleRef) = position c.loop-here.here in
+    let kept = c.loop-here.invariant in
     let some : 0 < length (items_of z.here) = some_here g.row.MAX (whole (position c.args.look.now)) z kept.ahead.same c.requires.some kept.node in
     let least : f (get_or (items_of z.here) 0 none) ≡ Equal = ap f (least_is (items_of z.here) c.least_here-item.result none c.least_here-item.ensures) ∙ sym (rw kept.only.answers at c.in-Equal.ensures.value) in
     record { index = some; equal = λ d. ap f (get_or_default (items_of z.here) 0 d none some) ∙ least }
@@ -40,14 +40,14 @@ pub returns-then-not-has_left-clause-end : goal.returns-then-not-has_left-clause
 returns-then-not-has_left-clause-end g c =
     let f : TupleRef → Ordering = λ r. taken c.args.seek (g.P.Probe.place c.args.probe.now r) in
     let t : Tree (Label TupleRef) = whole (position c.args.look.now) in
-    let z : Zipper (Label TupleRef) = position c.loop-look.look in
-    let kept = c.loop-look.invariant in
+    let z : Zipper (Label TupleRef) = position c.loop-here.here in
+    let kept = c.loop-here.invariant in
     let some : 0 < length (items_of z.here) = some_here g.row.MAX t z kept.ahead.same c.requires.some kept.node in
     let least : f (get_or (items_of z.here) 0 none) ≡ Greater = ap f (least_is (items_of z.here) c.least_here-item.result none c.least_here-item.ensures) ∙ sym (rw kept.only.answers at c.in-Greater.ensures.value) in
     let alone : has_left z.here ≡ false = sym c.has_left.ensures ∙ c.if-not-has_left.true in
-    is_descent f c.loop-look.look c.loop-look.last
-    (if_none c.loop-look.last _ _ (end-first f t c.requires.in_order z none some kept.ahead.same least alone) kept.first)
-    (IfSome_then c.loop-look.last kept.behind (λ r b. record {
+    is_descent f c.loop-here.here c.loop-here.last
+    (if_none c.loop-here.last _ _ (end-first f t c.requires.in_order z none some kept.ahead.same least alone) kept.first)
+    (IfSome_then c.loop-here.last kept.behind (λ r b. record {
       nodes = b.0 ∙ sym kept.nodes;
       node = some_node (position r).here b.1.cut.ordered;
       whole = b.1.same ∙ sym kept.ahead.same;
@@ -56,12 +56,12 @@ returns-then-not-has_left-clause-end g c =
       next = λ _. end-next f t c.requires.in_order z none some kept.ahead.same least alone (position r) b.1;
     }))
 
-pub loop-look-preserved-in-Greater : goal.loop-look-preserved-in-Greater
-loop-look-preserved-in-Greater g c =
+pub loop-here-preserved-in-Greater : goal.loop-here-preserved-in-Greater
+loop-here-preserved-in-Greater g c =
     let f : TupleRef → Ordering = λ r. taken c.args.seek (g.P.Probe.place c.args.probe.now r) in
     let t : Tree (Label TupleRef) = whole (position c.args.look.now) in
-    let z : Zipper (Label TupleRef) = position c.loop-look.look in
-    let kept = c.loop-look.invariant in
+    let z : Zipper (Label TupleRef) = position c.loop-here.here in
+    let kept = c.loop-here.invariant in
     let some : 0 < length (items_of z.here) = some_here g.row.MAX t z kept.ahead.same c.requires.some kept.node in
     let least : f (get_or (items_of z.here) 0 none) ≡ Greater = ap f (least_is (items_of z.here) c.least_here-item.result none c.least_here-item.ensures) ∙ sym (rw kept.only.answers at c.in-Greater.ensures.value) in
     let child : has_left z.here ≡ true = sym c.has_left.ensures ∙ c.if-not-has_left.false in
@@ -69,8 +69,8 @@ loop-look-preserved-in-Greater g c =
     let here : (position c.down_left.new.self).here ≡ left_of z.here = (λ i. (moved i).here) ∙ left_here z in
     let low : height (position c.down_left.new.self).here ≡ height (left_of z.here) = ap (λ (u : Tree (Label TupleRef)). height u) here in record {
       ahead = subst (λ (y : Zipper (Label TupleRef)). IsAhead f t y) (sym moved) (ahead-left f t c.requires.in_order z none some kept.ahead least child);
-      first = if_none c.loop-look.last _ _ (λ h. (λ i. list_before (moved i).above) ∙ first-left z h) kept.first;
-      behind = IfSome_then c.loop-look.last kept.behind (λ r b. (b.0, subst (λ (y : Zipper (Label TupleRef)). IsLast f t y (position r)) (sym moved) (last-left f t z (position r) b.1)));
+      first = if_none c.loop-here.last _ _ (λ h. (λ i. list_before (moved i).above) ∙ first-left z h) kept.first;
+      behind = IfSome_then c.loop-here.last kept.behind (λ r b. (b.0, subst (λ (y : Zipper (Label TupleRef)). IsLast f t y (position r)) (sym moved) (last-left f t z (position r) b.1)));
       node = ap (λ (u : Tree (Label TupleRef)). is_node u) here ∙ child;
       known = IfSome_then c.read_below-below.result.left c.read_below-below.ensures.left (λ r e. ap (λ (u : Tree (Label TupleRef)). slice_get (items_of u) 0) here ∙ e);
       only = IsOnlyAsked-trans _ _ _ _ _ _ _ kept.only c.ask.ensures.probe.only;
@@ -82,8 +82,8 @@ pub returns-then-not-has_right-clause-end : goal.returns-then-not-has_right-clau
 returns-then-not-has_right-clause-end g c =
     let f : TupleRef → Ordering = λ r. taken c.args.seek (g.P.Probe.place c.args.probe.now r) in
     let t : Tree (Label TupleRef) = whole (position c.args.look.now) in
-    let z : Zipper (Label TupleRef) = position c.loop-look.look in
-    let kept = c.loop-look.invariant in
+    let z : Zipper (Label TupleRef) = position c.loop-here.here in
+    let kept = c.loop-here.invariant in
     let some : 0 < length (items_of z.here) = some_here g.row.MAX t z kept.ahead.same c.requires.some kept.node in
     let least : f (get_or (items_of z.here) 0 none) ≡ Less = ap f (least_is (items_of z.here) c.least_here-item.result none c.least_here-item.ensures) ∙ sym (rw kept.only.answers at c.in-Less.ensures.value) in
     let alone : has_right z.here ≡ false = sym c.has_right.ensures ∙ c.if-not-has_right.true in record {
@@ -95,12 +95,12 @@ returns-then-not-has_right-clause-end g c =
       next = λ h. absurd (cc);
     }
 
-pub loop-look-preserved : goal.loop-look-preserved
-loop-look-preserved g c =
+pub loop-here-preserved : goal.loop-here-preserved
+loop-here-preserved g c =
     let f : TupleRef → Ordering = λ r. taken c.args.seek (g.P.Probe.place c.args.probe.now r) in
     let t : Tree (Label TupleRef) = whole (position c.args.look.now) in
-    let z : Zipper (Label TupleRef) = position c.loop-look.look in
-    let kept = c.loop-look.invariant in
+    let z : Zipper (Label TupleRef) = position c.loop-here.here in
+    let kept = c.loop-here.invariant in
     let some : 0 < length (items_of z.here) = some_here g.row.MAX t z kept.ahead.same c.requires.some kept.node in
     let least : f (get_or (items_of z.here) 0 none) ≡ Less = ap f (least_is (items_of z.here) c.least_here-item.result none c.least_here-item.ensures) ∙ sym (rw kept.only.answers at c.in-Less.ensures.value) in
     let child : has_right z.here ≡ true = sym c.has_right.ensures ∙ c.if-not-has_right.false in

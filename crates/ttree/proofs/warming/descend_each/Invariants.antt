@@ -1,0 +1,8 @@
+use Rattle.std.proofs.Common.{All}
+use Rattle.ttree_node.specs.Tree.{whole}
+use Rattle.ttree_node.specs.Look.{position}
+use Rattle.ttree.specs.Warming.{IsWay}
+use Rattle.ttree.proofs.warming.descend_each.Given as goal
+
+abbrev pub invariant-loop : goal.invariant-loop
+invariant-loop g l = All (IsWay (whole (position l.root))) l.ways
