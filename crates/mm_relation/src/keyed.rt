@@ -13,7 +13,7 @@ ghost use Rattle.mm_relation.specs.Indexes.{seen, KeepRoom, Cover};
 use crate::index::IndexOn;
 use crate::indexes::cover;
 use crate::order::KeyOrder;
-use crate::probe::KeyProbe;
+use crate::probe::KeySearch;
 use crate::refusal::RowRefusal;
 use crate::rows::Rows;
 use crate::stored_cell::StoredCell;
@@ -59,10 +59,9 @@ pub fn put_row(
         return Err(RowRefusal::NoMemory);
     }
     let sought = rows.key(r).sought();
-    let mut probe = KeyProbe {
+    let mut probe = KeySearch {
         rows,
         sought: &sought,
-        asked: 0,
     };
     if by_key.insert_from_end(&mut probe, r).is_some() {
         rows.remove(r);
@@ -117,10 +116,9 @@ pub fn show_row(rows: &mut Rows, by_key: &mut Tree, r: TupleRef)
     rows.hidden_are_apart();
     rows.show(r);
     let sought = rows.key(r).sought();
-    let mut probe = KeyProbe {
+    let mut probe = KeySearch {
         rows,
         sought: &sought,
-        asked: 0,
     };
     by_key.insert_from_end(&mut probe, r);
 }

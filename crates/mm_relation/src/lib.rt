@@ -44,6 +44,7 @@ mod stored_cell;
 mod taken;
 mod tree;
 mod view;
+mod warming;
 
 pub use in_key_order::LEAST_IN_ORDER;
 pub use lin_hash::{HashShape, RowChain};

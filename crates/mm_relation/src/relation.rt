@@ -9,7 +9,7 @@ use crate::indexes::{hash_on, is_declared, reserve, tree_on};
 use crate::laws::a_relation_is_kept;
 use crate::numbers::DeclaredIndex;
 use crate::parts::{displace, make_room, place, settle_indexes};
-use crate::probe::KeyProbe;
+use crate::probe::{KeyProbe, KeySearch};
 use crate::referring::{count_down, count_up};
 use crate::refusal::RowRefusal;
 use crate::relations::{Links, Relations};
@@ -307,12 +307,27 @@ impl Relation {
         }
     }
 
+    // A probe for the row with this key, which doesn't count the rows whose keys it compares.
+    fn key_search<'a>(&'a self, key: &'a SoughtValue<'a>) -> KeySearch<'a>
+        ensures rows { result.rows.now.tuples ≡ self.now.rows }
+        ensures sought { result.sought.now ≡ key.now }
+        ensures placed { All (λ r. IsSome (value_at no_keys 0 result.rows.now.tuples r)) (tree_list self.now.by_key) }
+        ensures in_order { NeverFalls (λ r. option_cmp value_cmp (value_at no_keys 0 result.rows.now.tuples r) (Some result.sought.now)) (tree_list self.now.by_key) }
+    {
+        KeySearch {
+            rows: &self.rows,
+            sought: key,
+        }
+    }
+
     /// The row with this key.
     pub fn find_key(&self, key: &SoughtValue<'_>) -> Option<TupleRef>
         ensures found { IfSome result (λ r. key_at self.now.rows r ≡ Some key.now) }
         ensures none { IfNone result ((r : TupleRef) → key_at self.now.rows r ≢ Some key.now) }
     {
-        self.find_key_counted(key).0
+        a_relation_is_kept(self);
+        let mut search = self.key_search(key);
+        self.find(&mut search)
     }
 
     /// The row with this key, and how many rows' keys were compared with it.
