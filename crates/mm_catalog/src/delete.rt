@@ -27,7 +27,8 @@ fn remove_each(before: &mut [Relation], relation: &mut Relation, rows: &[TupleRe
     ensures current { IsCurrent (linked_keys relation.old.targets before.old) relation.new }
 {
     a_relation_is_kept(relation);
-    for r in rows {
+    for (place, r) in rows.iter().enumerate() {
+        relation.warm(rows, place);
         count_down_links(before, relation, *r);
         relation.remove_row(&Before { relations: before }, *r);
         a_relation_is_kept(relation);

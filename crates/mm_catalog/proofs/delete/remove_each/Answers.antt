@@ -10,8 +10,8 @@ use Rattle.mm_catalog.specs.Counted.{LeadIntoCounted}
 use Rattle.mm_catalog.proofs.Counted.{all_held_still}
 use Rattle.mm_catalog.proofs.delete.remove_each.Goals as goal
 
-pub loop-r-init : goal.loop-r-init
-loop-r-init c = record {
+pub loop-place-init : goal.loop-place-init
+loop-place-init c = record {
   unlinked = AreUnlinked-none c.args.before.now c.args.relation.now c.requires.stands.kept;
   removed = AreRemoved-none c.args.relation.now;
   aside = record { hidden = refl; owed = refl };
@@ -21,63 +21,63 @@ loop-r-init c = record {
 
 pub count_down_links-requires-clause-held : goal.count_down_links-requires-clause-held
 count_down_links-requires-clause-held c =
-    let i = c.loop-r.r-index in
+    let i = c.loop-place.place in
     let r = get_or c.args.rows.now i (record { number = 0 }) in
-    subst IsSome (sym (still_there c.args.relation.now c.loop-r.relation c.args.rows.now i r c.loop-r-test.true (get_or_default c.args.rows.now i r (record { number = 0 }) c.loop-r-test.true) c.requires.once c.loop-r.invariant.removed))
-    (c.requires.held i (record { number = 0 }) c.loop-r-test.true)
+    subst IsSome (sym (still_there c.args.relation.now c.loop-place.relation c.args.rows.now i r c.loop-place-test.true (get_or_default c.args.rows.now i r (record { number = 0 }) c.loop-place-test.true) c.requires.once c.loop-place.invariant.removed))
+    (c.requires.held i (record { number = 0 }) c.loop-place-test.true)
 
 pub count_down_links-requires-clause-named : goal.count_down_links-requires-clause-named
 count_down_links-requires-clause-named c row at =
-    let r = get_or c.args.rows.now c.loop-r.r-index (record { number = 0 }) in
-    let current : IsCurrent (linked_keys c.loop-r.relation.targets c.args.before.now) c.loop-r.relation =
-    subst (λ targets. IsCurrent (linked_keys targets c.args.before.now) c.loop-r.relation) (sym c.loop-r.invariant.removed.keeps.targets) c.loop-r.invariant.current in
-    let counted : LeadIntoCounted c.args.before.now c.loop-r.relation.targets = subst (LeadIntoCounted c.args.before.now) (sym c.loop-r.invariant.removed.keeps.targets) c.requires.stands.counted in
-    all_held_still c.args.before.now c.loop-r.before (row_links c.loop-r.relation.targets row) c.loop-r.invariant.unlinked.counted.recounted
-    (links_held c.args.before.now c.loop-r.relation r row current counted at)
+    let r = get_or c.args.rows.now c.loop-place.place (record { number = 0 }) in
+    let current : IsCurrent (linked_keys c.loop-place.relation.targets c.args.before.now) c.loop-place.relation =
+    subst (λ targets. IsCurrent (linked_keys targets c.args.before.now) c.loop-place.relation) (sym c.loop-place.invariant.removed.keeps.targets) c.loop-place.invariant.current in
+    let counted : LeadIntoCounted c.args.before.now c.loop-place.relation.targets = subst (LeadIntoCounted c.args.before.now) (sym c.loop-place.invariant.removed.keeps.targets) c.requires.stands.counted in
+    all_held_still c.args.before.now c.loop-place.before (row_links c.loop-place.relation.targets row) c.loop-place.invariant.unlinked.counted.recounted
+    (links_held c.args.before.now c.loop-place.relation r row current counted at)
 
 pub count_down_links-requires-clause-enough : goal.count_down_links-requires-clause-enough
 count_down_links-requires-clause-enough c row at =
-    let r = get_or c.args.rows.now c.loop-r.r-index (record { number = 0 }) in
-    enough_for_row c.args.before.now c.loop-r.before c.args.relation.now c.loop-r.relation r row c.requires.stands.enough c.loop-r.invariant.unlinked c.loop-r.invariant.kept at
+    let r = get_or c.args.rows.now c.loop-place.place (record { number = 0 }) in
+    enough_for_row c.args.before.now c.loop-place.before c.args.relation.now c.loop-place.relation r row c.requires.stands.enough c.loop-place.invariant.unlinked c.loop-place.invariant.kept at
 
 pub remove_row-requires-clause-held : goal.remove_row-requires-clause-held
 remove_row-requires-clause-held c =
-    let i = c.loop-r.r-index in
+    let i = c.loop-place.place in
     let r = get_or c.args.rows.now i (record { number = 0 }) in
-    subst IsSome (sym (still_there c.args.relation.now c.loop-r.relation c.args.rows.now i r c.loop-r-test.true (get_or_default c.args.rows.now i r (record { number = 0 }) c.loop-r-test.true) c.requires.once c.loop-r.invariant.removed))
-    (c.requires.held i (record { number = 0 }) c.loop-r-test.true)
+    subst IsSome (sym (still_there c.args.relation.now c.loop-place.relation c.args.rows.now i r c.loop-place-test.true (get_or_default c.args.rows.now i r (record { number = 0 }) c.loop-place-test.true) c.requires.once c.loop-place.invariant.removed))
+    (c.requires.held i (record { number = 0 }) c.loop-place-test.true)
 
 pub remove_row-requires-clause-current : goal.remove_row-requires-clause-current
 remove_row-requires-clause-current c =
-    let i = c.loop-r.r-index in
+    let i = c.loop-place.place in
     let r = get_or c.args.rows.now i (record { number = 0 }) in
-    let held : IsSome (finite.get c.loop-r.relation.rows r) =
-    subst IsSome (sym (still_there c.args.relation.now c.loop-r.relation c.args.rows.now i r c.loop-r-test.true (get_or_default c.args.rows.now i r (record { number = 0 }) c.loop-r-test.true) c.requires.once c.loop-r.invariant.removed))
-    (c.requires.held i (record { number = 0 }) c.loop-r-test.true) in
-    let row = held_tuple c.loop-r.relation.rows r held in
-    subst (λ keys. IsCurrent keys c.loop-r.relation)
-    (sym (keys_still c.args.relation.now c.loop-r.relation c.args.before.now c.loop-r.before c.count_down_links.new.before c.loop-r.invariant.removed.keeps.targets c.loop-r.invariant.unlinked.counted.recounted (c.count_down_links.ensures row.0 row.1).recounted))
-    c.loop-r.invariant.current
+    let held : IsSome (finite.get c.loop-place.relation.rows r) =
+    subst IsSome (sym (still_there c.args.relation.now c.loop-place.relation c.args.rows.now i r c.loop-place-test.true (get_or_default c.args.rows.now i r (record { number = 0 }) c.loop-place-test.true) c.requires.once c.loop-place.invariant.removed))
+    (c.requires.held i (record { number = 0 }) c.loop-place-test.true) in
+    let row = held_tuple c.loop-place.relation.rows r held in
+    subst (λ keys. IsCurrent keys c.loop-place.relation)
+    (sym (keys_still c.args.relation.now c.loop-place.relation c.args.before.now c.loop-place.before c.count_down_links.new.before c.loop-place.invariant.removed.keeps.targets c.loop-place.invariant.unlinked.counted.recounted (c.count_down_links.ensures row.0 row.1).recounted))
+    c.loop-place.invariant.current
 
-pub loop-r-preserved : goal.loop-r-preserved
-loop-r-preserved c =
-    let i = c.loop-r.r-index in
+pub loop-place-preserved : goal.loop-place-preserved
+loop-place-preserved c =
+    let i = c.loop-place.place in
     let r = get_or c.args.rows.now i (record { number = 0 }) in
-    let itself = get_or_default c.args.rows.now i r (record { number = 0 }) c.loop-r-test.true in
-    let held : IsSome (finite.get c.loop-r.relation.rows r) =
-    subst IsSome (sym (still_there c.args.relation.now c.loop-r.relation c.args.rows.now i r c.loop-r-test.true itself c.requires.once c.loop-r.invariant.removed))
-    (c.requires.held i (record { number = 0 }) c.loop-r-test.true) in
-    let row = held_tuple c.loop-r.relation.rows r held in
+    let itself = get_or_default c.args.rows.now i r (record { number = 0 }) c.loop-place-test.true in
+    let held : IsSome (finite.get c.loop-place.relation.rows r) =
+    subst IsSome (sym (still_there c.args.relation.now c.loop-place.relation c.args.rows.now i r c.loop-place-test.true itself c.requires.once c.loop-place.invariant.removed))
+    (c.requires.held i (record { number = 0 }) c.loop-place-test.true) in
+    let row = held_tuple c.loop-place.relation.rows r held in
     let counted = c.count_down_links.ensures row.0 row.1 in
     let keeps = c.remove_row.ensures.removed.keeps in
-    let gone = row_gone c.loop-r.relation c.remove_row.new.self r c.remove_row.ensures.removed in
+    let gone = row_gone c.loop-place.relation c.remove_row.new.self r c.remove_row.ensures.removed in
     record {
-      unlinked = AreUnlinked-more c.args.before.now c.loop-r.before c.count_down_links.new.before c.args.relation.now c.loop-r.relation c.remove_row.new.self r row.0
-          c.loop-r.invariant.kept c.a_relation_is_kept-in-loop-r.ensures row.1 gone c.loop-r.invariant.unlinked counted;
-      removed = AreRemoved-more c.args.relation.now c.loop-r.relation c.remove_row.new.self c.args.rows.now i r c.loop-r-test.true itself c.loop-r.invariant.removed gone;
-      aside = record { hidden = keeps.hidden ∙ c.loop-r.invariant.aside.hidden; owed = keeps.owed ∙ c.loop-r.invariant.aside.owed };
-      kept = c.a_relation_is_kept-in-loop-r.ensures;
+      unlinked = AreUnlinked-more c.args.before.now c.loop-place.before c.count_down_links.new.before c.args.relation.now c.loop-place.relation c.remove_row.new.self r row.0
+          c.loop-place.invariant.kept c.a_relation_is_kept-in-loop-place.ensures row.1 gone c.loop-place.invariant.unlinked counted;
+      removed = AreRemoved-more c.args.relation.now c.loop-place.relation c.remove_row.new.self c.args.rows.now i r c.loop-place-test.true itself c.loop-place.invariant.removed gone;
+      aside = record { hidden = keeps.hidden ∙ c.loop-place.invariant.aside.hidden; owed = keeps.owed ∙ c.loop-place.invariant.aside.owed };
+      kept = c.a_relation_is_kept-in-loop-place.ensures;
       current = subst (λ keys. IsCurrent keys c.remove_row.new.self)
-          (keys_still c.args.relation.now c.loop-r.relation c.args.before.now c.loop-r.before c.count_down_links.new.before c.loop-r.invariant.removed.keeps.targets c.loop-r.invariant.unlinked.counted.recounted counted.recounted)
+          (keys_still c.args.relation.now c.loop-place.relation c.args.before.now c.loop-place.before c.count_down_links.new.before c.loop-place.invariant.removed.keeps.targets c.loop-place.invariant.unlinked.counted.recounted counted.recounted)
           c.remove_row.ensures.current;
     }

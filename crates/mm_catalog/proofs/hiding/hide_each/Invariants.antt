@@ -5,12 +5,12 @@ use Rattle.mm_catalog.specs.Deleted.{AreRemoved, AreUnlinked}
 use Rattle.mm_catalog.specs.Hidden.{AreHidden}
 use Rattle.mm_catalog.proofs.hiding.hide_each.Given as goal
 
-abbrev pub invariant-loop-r : goal.invariant-loop-r
-invariant-loop-r l = record {
+abbrev pub invariant-loop-place : goal.invariant-loop-place
+invariant-loop-place l = record {
   unlinked : AreUnlinked l.initial.before l.before l.initial.relation l.relation;
-  removed : AreRemoved l.initial.relation l.relation (take l.r-index l.rows);
-  hidden : AreHidden l.initial.relation l.relation (take l.r-index l.rows);
-  few : finite.len l.relation.hidden + (length l.rows - l.r-index) ≤ l.relation.owed;
+  removed : AreRemoved l.initial.relation l.relation (take l.place l.rows);
+  hidden : AreHidden l.initial.relation l.relation (take l.place l.rows);
+  few : finite.len l.relation.hidden + (length l.rows - l.place) ≤ l.relation.owed;
   owed : l.relation.owed ≡ l.initial.relation.owed;
   kept : IsKept l.relation;
   current : IsCurrent (linked_keys l.initial.relation.targets l.initial.before) l.relation;
