@@ -1,17 +1,16 @@
 -- Rows that pass, in the order of their keys.
-use Rattle.std.proofs.Common.{◌≡◌, ◌∙◌, ◌<◌, ◌+◌, false, List, IsSome, get_or, length, ap, arith, Ordering}
+use Rattle.std.proofs.Common.{◌≡◌, ◌∙◌, ◌+◌, false, List, IsSome, get_or, ap, arith, Ordering}
 use Rattle.std.specs.List.{AllPairs}
 use Rattle.std.specs.List.Sorted.{IsPermutation, IsSorted}
 use Rattle.std.specs.FinMap as finite
 use Rattle.std.specs.Cmp.Lexicographic.{options_total}
-use Rattle.std.specs.Option.{option_cmp}
 use Rattle.std.specs.Ordering.{is_lt, ordering_reverse, ordering_then}
 use Rattle.std.specs.declared.cmp.Ordering.TheVariants.{Less, Equal, Greater}
 use Rattle.std.proofs.lemmas.Cmp.{on_total}
 use Rattle.std.proofs.lemmas.List.Kept.{AllPairs-filter}
 use Rattle.std.proofs.lemmas.List.Sorted.{All-permutation, sum_by-IsPermutation}
 use Rattle.part_raw.specs.declared.tuple_ref.TupleRef.{TupleRef}
-use Rattle.plain_tables.specs.Values.{value_cmp, value_cmp_total}
+use Rattle.plain_tables.specs.Values.{value_cmp_total}
 use Rattle.plain_tables.specs.declared.resolved.Test.{Test}
 use Rattle.mm_index.proofs.Refs.{same_ref, Decides-same_ref}
 use Rattle.mm_relation.specs.Order.{column_cmp, option_exact}

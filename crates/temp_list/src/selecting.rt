@@ -5,7 +5,6 @@ ghost use Rattle.plan_chooser.specs.declared.plans.SelectPlan.TheVariants as pla
 ghost use Rattle.temp_list.specs.Reading.{AreSound, OfRelation, HasColumns};
 ghost use Rattle.temp_list.specs.Selecting.{AreSelected, IsSelected};
 
-use crate::keyed::has_integer_keys;
 use crate::list::TempList;
 use crate::search::{
     keep_passing_others, keep_passing_unbounded, passing, passing_in_slots, rows_between,
@@ -25,7 +24,7 @@ use std::alloc::Global;
 fn most_sorted(relation: &Relation, tests: &[Test]) -> u64 {
     if tests.is_empty() {
         0
-    } else if has_integer_keys(relation) {
+    } else if relation.has_integer_keys() {
         relation.len() / 8
     } else {
         relation.len() / 16

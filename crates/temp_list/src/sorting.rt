@@ -8,7 +8,6 @@ ghost use Rattle.temp_list.specs.Leading.{LeadsWith, AreLedByRising};
 ghost use Rattle.temp_list.specs.Lists.{keys_cmp};
 ghost use Rattle.temp_list.specs.Seen.{AreTables, listed_cmp, lists};
 
-use crate::keyed::integer_key;
 use crate::paired::{paired_rows, sort_paired};
 use crate::row::ListedRow;
 use mm_relation::{Relation, Relations};
@@ -60,7 +59,7 @@ fn leading_key(relation: &Relation, row: &[TupleRef]) -> Option<i64>
     ensures { IfSome result (LeadsWith relation.now row.now) }
 {
     let r = row.first()?;
-    integer_key(relation, *r)
+    relation.integer_key(*r)
 }
 
 // Whether the key of each row's first source stands above that of the row before, and all of them are integers. Each is read
