@@ -9,7 +9,7 @@ from support import hand, harness, model, random_streams, sizes, streams, tested
 
 STREAMS = sizes.size(100, 5_000)
 TOLD = re.compile(rb"mmdb: line (\d+): (error (\d\d) [^:\n]*): ([^\n]+)\n")
-WANTED = re.compile(rb"column (\d+): wanted (.+), found \?(: .+)?")
+WANTED = re.compile(rb"column (\d+): wanted (.+), found ~(: .+)?")
 COLUMN = re.compile(rb"column (\d+): ")
 #: Lines that lead to each place of the grammar, with a blank between two symbols.
 SPELLED = """table t ( t int , u text , v ref t , w ref t null )
@@ -117,6 +117,8 @@ class Program(unittest.TestCase):
             ("\ufefftables", "", "column 1: <U+FEFF> is no command: a byte order mark is allowed at the front of a block only"),
             ("tables\u00a0", "", "column 7: wanted the end of the line, found \u00a0 (U+00A0): a blank is a space or a tab"),
             (".tables", "", "column 1: . is no command: commands that begin with a dot are for mmdb-shell"),
+            ("?", "", "column 1: ? is no command: the commands are table, drop, index, insert, update, delete, select, load, dump and tables"),
+            ("help", "", "column 1: help is no command: the commands are table, drop, index, insert, update, delete, select, load, dump and tables"),
         ):
             with self.subTest(line=line):
                 stream = f"table t (id int, s text)\n{line}\n{block}"
@@ -145,7 +147,7 @@ class Places(unittest.TestCase):
         spelled = [line.split() for line in SPELLED]
         fronts = {"".join(f"{it} " for it in symbols[:at]) for symbols in spelled for at in range(len(symbols) + 1)} - {""}
         for front in ["", *sorted(fronts)]:
-            other, whole, *behind = self.reasons([f"{front}?", front, *(f"{front}{symbol} ?" for symbol in SYMBOLS)])
+            other, whole, *behind = self.reasons([f"{front}~", front, *(f"{front}{symbol} ~" for symbol in SYMBOLS)])
             with self.subTest(front=front):
                 column, words, _ = WANTED.fullmatch(other).groups()
                 wanted = set(words.decode().replace(" or ", ", ").split(", "))

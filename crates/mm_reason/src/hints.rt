@@ -24,7 +24,7 @@ type Hint = (&'static [&'static str], &'static str);
 
 const OPERATORS: &str = "the operators are =, <>, <, <=, > and >=";
 
-static COMMAND: [Hint; 9] = [
+static COMMAND: [Hint; 10] = [
     (
         &["create"],
         "table T (id int) declares a table, and index T id hash an index",
@@ -52,6 +52,10 @@ static COMMAND: [Hint; 9] = [
         "a load is load T 20, with 20 bytes behind the line",
     ),
     (&["."], "commands that begin with a dot are for mmdb-shell"),
+    (
+        &["help", "?"],
+        "the commands are table, drop, index, insert, update, delete, select, load, dump and tables",
+    ),
 ];
 
 static TYPE: [Hint; 7] = [
