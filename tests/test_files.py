@@ -179,6 +179,42 @@ class Unreadable(Files):
         self.assertEqual(self.run_files("--load", "rows.csv").status, 2)
 
 
+class OddQuotes(Files):
+    """A CSV file whose quote marks are read otherwise than they were meant is reported, or not read."""
+
+    OPEN = "has a field whose quote mark is never closed, and which holds all that follows"
+    BEHIND = "has a field with text behind its closing quote mark, which is read as a part of it"
+
+    def told(self, csv, *words):
+        """How loading a CSV ends, and what standard error says of the file."""
+        self.write("texts", b"table t (id int, s text)\n")
+        self.write("odd.csv", csv)
+        ended = self.run_files(*words, "texts", "--load", "t=odd.csv")
+        told = ended.err.decode()
+        self.assertTrue(not told or (told.startswith("mmdb: odd.csv: ") and told.endswith("\n")), told)
+        return ended, told[len("mmdb: odd.csv: ") : -1]
+
+    def test_the_first_field_is_reported(self):
+        for csv, answer, told in (
+            (b'id,s\n1,"x"y\n', b"ok 1\n", f"record 1 {self.BEHIND}"),
+            (b'id,s\n\n1,x\r\n2,"y\n3,z\n', b"ok 2\n", f"record 2 {self.OPEN}"),
+            (b'id,s\n1,"a""b\nc"\n2,"x" \n3,"z\n', b"ok 3\n", f"record 2 {self.BEHIND}"),
+            (b'"id,s\n1,x\n', b"error 61 bad header\n", f"the record of names {self.OPEN}"),
+            (b'\xef\xbb\xbf"id"x,s\n1,x\n', b"error 61 bad header\n", f"the record of names {self.BEHIND}"),
+        ):
+            with self.subTest(csv=csv):
+                ended, words = self.told(csv)
+                self.assertEqual((ended.status, ended.out, words), (0, b"ok\n" + answer, told))
+                ended, words = self.told(csv, "--stop")
+                self.assertEqual((ended.status, ended.out, words), (1, b"ok\n", told))
+
+    def test_other_marks_are_not(self):
+        csv = b'\xef\xbb\xbf"id",s\r\n1,x"y"\n\n2,"a""b,\nc"\n3,""\n4,"""z"""'
+        for words in ((), ("--stop",), ("--explain",)):
+            ended, told = self.told(csv, *words)
+            self.assertEqual((ended.status, ended.out, told), (0, b"ok\nok 4\n", ""))
+
+
 class Stops(Files):
     """With --stop the first refusal is the last answer."""
 

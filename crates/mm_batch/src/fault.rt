@@ -1,5 +1,6 @@
 //! Why a source can't be read.
 
+use crate::quotes::OddQuotes;
 use plain_tables::{LONGEST_BLOCK, NoMemory};
 use std::io;
 use thiserror::Error;
@@ -21,6 +22,9 @@ pub enum SourceFault {
     TooLong,
     #[error("no memory was found for its bytes")]
     NoMemory,
+    /// A CSV file that is to be loaded strictly has a field with odd quote marks.
+    #[error("{0}")]
+    OddQuotes(OddQuotes),
 }
 
 impl From<io::Error> for SourceFault {

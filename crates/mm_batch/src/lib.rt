@@ -10,7 +10,7 @@
 //! which the watcher stops it.
 //!
 //! - A file is opened when the stream reaches it, and closed at its end.
-//! - A CSV file is a load, whose line has the number of its bytes.
+//! - A CSV file is a load, whose line has the number of its bytes. Odd quote marks in it are reported, or refused.
 //! - Where a refusal stands is known by following the stream beside the session, which keeps that to itself. No answer
 //!   depends on it.
 #![tactic(auto)]
@@ -19,11 +19,13 @@ mod fault;
 mod follower;
 mod joined;
 mod load;
+mod quotes;
 mod source;
 mod watched;
 
 pub use fault::SourceFault;
 pub use joined::{Joined, Parts};
 pub use load::{LoadRequest, load_request};
+pub use quotes::{OddQuotes, odd_quotes};
 pub use source::{Origin, Source};
 pub use watched::{Ending, Refused, Watch, answer_watched};

@@ -4,6 +4,7 @@ ghost use Rattle.std.specs.Io.{ReadsAtMost};
 
 use crate::fault::SourceFault;
 use crate::load::{LoadRequest, load_request};
+use crate::quotes::odd_quotes;
 use mm_lang::is_whole_name;
 use plain_tables::LONGEST_BLOCK;
 use std::fs::File;
@@ -63,6 +64,8 @@ enum Opened {
 pub struct Source<'a> {
     rt: &'a HostRuntime,
     origin: Origin<'a>,
+    // Whether a CSV file with odd quote marks can't be read.
+    is_strict: bool,
     opened: Opened,
     fault: Option<SourceFault>,
 }
@@ -80,11 +83,13 @@ fn read_block(rt: &HostRuntime, path: &str) -> Result<Vec<u8>, SourceFault> {
 }
 
 impl<'a> Source<'a> {
-    /// A source that is not opened yet.
-    pub fn new(rt: &'a HostRuntime, origin: Origin<'a>) -> Source<'a> {
+    /// A source that is not opened yet. Where it is a CSV file with odd quote marks, it can't be read if it is strict, and else
+    /// standard error is told of the first.
+    pub fn new(rt: &'a HostRuntime, origin: Origin<'a>, is_strict: bool) -> Source<'a> {
         Source {
             rt,
             origin,
+            is_strict,
             opened: Opened::Waiting,
             fault: None,
         }
@@ -100,12 +105,25 @@ impl<'a> Source<'a> {
         self.fault
     }
 
+    // Looks for odd quote marks in a CSV file.
+    fn check_quotes(&self, path: &str, csv: &[u8]) -> Result<(), SourceFault> {
+        let Some(odd) = odd_quotes(csv) else {
+            return Ok(());
+        };
+        if self.is_strict {
+            return Err(SourceFault::OddQuotes(odd));
+        }
+        let _ = eprintln!(self.rt; "mmdb: {path}: {odd}");
+        Ok(())
+    }
+
     fn open(&self) -> Result<Opened, SourceFault> {
         match self.origin {
             Origin::Input => Ok(Opened::Input(self.rt.stdin())),
             Origin::Commands { path } => Ok(Opened::File(File::open(self.rt, path)?)),
             Origin::Load { table, path } => {
                 let block = read_block(self.rt, path)?;
+                self.check_quotes(path, &block)?;
                 Ok(Opened::Load(load_request(self.rt.alloc(), table, block)?))
             }
         }

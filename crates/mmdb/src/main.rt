@@ -21,16 +21,13 @@ const ROOM: usize = 65_536;
 // The status where a read failed.
 const READ_FAULT: u8 = 1;
 
-// The sources that are to be read, as one stream.
-fn stream_of<'a>(
-    rt: &'a HostRuntime,
-    origins: &[Origin<'a>],
-) -> Result<Joined<Source<'a>>, RunFault> {
-    let Ok(mut sources) = Vec::with_capacity(rt.alloc(), origins.len()) else {
+// The sources that are to be read, as one stream. Where the first refusal is to end it, they are read strictly.
+fn stream_of<'a>(rt: &'a HostRuntime, wish: &Wish<'a>) -> Result<Joined<Source<'a>>, RunFault> {
+    let Ok(mut sources) = Vec::with_capacity(rt.alloc(), wish.origins.len()) else {
         return Err(RunFault::NoMemory);
     };
-    for origin in origins {
-        if sources.push(Source::new(rt, *origin)).is_err() {
+    for origin in &wish.origins {
+        if sources.push(Source::new(rt, *origin, wish.stop)).is_err() {
             return Err(RunFault::NoMemory);
         }
     }
@@ -66,7 +63,7 @@ fn report(rt: &HostRuntime, fault: RunFault) -> ExitCode {
 
 // Answers what the words name, and gives the status to end with.
 fn answer_all(rt: &HostRuntime, wish: &Wish<'_>) -> ExitCode {
-    let mut stream = match stream_of(rt, &wish.origins) {
+    let mut stream = match stream_of(rt, wish) {
         Ok(stream) => stream,
         Err(fault) => return report(rt, fault),
     };
