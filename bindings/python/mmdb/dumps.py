@@ -68,12 +68,13 @@ class Table(NamedTuple):
 def write(db: Database, file: Writable) -> None:
     """Writes a dump, which `restore` reads, and the program mmdb too. Other threads wait meanwhile with their calls."""
     with db._alone():
+        tables = _tables_of(db)
         file.write(FIRST + b"\n")
-        for request in requests_of(db):
+        for request in _requests_of(db, tables):
             file.write(request.line + b"\n")
             if request.block is not None:
                 file.write(request.block)
-        file.write(_last(*_counts_of(db)) + b"\n")
+        file.write(_last(len(tables), sum(_count_of(db, table) for table in tables)) + b"\n")
 
 
 def _last(tables: int, rows: int) -> bytes:
@@ -81,16 +82,19 @@ def _last(tables: int, rows: int) -> bytes:
     return b"%b: %d tables, %d rows" % (LAST, tables, rows)
 
 
-def _counts_of(db: Database) -> List[int]:
-    """How many tables there are, and rows in all."""
-    tables = _tables_of(db)
-    return [len(tables), sum(db.count(f"select {table.columns[0].name} from {table.name}") for table in tables)]
+def _count_of(db: Database, table: Table) -> int:
+    """How many rows a table has."""
+    return db.count(f"select {table.columns[0].name} from {table.name}")
 
 
 def requests_of(db: Database) -> Iterator[Request]:
     """The requests that make an empty database like this one: the declarations of tables, then the rows of each table behind
     those of the tables that it refers to, and its indexes, which are made in less time of rows that are there."""
-    tables = _tables_of(db)
+    return _requests_of(db, _tables_of(db))
+
+
+def _requests_of(db: Database, tables: List[Table]) -> Iterator[Request]:
+    """The same, of tables that are listed already."""
     for table in tables:
         yield Request(table.line.encode())
     for table in tables:
