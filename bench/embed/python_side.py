@@ -1,7 +1,9 @@
 """Times the Python module mmdb beside sqlite3 over `:memory:`, both in this process, on the same statements."""
 
+import pathlib
 import random
 import sqlite3
+import tempfile
 import time
 
 ROUNDS = 7
@@ -45,6 +47,9 @@ def ours(db):
         "take out": lambda rows: db.executemany(delete, rows),
         "load": lambda rows: db.load("t", rows),
         "load dicts": lambda dicts: db.load_dicts("t", dicts),
+        "save": lambda folder: db.save(folder / "all.mmdb"),
+        "restore": lambda folder: type(db).restore(folder / "all.mmdb"),
+        "rows": lambda restored: restored.count("select id from t"),
     }
 
 
@@ -68,6 +73,9 @@ def theirs(text, kept):
         "take out": lambda rows: in_one_transaction(kept, delete, rows),
         "load": lambda rows: in_one_transaction(kept, insert, rows),
         "load dicts": lambda dicts: in_one_transaction(kept, "insert into t values (:id, :n, :s)", dicts),
+        "save": lambda folder: write_script(kept, folder / "all.sql"),
+        "restore": lambda folder: made_by_script(folder / "all.sql"),
+        "rows": lambda restored: restored.execute("select count(*) from t").fetchone()[0],
     }
     return {**{(kind, "prepared"): found[kind, "parameters"] for kind in KINDS}, **found}
 
@@ -76,6 +84,20 @@ def in_one_transaction(connection, line, rows):
     connection.execute("begin")
     connection.executemany(line, rows)
     connection.execute("commit")
+
+
+def write_script(connection, path):
+    """Writes the lines of SQL that make this database to a file."""
+    with open(path, "w", encoding="utf-8") as file:
+        for line in connection.iterdump():
+            file.write(f"{line}\n")
+
+
+def made_by_script(path):
+    """A new database, made by the lines of such a file."""
+    connection = sqlite3.connect(":memory:", isolation_level=None)
+    connection.executescript(path.read_text(encoding="utf-8"))
+    return connection
 
 
 def connected(rows, statements_kept):
@@ -138,10 +160,34 @@ class Comparison:
         side["take out"]([(key,) for key in keys])
         return took / 1e9 / MANY
 
+    def seconds_of_a_save(self, side, folder):
+        """The seconds of a row where the whole database is written to a file."""
+        took = -time.process_time_ns()
+        side["save"](folder)
+        return (took + time.process_time_ns()) / 1e9 / self.rows
+
+    def seconds_of_a_restore(self, side, folder):
+        """The seconds of a row where a new database is made from that file. It must have all rows."""
+        took = -time.process_time_ns()
+        restored = side["restore"](folder)
+        took += time.process_time_ns()
+        count = side["rows"](restored)
+        restored.close()
+        if count != self.rows:
+            raise ValueError(f"of {self.rows} rows {count} were restored")
+        return took / 1e9 / self.rows
+
     def best(self, kind, way, seconds):
         """Tells the best of some rounds, in which both come by turns."""
         all_took = [[seconds(side) for side in self.sides] for _ in range(ROUNDS)]
         self.tell(kind, way, *(min(each) * 1e6 for each in zip(*all_took)))
+
+    def compare_whole(self):
+        """Saves and restores the whole database of each."""
+        with tempfile.TemporaryDirectory() as name:
+            folder = pathlib.Path(name)
+            self.best("save", "a row", lambda side: self.seconds_of_a_save(side, folder))
+            self.best("restore", "a row", lambda side: self.seconds_of_a_restore(side, folder))
 
     def run(self):
         for kind in KINDS:
@@ -151,6 +197,8 @@ class Comparison:
             self.best(f"select {RANGE:,} rows", "parameters", self.seconds_of_a_range)
         for what, way in MANY_WAYS.items():
             self.best(what, "a row", lambda side, way=way: self.seconds_of_many(side, *way))
+        if self.rows >= RANGE:
+            self.compare_whole()
         self.db.close()
         for connection in self.connections:
             connection.close()

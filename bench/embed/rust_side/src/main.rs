@@ -1,9 +1,11 @@
 //! Times the crate mmdb beside SQLite's prepared statements over `:memory:`, both in this process, on the same
 //! statements over a table of so many rows, or by the word `inserts` on inserts into an empty one. Each figure is a
 //! line: what was done, the way of mmdb, the microseconds of mmdb and those of SQLite. mmdb is asked by a statement
-//! that the program prepares, and by a line whose statement the crate keeps. The rows of a select are read.
+//! that the program prepares, and by a line whose statement the crate keeps. The rows of a select are read. At last the
+//! whole database is saved and restored, where the microseconds are those of a row.
 
 mod sqlite;
+mod whole;
 
 use mmdb::{Database, Result, Row, Statement};
 use sqlite::Sqlite;
@@ -15,6 +17,7 @@ const MOST_NEW: usize = 2_000;
 const ROWS_OF_A_SELECT: usize = 1_000;
 const ROWS_OF_A_BLOCK: usize = 100_000;
 const INSERTS: usize = 100_000;
+const THEIR_TABLE: &str = "create table t (id integer primary key, n integer, s text)";
 
 #[derive(Clone, Copy, Debug, PartialEq, Eq)]
 enum Kind {
@@ -197,8 +200,10 @@ impl Both {
         let ours = Database::open_in_memory()?;
         ours.execute("table t (id int, n int, s text)", [])?;
         let mut theirs = Sqlite::open();
-        theirs.run("create table t (id integer primary key, n integer, s text)");
-        KINDS.iter().for_each(|kind| theirs.prepare(kind.theirs()));
+        theirs.run(THEIR_TABLE);
+        for kind in KINDS {
+            theirs.prepare(kind.theirs());
+        }
         let draw = Draw(88_172_645_463_325_252);
         Ok(Both {
             ours,
@@ -322,5 +327,8 @@ fn main() -> Result<()> {
         }
     }
     assert_ne!(both.sum, 0);
+    if rows >= ROWS_OF_A_SELECT {
+        whole::compare(&both.ours, &mut both.theirs, rows)?;
+    }
     Ok(())
 }

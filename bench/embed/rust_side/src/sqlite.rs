@@ -77,19 +77,22 @@ impl Sqlite {
         }
     }
 
-    pub fn run(&mut self, text: &str) {
+    /// Executes a text of statements. Their rows are not read.
+    pub fn run(&mut self, text: impl Into<Vec<u8>>) {
         let text = CString::new(text).expect("there is no NUL in it");
         // SAFETY: the database is open, and the text ends in a NUL.
         assert_eq!(unsafe { sqlite3_exec(self.db, text.as_ptr(), 0, 0, 0) }, 0, "{text:?}");
     }
 
-    pub fn prepare(&mut self, text: &str) {
+    /// Prepares a statement, and returns its number.
+    pub fn prepare(&mut self, text: &str) -> usize {
         let text = CString::new(text).expect("there is no NUL in it");
         let mut made = ptr::null_mut();
         // SAFETY: as above.
         let status = unsafe { sqlite3_prepare_v2(self.db, text.as_ptr(), -1, &mut made, 0) };
         assert_eq!(status, 0, "{text:?}");
         self.statements.push(Prepared(made));
+        self.statements.len() - 1
     }
 
     pub fn statement(&mut self, number: usize) -> &mut Prepared {
