@@ -47,9 +47,13 @@ class Counted(unittest.TextTestResult):
         self.passed += test.id() not in self.failed | self.skipped_ids
 
 
+def has_program():
+    return tested.PROGRAM.is_file()
+
+
 def run(name, suite, verbosity=0):
     """Runs the tests that `suite` loads, and returns the status."""
-    if not tested.PROGRAM.is_file():
+    if not has_program():
         print(f"tests: {tested.PROGRAM} is not built: scripts/build and rt ci build it; ./test quick tests the release")
         print("0 passed, 1 failed")
         return 1
