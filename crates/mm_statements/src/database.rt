@@ -51,7 +51,6 @@ pub struct PreparedLine<'a> {
 /// Several databases may share a session. Each has statements of its own, and reads the tables. Only the last that is left changes
 /// them; the others are refused by `Shared`. In a transaction sharing and leaving are refused by `InTransaction`. All changes are done
 /// there, by lines, statements and pieces of the stream, and a rollback undoes them.
-#[derive(Drop)]
 pub struct Database {
     held: SharedSession,
     policy: Policy,
@@ -61,6 +60,20 @@ pub struct Database {
     commands: Commands,
     // What a select finds is found here, and the room is kept for the next.
     room: SelectRoom,
+}
+
+// It is written out, so that the crates above don't prove anew how each part of a part is freed.
+impl Drop for Database {
+    fn drop(self) {
+        let Database {
+            held: _,
+            policy: _,
+            statements: _,
+            noted: _,
+            commands: _,
+            room: _,
+        } = self;
+    }
 }
 
 impl Model for Database {
