@@ -15,14 +15,14 @@ def tearDownModule():
 
 
 class Forked(compiling.Programs):
-    def compiled(self, name, *sanitized):
-        return ROOM.compiled(name, SOURCE, [*compiling.C, "-pthread", f"-DFORKS={FORKS}", *sanitized], WRAPPED)
-
-    def test_each_call(self):
-        program = self.compiled("fork")
+    def check(self, name, *sanitized):
+        words = [*compiling.C, "-pthread", f"-DFORKS={FORKS}", *sanitized]
+        program = ROOM.compiled(name, SOURCE, words, WRAPPED)
         self.check_ran(program)
         self.check_ran([program, "running"])
 
+    def test_each_call(self):
+        self.check("fork")
+
     def test_under_the_sanitizers_of_addresses(self):
-        """The second thread only stops. One that runs may hold a lock of the sanitizer's own at the fork, and the child would wait for it."""
-        self.check_ran(self.compiled("fork-address", *compiling.SANITIZED))
+        self.check("fork-address", "-DHAS_LOCKS=1", *compiling.SANITIZED)

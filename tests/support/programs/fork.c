@@ -17,6 +17,10 @@
 #ifndef FORKS
 #define FORKS 100
 #endif
+/* Whether this is compiled with a sanitizer that has locks of its own in each call for memory, and doesn't free them in a child. */
+#ifndef HAS_LOCKS
+#define HAS_LOCKS 0
+#endif
 enum { LONGEST_WAIT = 60, ROWS = 30, LEAST_STOPS = 200 };
 
 /* A database, a reader of its tables, and a database apart. */
@@ -36,28 +40,54 @@ static void may_stop(void)
     sem_wait(&goes_on);
 }
 
+/* No other thread is in such a call at a fork, where a child would wait for the sanitizer's locks. */
+static pthread_mutex_t in_memory = PTHREAD_MUTEX_INITIALIZER;
+
+static void enter(void)
+{
+    if (HAS_LOCKS)
+        pthread_mutex_lock(&in_memory);
+}
+
+static void leave(void)
+{
+    if (HAS_LOCKS)
+        pthread_mutex_unlock(&in_memory);
+}
+
+static void *left(void *block)
+{
+    leave();
+    return block;
+}
+
 void *__wrap_malloc(size_t size)
 {
     may_stop();
-    return __real_malloc(size);
+    enter();
+    return left(__real_malloc(size));
 }
 
 void *__wrap_calloc(size_t count, size_t size)
 {
     may_stop();
-    return __real_calloc(count, size);
+    enter();
+    return left(__real_calloc(count, size));
 }
 
 void *__wrap_realloc(void *block, size_t size)
 {
     may_stop();
-    return __real_realloc(block, size);
+    enter();
+    return left(__real_realloc(block, size));
 }
 
 void __wrap_free(void *block)
 {
     may_stop();
+    enter();
     __real_free(block);
+    leave();
 }
 
 /* ---- the handles */
@@ -222,7 +252,10 @@ static void check_child(const turn *now)
 static void fork_once(const turn *now)
 {
     int status = 0;
-    const pid_t child = fork();
+    pid_t child;
+    enter();
+    child = fork();
+    leave();
     if (child == 0)
         check_child(now);
     CHECK(child > 0 && waitpid(child, &status, 0) == child);
