@@ -15,13 +15,12 @@ from support import growth, holding, sizes
 
 FEW = sizes.said("MMDB_ROWS", sizes.size(1_000, 100_000, 250))
 MANY = 4 * FEW
-# Larger tables, of which the last ones are past all caches.
-BEYOND = ((MANY, 4 * MANY), (4 * MANY, 16 * MANY))
+BEYOND = 4 * MANY
 # Tables whose instructions are counted: in large sizes they have fewer rows than those that are timed.
 COUNTED = (FEW // 10, MANY // 10) if sizes.is_large else (FEW, MANY)
 # The instructions of a pattern, and its time, grow by this power of its rows at most, and it takes at most so many times what it takes on
-# differing values. A time also grows where more of the smaller table than of the larger one fits a cache: then it is taken again of tables
-# that both are larger, and once more of such.
+# differing values. A time also grows where the smaller table fits a cache and the larger one doesn't: then it is taken again of tables that
+# both are larger.
 MOST_POWER = 1.3
 MOST_RATIO = 1.5
 # A time is the least of some rounds, and a shorter one than this is taken for it.
@@ -106,14 +105,12 @@ class PatternTimes(Growing, unittest.TestCase):
         return taken
 
     def power_beyond(self, pattern, power):
-        """By which power a pattern grows where the tables are larger: the first power that is within its bound, or the last."""
-        for rows in BEYOND:
-            few, many = (max(seconds, LEAST) for seconds in METER.seconds(pairs([(pattern, count) for count in rows]), ROUNDS))
-            before, power = power, math.log(many / few, rows[1] / rows[0])
-            tell(f"{pattern}: by the power {before:.2f}, from {rows[0]} to {rows[1]} rows by {power:.2f}")
-            if power <= MOST_POWER:
-                break
-        return power
+        """By which power a pattern grows where the tables are larger, and both past the caches."""
+        asked = [(pattern, rows) for rows in (MANY, BEYOND)]
+        few, many = (max(seconds, LEAST) for seconds in METER.seconds(pairs(asked), ROUNDS))
+        beyond = math.log(many / few, BEYOND / MANY)
+        tell(f"{pattern}: by the power {power:.2f}, from {MANY} to {BEYOND} rows by {beyond:.2f}")
+        return beyond
 
     def test_no_time_grows_by_the_square(self):
         for pattern, power in self.powers((FEW, MANY), LEAST):
