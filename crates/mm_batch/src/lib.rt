@@ -26,6 +26,6 @@ mod watched;
 pub use fault::SourceFault;
 pub use joined::{Joined, Parts};
 pub use load::{LoadRequest, load_request};
-pub use quotes::{OddQuotes, odd_quotes};
+pub use quotes::OddQuotes;
 pub use source::{Origin, Source};
 pub use watched::{Ending, Refused, Watch, answer_watched};

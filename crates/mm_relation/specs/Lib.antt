@@ -15,3 +15,4 @@ pub mod Taken
 pub mod Sorting
 pub mod Slots
 pub mod Settling
+pub mod IntegerKeys

@@ -1,7 +1,9 @@
 //! Rows that are about to go: what that reads in the tree of their keys is read before, for some rows side by side.
-ghost use Rattle.std.specs.Prelude.{◌≡◌, ◌≤◌, Some, IsSome, IfSome};
+ghost use Rattle.std.specs.Prelude.{◌≡◌, ◌≢◌, ◌≤◌, ℤ, FitsSigned, Some, IsSome, IfSome, IfNone};
 ghost use Rattle.std.specs.FinMap as finite;
+ghost use Rattle.std.specs.Int.{w64};
 ghost use Rattle.plain_tables.specs.declared.value.Value.TheVariants.{Int};
+ghost use Rattle.mm_relation.specs.IntegerKeys.{has_integer_keys};
 ghost use Rattle.mm_relation.specs.Reading.{key_at};
 
 use crate::laws::a_relation_is_kept;
@@ -37,7 +39,9 @@ impl<'a> Leading for IntegerKeys<'a> {
 
 impl Relation {
     /// Whether the keys are integers.
-    pub fn has_integer_keys(&self) -> bool {
+    pub fn has_integer_keys(&self) -> bool
+        ensures { result ≡ has_integer_keys self.now.schema.columns }
+    {
         match self.schema.columns.as_slice().first() {
             Some(column) => matches!(column.kind, ColKind::Int),
             None => false,
@@ -47,11 +51,12 @@ impl Relation {
     /// The key of a row, where it is an integer and the reference leads to a row.
     #[inline]
     pub fn integer_key(&self, r: TupleRef) -> Option<i64>
-        ensures { IfSome result (λ key. key_at self.now.rows r ≡ Some (Int key)) }
+        ensures key { IfSome result (λ key. key_at self.now.rows r ≡ Some (Int key)) }
+        ensures none { IfNone result ((key : ℤ) → FitsSigned w64 key → key_at self.now.rows r ≢ Some (Int key)) }
     {
         match self.key_if_held(r)?.seen() {
             SeenValue::Int(key) => Some(key),
-            _ => None,
+            SeenValue::Null | SeenValue::Text(_) | SeenValue::Link(_) => None,
         }
     }
 

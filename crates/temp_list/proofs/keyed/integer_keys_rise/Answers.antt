@@ -15,7 +15,7 @@ loop-r-preserved c =
     let key = c.in-Some.key in
     let none : TupleRef = record { number = 0 } in
     let here : (d : TupleRef) → HasIntegerKey s (get_or rows at d) key = λ d.
-    subst (λ (r : TupleRef). HasIntegerKey s r key) (get_or_default rows at none d c.loop-r-test.true) c.in-Some.ensures in
+    subst (λ (r : TupleRef). HasIntegerKey s r key) (get_or_default rows at none d c.loop-r-test.true) c.in-Some.ensures.key in
     elim c.match-last.branch [
       | in-Some-last+else-key-before w ↦
           let after : c.match-last.last ≡ Some key = search rules in
