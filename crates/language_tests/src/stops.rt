@@ -1,25 +1,25 @@
 //! Where lines stop to be statements, told by worked cases. Those of commands are seen in the program's reasons.
 
-use mm_lang::{Line, Place, Stop, parse_statement_or_stop};
+use mm_lang::{Line, LinePlace, Stop, parse_statement_or_stop};
 use std::alloc::Global;
 
 // Lines, the bytes that are left of each where it stops, and the place.
-const STOPS: &[(&str, usize, Place)] = &[
-    ("", 0, Place::Statement),
-    (" tabel", 6, Place::Statement),
-    ("table t (id int)", 16, Place::Statement),
-    ("insert t (?, ?? )", 3, Place::BehindListed),
-    ("insert t (?, ?)  ?", 3, Place::End),
-    ("insert t (? , id)", 4, Place::Value),
-    ("update t set n = ?, ? = 1", 6, Place::Column),
+const STOPS: &[(&str, usize, LinePlace)] = &[
+    ("", 0, LinePlace::Statement),
+    (" tabel", 6, LinePlace::Statement),
+    ("table t (id int)", 16, LinePlace::Statement),
+    ("insert t (?, ?? )", 3, LinePlace::BehindListed),
+    ("insert t (?, ?)  ?", 3, LinePlace::End),
+    ("insert t (? , id)", 4, LinePlace::Value),
+    ("update t set n = ?, ? = 1", 6, LinePlace::Column),
     (
         "delete t where id = ? or id = 1",
         10,
-        Place::BehindCondition,
+        LinePlace::BehindCondition,
     ),
-    ("select ? from t where id = 1", 22, Place::Select),
-    ("select id from t where t.id ? 1", 4, Place::Operator),
-    ("select id from t where id = ", 1, Place::ComparedValue),
+    ("select ? from t where id = 1", 22, LinePlace::Select),
+    ("select id from t where t.id ? 1", 4, LinePlace::Operator),
+    ("select id from t where id = ", 1, LinePlace::ComparedValue),
 ];
 
 // Where a line stops to be a statement. A text with a line feed is no line.

@@ -14,7 +14,7 @@ use Rattle.lin_hash.specs.Chains.{Placed, place_of, placed_at, all_placed, Stand
 use Rattle.lin_hash.proofs.Moves.{count_by-append, count_by-cons}
 use Rattle.lin_hash.proofs.Joined.{joined, count_by-joined}
 use Rattle.lin_hash.proofs.Placed.{one_if, times_at, times_at-once, placed, placed-relinked, placed-push, count_by-placed_set}
-use Rattle.lin_hash.proofs.ChainLemmas.{leads_to-link, times_at-first, Stands-relinked, IsChain-set, IsChain-grown, IsChain-front}
+use Rattle.lin_hash.proofs.Chaining.{leads_to-link, times_at-first, Stands-relinked, IsChain-set, IsChain-grown, IsChain-front}
 use Rattle.lin_hash.proofs.Hanging.{AreHungBy-link}
 use Rattle.lin_hash.proofs.Levels.{bucket_of-inside}
 

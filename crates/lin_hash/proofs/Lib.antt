@@ -11,7 +11,7 @@ pub mod Joined
 pub mod Levels
 pub mod Linking
 pub mod Longest
-pub mod ChainLemmas
+pub mod Chaining
 pub mod Moves
 pub mod Placed
 pub mod Rehung

@@ -11,7 +11,7 @@ use Rattle.lin_hash.specs.Chains.{Placed, place_of, entry_in, placed_at, all_pla
 use Rattle.lin_hash.proofs.Moves.{count_by-append}
 use Rattle.lin_hash.proofs.Joined.{joined}
 use Rattle.lin_hash.proofs.Placed.{length-placed}
-use Rattle.lin_hash.proofs.ChainLemmas.{IsChain-set}
+use Rattle.lin_hash.proofs.Chaining.{IsChain-set}
 use Rattle.lin_hash.proofs.Hung.{AreHung-link, IsChain-first, loose-once}
 use Rattle.common_lemmas.proofs.Counts.{count_by-true}
 use Rattle.lin_hash.proofs.Walks.{entries_from-chain}

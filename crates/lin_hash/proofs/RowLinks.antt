@@ -9,7 +9,7 @@ use Rattle.lin_hash.specs.HeldRows.{KeepsRows}
 use Rattle.lin_hash.specs.Nodes.{leads_to, link_to, no_link}
 use Rattle.lin_hash.specs.RowNodes.{front_node, is_used, leading_at, linked_before, row_at, row_node_at, trailing, trailing_at, with_next, with_prev}
 use Rattle.lin_hash.specs.RowChains.{IsLinked, IsRowChain, StandsBehind, row_next_at}
-use Rattle.lin_hash.proofs.ChainLemmas.{leads_to-link}
+use Rattle.lin_hash.proofs.Chaining.{leads_to-link}
 use Rattle.lin_hash.proofs.InRowBlocks.{used-inside}
 use Rattle.lin_hash.proofs.Moves.{count_by-append, count_by-cons}
 use Rattle.lin_hash.proofs.RowsIn.{one_if, times_at}

@@ -13,7 +13,7 @@ use Rattle.lin_hash.specs.Chains.{Placed, place_of, placed_at, entry_in, all_pla
 use Rattle.lin_hash.proofs.Moves.{count_by-append, count_by-cons}
 use Rattle.lin_hash.proofs.Joined.{count_by-joined}
 use Rattle.lin_hash.proofs.Placed.{times_at, placed, placed-relinked, entries-placed, entries-relinked}
-use Rattle.lin_hash.proofs.ChainLemmas.{Stands-relinked, IsChain-set, IsChain-unique, IsChain-unlinked, times_at-last}
+use Rattle.lin_hash.proofs.Chaining.{Stands-relinked, IsChain-set, IsChain-unique, IsChain-unlinked, times_at-last}
 use Rattle.lin_hash.proofs.Hung.{IsSameBag-put, IsSameBag-grown, AreHung-grown, AreHung-popped, AreHung-put, Stands-grown, Stands-put, AreHung-link, last_entry, last-there}
 use Rattle.lin_hash.proofs.Rehung.{times_at-others, times_at-most}
 use Rattle.lin_hash.proofs.Hanging.{AreHungBy-without, AreHungBy-empty}

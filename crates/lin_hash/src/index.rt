@@ -22,12 +22,22 @@ use std::marker::Model;
 
 /// A modified linear hash: a bag of references under hashes. A look-up visits the nodes of one bucket, of which there are
 /// at least half as many as entries.
-#[derive(Drop)]
 pub struct LinHash {
     alloc: Global,
     table: Option<Table>,
     len: usize,
     spares: usize,
+}
+
+impl Drop for LinHash {
+    fn drop(self) {
+        let LinHash {
+            alloc: _,
+            table: _,
+            len: _,
+            spares: _,
+        } = self;
+    }
 }
 
 impl Model for LinHash {

@@ -24,11 +24,20 @@ use std::marker::Model;
 
 /// A modified linear hash of the rows of one store, each under one hash. The node of a row stands at the place that its
 /// reference names, so a row is taken out without a search, however many have its hash.
-#[derive(Drop)]
 pub struct RowHash {
     alloc: Global,
     table: Option<RowTable>,
     len: usize,
+}
+
+impl Drop for RowHash {
+    fn drop(self) {
+        let RowHash {
+            alloc: _,
+            table: _,
+            len: _,
+        } = self;
+    }
 }
 
 impl Model for RowHash {

@@ -1,2 +1,2 @@
-pub mod JoiningLemmas
-pub mod WatchLemmas
+pub mod Joining
+pub mod Watches

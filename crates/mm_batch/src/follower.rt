@@ -11,7 +11,7 @@ const KEPT_OF_LINE: usize = LONGEST_LINE + 2;
 
 /// Where a line stands: the number of its reader, from 0, and its own in that, from 1.
 #[derive(Clone, Copy)]
-pub struct Place {
+pub struct FilePlace {
     pub reader: usize,
     pub line: u64,
 }
@@ -22,8 +22,8 @@ pub struct Follower {
     alloc: Global,
     longest_block: u64,
     // Where the request began, and where the next byte stands.
-    begun: Place,
-    next: Place,
+    begun: FilePlace,
+    next: FilePlace,
     line: Vec<u8>,
     block: Vec<u8>,
     // Whether the block is kept, and how many bytes of it are to come.
@@ -34,7 +34,7 @@ pub struct Follower {
 impl Follower {
     /// At the start of a stream. No block is kept that is longer than that.
     pub fn new(alloc: Global, longest_block: u64) -> Result<Follower, NoMemory> {
-        let start = Place { reader: 0, line: 1 };
+        let start = FilePlace { reader: 0, line: 1 };
         Ok(Follower {
             alloc,
             longest_block,
@@ -48,7 +48,7 @@ impl Follower {
     }
 
     /// Where the request began.
-    pub fn begun(&self) -> Place {
+    pub fn begun(&self) -> FilePlace {
         self.begun
     }
 
@@ -69,7 +69,7 @@ impl Follower {
     /// Goes on with the bytes of the reader of this number.
     pub fn go_to(&mut self, reader: usize) {
         if self.next.reader != reader {
-            self.next = Place { reader, line: 1 };
+            self.next = FilePlace { reader, line: 1 };
         }
     }
 

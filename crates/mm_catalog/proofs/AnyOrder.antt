@@ -26,9 +26,9 @@ use Rattle.plain_tables.specs.declared.numbers.TableNumber.{TableNumber}
 use Rattle.plain_tables.specs.declared.refusal.Refusal.{Refusal}
 use Rattle.plain_tables.specs.declared.refusal.Refusal.TheVariants.{KeyExists, NoReferencedRow, TableFull}
 use Rattle.plain_tables.specs.declared.schema.Column.{Column}
-use Rattle.plain_tables.proofs.HeldLemmas.{KeepsKey, keeps_itself, held_stays}
-use Rattle.plain_tables.proofs.RowLemmas.{key_cmp_total, apart_by_key, with_row-rises, length-with_row, All-with_row}
-use Rattle.plain_tables.proofs.SoundLemmas.{with_row-keeps}
+use Rattle.plain_tables.proofs.Held.{KeepsKey, keeps_itself, held_stays}
+use Rattle.plain_tables.proofs.Rows.{key_cmp_total, apart_by_key, with_row-rises, length-with_row, All-with_row}
+use Rattle.plain_tables.proofs.Sound.{with_row-keeps}
 use Rattle.mm_catalog.proofs.Rising.{rising_same}
 use Rattle.mm_catalog.proofs.Anywhere.{all_pass}
 

@@ -12,7 +12,7 @@ use Rattle.plain_tables.specs.ResolvedLaws.{IsInsertable, IsMeant}
 use Rattle.plain_tables.specs.declared.numbers.TableNumber.{TableNumber}
 use Rattle.plain_tables.specs.declared.refusal.Refusal.{Refusal}
 use Rattle.plain_tables.specs.declared.resolved.Resolved.TheVariants as resolved
-use Rattle.plain_tables.proofs.ReferLemmas.{refers_not_to_itself}
+use Rattle.plain_tables.proofs.Referring.{refers_not_to_itself}
 use Rattle.mm_catalog.specs.Changes.{HasEffect, IsDeclinedFor, KeepsDatabase}
 use Rattle.mm_catalog.specs.Consistent.{IsConsistent}
 use Rattle.mm_catalog.specs.LoadOrder.{KeyPlace, row_at}

@@ -40,8 +40,8 @@ use Rattle.mm_catalog.proofs.Lists.{map-zip}
 use Rattle.mm_catalog.proofs.Outlines.{keys_before}
 use Rattle.mm_catalog.proofs.Back.{RefersInto, names-database, refers_before, target_there, lead_back}
 use Rattle.mm_catalog.proofs.Finding.{is_some-find, found-front, position-found}
-use Rattle.plain_tables.proofs.ReferLemmas.{refers_as}
-use Rattle.plain_tables.proofs.SoundLemmas.{done_keeps_sound}
+use Rattle.plain_tables.proofs.Referring.{refers_as}
+use Rattle.plain_tables.proofs.Sound.{done_keeps_sound}
 
 found_within : (names : List (List ℕ)) (found : Option (List ℕ)) (t : ℕ) → option_and_then (λ name. position (λ n. bytes_eq n name) names) found ≡ Some t → t < length names
 found_within names None t e = absurd (none-some t e)

@@ -36,7 +36,7 @@ use Rattle.mm_catalog.proofs.Outlines.{Outline, outline, same_keys, keys_before}
 use Rattle.mm_catalog.proofs.Alike.{IsAlike, AreAlike, AreAlike-set, same_outlines, table_alike, consistent_alike}
 use Rattle.mm_catalog.proofs.Among.{among_at, named_at}
 use Rattle.mm_catalog.proofs.Back.{lead_back}
-use Rattle.plain_tables.proofs.SoundLemmas.{done_keeps_sound}
+use Rattle.plain_tables.proofs.Sound.{done_keeps_sound}
 
 -- ---- a relation with other indexes
 

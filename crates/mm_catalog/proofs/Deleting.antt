@@ -24,9 +24,9 @@ use Rattle.plain_tables.specs.declared.numbers.TableNumber.{TableNumber}
 use Rattle.plain_tables.specs.declared.refusal.Refusal.{Refusal}
 use Rattle.plain_tables.specs.declared.refusal.Refusal.TheVariants.{RowIsReferenced}
 use Rattle.plain_tables.specs.declared.value.Value.{Value}
-use Rattle.plain_tables.proofs.RowLemmas.{key_cmp_total}
-use Rattle.plain_tables.proofs.SoundLemmas.{delete_keeps_sound}
-use Rattle.plain_tables.proofs.ValueLemmas.{value_cmp-exact}
+use Rattle.plain_tables.proofs.Rows.{key_cmp_total}
+use Rattle.plain_tables.proofs.Sound.{delete_keeps_sound}
+use Rattle.plain_tables.proofs.Values.{value_cmp-exact}
 use Rattle.mm_relation.specs.Rows.{Row, referrers_at}
 use Rattle.mm_relation.specs.Reading.{Keys, key_at}
 use Rattle.mm_relation.specs.State.{tree_list, RelationState, IsKept, IsCurrent, linked_keys}

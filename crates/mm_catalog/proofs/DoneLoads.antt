@@ -26,11 +26,11 @@ use Rattle.plain_tables.specs.References.{Reference, is_held, references}
 use Rattle.plain_tables.specs.declared.command.Limits.{Limits}
 use Rattle.plain_tables.specs.declared.numbers.TableNumber.{TableNumber}
 use Rattle.plain_tables.specs.declared.refusal.Refusal.{Refusal}
-use Rattle.plain_tables.proofs.EffectLemmas.{goes_on_parts, insert_satisfies}
-use Rattle.plain_tables.proofs.HeldLemmas.{KeepsKey, keeps_itself, held_stays}
-use Rattle.plain_tables.proofs.ReferLemmas.{RefersElsewhere, references_elsewhere}
-use Rattle.plain_tables.proofs.RowLemmas.{key_cmp_total, with_row-rises}
-use Rattle.plain_tables.proofs.TakenLemmas.{one_row_more}
+use Rattle.plain_tables.proofs.Effects.{goes_on_parts, insert_satisfies}
+use Rattle.plain_tables.proofs.Held.{KeepsKey, keeps_itself, held_stays}
+use Rattle.plain_tables.proofs.Referring.{RefersElsewhere, references_elsewhere}
+use Rattle.plain_tables.proofs.Rows.{key_cmp_total, with_row-rises}
+use Rattle.plain_tables.proofs.Taken.{one_row_more}
 use Rattle.mm_catalog.proofs.AnyOrder.{has_key, AllHeld, AllNew, other_with, member_with, load_in_any_order}
 use Rattle.mm_catalog.proofs.Anywhere.{all_pass, none_counted}
 

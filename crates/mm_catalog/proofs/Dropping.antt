@@ -15,7 +15,7 @@ use Rattle.plain_tables.specs.References.{is_table_referenced, IsSound}
 use Rattle.plain_tables.specs.ResolvedLaws.{IsMeant}
 use Rattle.plain_tables.specs.declared.numbers.TableNumber.{TableNumber}
 use Rattle.plain_tables.specs.declared.resolved.Resolved.TheVariants as resolved
-use Rattle.plain_tables.proofs.SoundLemmas.{done_keeps_sound}
+use Rattle.plain_tables.proofs.Sound.{done_keeps_sound}
 use Rattle.mm_relation.specs.Rows.{referrers_at}
 use Rattle.mm_relation.specs.State.{RelationState, IsKept}
 use Rattle.mm_catalog.specs.State.{CatalogState}

@@ -5,7 +5,7 @@ use Rattle.plain_tables.specs.declared.command.Limits.{Limits}
 use Rattle.mm_catalog.specs.State.{CatalogState}
 use Rattle.mm_catalog.specs.Seen.{database_of}
 use Rattle.mm_catalog.specs.Consistent.{IsConsistent}
-use Rattle.plain_tables.proofs.SoundLemmas.{no_tables_are_sound}
+use Rattle.plain_tables.proofs.Sound.{no_tables_are_sound}
 
 abbrev pub no_tables : Limits → CatalogState
 no_tables limits = record { limits = limits; names = []; relations = [] }

@@ -13,7 +13,7 @@ use Rattle.plain_tables.specs.declared.numbers.TableNumber.{TableNumber}
 use Rattle.plain_tables.specs.declared.refusal.Refusal.{Refusal}
 use Rattle.plain_tables.specs.declared.refusal.Refusal.TheVariants.{NoMemory}
 use Rattle.plain_tables.specs.declared.resolved.Resolved.TheVariants as resolved
-use Rattle.plain_tables.proofs.SoundLemmas.{CanTake, can_take_on}
+use Rattle.plain_tables.proofs.Sound.{CanTake, can_take_on}
 use Rattle.mm_catalog.specs.State.{CatalogState}
 use Rattle.mm_catalog.specs.Seen.{database_of}
 use Rattle.mm_catalog.specs.Changes.{HasEffect, IsRefusedFor}

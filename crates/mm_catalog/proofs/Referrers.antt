@@ -29,7 +29,7 @@ use Rattle.plain_tables.specs.declared.schema.Column.{Column}
 use Rattle.plain_tables.specs.declared.value.Value.{Value}
 use Rattle.plain_tables.specs.declared.value.Value.TheVariants as value
 use Rattle.plain_tables.specs.declared.value.Value.TheVariants.{Null}
-use Rattle.plain_tables.proofs.ValueLemmas.{value_cmp-exact}
+use Rattle.plain_tables.proofs.Values.{value_cmp-exact}
 use Rattle.mm_relation.specs.Rows.{Row, referrers_at}
 use Rattle.mm_relation.specs.declared.row.Cell.{Cell}
 use Rattle.mm_relation.specs.declared.row.Cell.TheVariants.{Held, Link}

@@ -16,7 +16,7 @@ use Rattle.mm_index.specs.Order.{insert_placed}
 use Rattle.plain_tables.specs.Tables.{key_cmp, with_row}
 use Rattle.plain_tables.specs.Values.{value_cmp}
 use Rattle.plain_tables.specs.declared.value.Value.{Value}
-use Rattle.plain_tables.proofs.RowLemmas.{key_cmp_total}
+use Rattle.plain_tables.proofs.Rows.{key_cmp_total}
 use Rattle.mm_relation.specs.Rows.{Row}
 use Rattle.mm_relation.specs.Changes.{IsInserted}
 use Rattle.mm_relation.specs.Reading.{Keys}

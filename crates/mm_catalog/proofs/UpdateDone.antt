@@ -10,7 +10,7 @@ use Rattle.std.proofs.lemmas.Option.{slice_get-get_or, slice_get_within, slice_g
 use Rattle.common_lemmas.proofs.Places.{slice_get-inside}
 use Rattle.common_lemmas.proofs.Elements.{All-at}
 use Rattle.part_raw.specs.declared.tuple_ref.TupleRef.{TupleRef}
-use Rattle.plain_tables.proofs.SoundLemmas.{update_keeps_sound}
+use Rattle.plain_tables.proofs.Sound.{update_keeps_sound}
 use Rattle.plain_tables.specs.Databases.{Database}
 use Rattle.plain_tables.specs.Doing.{assigned, assigned_references, picked, update, updated}
 use Rattle.plain_tables.specs.Effects.{Changed, Refused, repeats}

@@ -27,7 +27,6 @@ use std::alloc::Global;
 use std::marker::Model;
 
 /// Tables by name, in the order of their declaration, each a relation.
-#[derive(Drop)]
 pub struct Catalog {
     pub(crate) limits: Limits,
     pub(crate) names: IndexSet<String>,
@@ -37,6 +36,19 @@ pub struct Catalog {
     // Where an update lists the cells that it sets and the links that go. They keep their memory too.
     pub(crate) sets: Vec<(ColumnNumber, StoredCell)>,
     pub(crate) lost: Vec<Link>,
+}
+
+impl Drop for Catalog {
+    fn drop(self) {
+        let Catalog {
+            limits: _,
+            names: _,
+            relations: _,
+            cells: _,
+            sets: _,
+            lost: _,
+        } = self;
+    }
 }
 
 impl Model for Catalog {

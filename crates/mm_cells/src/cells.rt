@@ -23,14 +23,14 @@ pub const TEXT: u16 = 2;
 /// A null; an integer; or a text, by its place and its length among the bytes of the texts.
 #[repr(C)]
 #[derive(Clone, Copy, Debug)]
-pub struct Cell {
+pub struct ResultCell {
     pub integer: i64,
     pub at: u32,
     pub length: u16,
     pub kind: u16,
 }
 
-const _: () = prove!(size_of::<Cell>() == 16);
+const _: () = prove!(size_of::<ResultCell>() == 16);
 
 // Appends a full name, a table's and a column's with a dot between them, to the bytes of texts: all of it, or nothing.
 fn append_name(texts: &mut Vec<u8>, table: &str, column: &str) -> Result<(), NoMemory>
@@ -47,7 +47,7 @@ fn append_name(texts: &mut Vec<u8>, table: &str, column: &str) -> Result<(), NoM
 /// Values as cells, and the bytes of their texts, which a program reads where they lie. Contracts see both, and so their addresses.
 #[derive(Drop)]
 pub struct Cells {
-    pub cells: Vec<Cell>,
+    pub cells: Vec<ResultCell>,
     pub texts: Vec<u8>,
     ghost readable: { All (IsReadable texts.items) cells.items },
     ghost in_turn: { texts_of (map (cell_value texts.items) cells.items) ≡ texts.items },
@@ -74,7 +74,7 @@ impl Cells {
     }
 
     // Puts a cell that is no text behind the others.
-    fn put(&mut self, cell: Cell) -> Result<(), NoMemory>
+    fn put(&mut self, cell: ResultCell) -> Result<(), NoMemory>
         requires no_text { cell.kind < 2 }
         requires nowhere { cell.at + cell.length ≡ 0 }
         ensures pushed { OnOk result (values_of self.new ≡ values_of self.old ++ cell_value [] cell ∷ []) }
@@ -89,7 +89,7 @@ impl Cells {
         ensures pushed { OnOk result (values_of self.new ≡ values_of self.old ++ value.Null ∷ []) }
         ensures unchanged { OnErr result (values_of self.new ≡ values_of self.old) }
     {
-        self.put(Cell {
+        self.put(ResultCell {
             integer: 0,
             at: 0,
             length: 0,
@@ -102,7 +102,7 @@ impl Cells {
         ensures pushed { OnOk result (values_of self.new ≡ values_of self.old ++ value.Int integer ∷ []) }
         ensures unchanged { OnErr result (values_of self.new ≡ values_of self.old) }
     {
-        self.put(Cell {
+        self.put(ResultCell {
             integer,
             at: 0,
             length: 0,
@@ -126,7 +126,7 @@ impl Cells {
         };
         self.cells.reserve(1)?;
         self.texts.extend_from_slice(text.as_bytes())?;
-        self.cells.push_reserved(Cell {
+        self.cells.push_reserved(ResultCell {
             integer: 0,
             at,
             length,
@@ -149,7 +149,7 @@ impl Cells {
         };
         self.cells.reserve(1)?;
         append_name(&mut self.texts, table, column)?;
-        self.cells.push(Cell {
+        self.cells.push(ResultCell {
             integer: 0,
             at,
             length,

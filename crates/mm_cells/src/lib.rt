@@ -6,5 +6,5 @@
 mod cells;
 mod fault;
 
-pub use cells::{Cell, Cells, INTEGER, NULL, TEXT};
+pub use cells::{Cells, INTEGER, NULL, ResultCell, TEXT};
 pub use fault::CellFault;

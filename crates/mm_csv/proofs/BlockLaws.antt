@@ -12,7 +12,7 @@ use Rattle.std.proofs.lemmas.List.{length-map}
 use Rattle.std.proofs.lemmas.Slice.Zip.{AllZip-long}
 use Rattle.std.proofs.lemmas.Str.{is_utf8-from_IsUtf8}
 use Rattle.std.proofs.lemmas.List.Elements.{All-head, All-tail}
-use Rattle.plain_tables.proofs.BlockLemmas.{fits_64_bits}
+use Rattle.plain_tables.proofs.Blocks.{fits_64_bits}
 use Rattle.common_lemmas.proofs.Tests.{and_false}
 use Rattle.plain_tables.proofs.Canonical.{integer-text}
 use Rattle.csv.specs.Machine.{next_record}
@@ -26,11 +26,11 @@ use Rattle.plain_tables.specs.Spelling.{IsInteger}
 use Rattle.plain_tables.specs.Tables.{Row}
 use Rattle.plain_tables.specs.declared.value.Value.{Value}
 use Rattle.plain_tables.specs.declared.value.Value.TheVariants as value
-use Rattle.mm_csv.proofs.CsvLemmas.{record-same}
-use Rattle.mm_csv.proofs.FieldLemmas.{SaysInteger, integer-there, numeral-is}
+use Rattle.mm_csv.proofs.Csv.{record-same}
+use Rattle.mm_csv.proofs.FieldParts.{SaysInteger, integer-there, numeral-is}
 use Rattle.mm_csv.proofs.PlainFields.{name-plain}
-use Rattle.mm_csv.proofs.ReaderLemmas.{one-record}
-use Rattle.mm_csv.proofs.ReadingLemmas.{cells, same-texts}
+use Rattle.mm_csv.proofs.Readers.{one-record}
+use Rattle.mm_csv.proofs.Reading.{cells, same-texts}
 use Rattle.mm_csv.specs.BlockReading.{block_reading, records_behind}
 use Rattle.mm_csv.specs.BlockLaws.{BlocksReadBack, FieldsSpellIntegers}
 

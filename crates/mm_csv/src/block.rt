@@ -9,7 +9,7 @@ use plain_tables::{NoMemory, Sequence, Text, Value};
 use std::alloc::Global;
 
 /// The names as a record, and then each row as a record.
-#[tactic(auto, using(crate::proofs::BlockLemmas::block_begun, crate::proofs::BlockLemmas::block_more, crate::proofs::BlockLemmas::block_done))]
+#[tactic(auto, using(crate::proofs::Blocks::block_begun, crate::proofs::Blocks::block_more, crate::proofs::Blocks::block_done))]
 pub fn block_of(
     alloc: Global,
     names: &[Text],

@@ -10,7 +10,7 @@ ghost use Rattle.mm_lang.specs.Printing.{IsFree, joined, kind_symbols-free, colu
 use crate::ParseRefusal;
 use crate::lexemes::split_lexeme;
 use crate::numbers::push_integer;
-use crate::places::Place;
+use crate::places::LinePlace;
 use crate::sink::Sink;
 use crate::stops::Stopped;
 use crate::symbols::{after, expect, name, operator};
@@ -24,13 +24,13 @@ pub trait Item: Drop {
     ghost symbols: { Self → List Symbol };
 
     /// The item at the front, which begins at this place, and what stands behind it.
-    fn read(alloc: Global, line: &[u8], place: Place) -> Result<(Self, &[u8]), Stopped>
+    fn read(alloc: Global, line: &[u8], place: LinePlace) -> Result<(Self, &[u8]), Stopped>
         ensures item { IfOk result (λ r. BeginsWith symbols line.now r.0 r.1.now) }
         ensures syntax { IsErrOf result ParseRefusal.Syntax → BeginsWithNone symbols line.now };
 
     /// The place behind it, where no more items of a list follow.
-    fn place_behind(&self) -> Place {
-        Place::BehindListed
+    fn place_behind(&self) -> LinePlace {
+        LinePlace::BehindListed
     }
 }
 
@@ -48,7 +48,7 @@ pub(crate) fn value(
     alloc: Global,
     characters: &[u8],
     left: &[u8],
-    place: Place,
+    place: LinePlace,
 ) -> Result<Value, Stopped>
     ensures value { IfOk result (λ v. IsSymbol characters.now (Literal v)) }
     ensures syntax { IsErrOf result ParseRefusal.Syntax → IsUtf8 characters.now → (v : Value) → IsSymbol characters.now (Literal v) → ⊥ }
@@ -68,7 +68,7 @@ pub(crate) fn value(
 impl Item for Value {
     ghost symbols = { value_symbols };
 
-    fn read(alloc: Global, line: &[u8], place: Place) -> Result<(Value, &[u8]), Stopped> {
+    fn read(alloc: Global, line: &[u8], place: LinePlace) -> Result<(Value, &[u8]), Stopped> {
         let (characters, rest) = split_lexeme(line);
         Ok((value(alloc, characters, line, place)?, rest))
     }
@@ -90,7 +90,7 @@ impl PrintedItem for Value {
 impl Item for ColKind {
     ghost symbols = { kind_symbols };
 
-    fn read(alloc: Global, line: &[u8], place: Place) -> Result<(ColKind, &[u8]), Stopped> {
+    fn read(alloc: Global, line: &[u8], place: LinePlace) -> Result<(ColKind, &[u8]), Stopped> {
         if let Some(rest) = after(line, b"int") {
             return Ok((ColKind::Int, rest));
         }
@@ -98,7 +98,7 @@ impl Item for ColKind {
             return Ok((ColKind::Text, rest));
         }
         let front = expect(line, b"ref", place)?;
-        let (table, rest) = name(alloc, front, Place::Table)?;
+        let (table, rest) = name(alloc, front, LinePlace::Table)?;
         match after(rest, b"null") {
             Some(behind) => Ok((ColKind::RefOrNull(table), behind)),
             None => Ok((ColKind::Ref(table), rest)),
@@ -130,16 +130,16 @@ impl PrintedItem for ColKind {
 impl Item for Column {
     ghost symbols = { column_symbols };
 
-    fn read(alloc: Global, line: &[u8], place: Place) -> Result<(Column, &[u8]), Stopped> {
+    fn read(alloc: Global, line: &[u8], place: LinePlace) -> Result<(Column, &[u8]), Stopped> {
         let (name, line) = name(alloc, line, place)?;
-        let (kind, line) = ColKind::read(alloc, line, Place::ColumnType)?;
+        let (kind, line) = ColKind::read(alloc, line, LinePlace::ColumnType)?;
         Ok((Column { name, kind }, line))
     }
 
-    fn place_behind(&self) -> Place {
+    fn place_behind(&self) -> LinePlace {
         match self.kind {
-            ColKind::Ref(_) => Place::BehindReference,
-            _ => Place::BehindListed,
+            ColKind::Ref(_) => LinePlace::BehindReference,
+            _ => LinePlace::BehindListed,
         }
     }
 }
@@ -157,7 +157,7 @@ impl PrintedItem for Column {
 impl Item for ColName {
     ghost symbols = { name_symbols };
 
-    fn read(alloc: Global, line: &[u8], place: Place) -> Result<(ColName, &[u8]), Stopped> {
+    fn read(alloc: Global, line: &[u8], place: LinePlace) -> Result<(ColName, &[u8]), Stopped> {
         let (first, rest) = name(alloc, line, place)?;
         match after(rest, b".") {
             None => Ok((
@@ -168,7 +168,7 @@ impl Item for ColName {
                 rest,
             )),
             Some(behind) => {
-                let (column, rest) = name(alloc, behind, Place::Column)?;
+                let (column, rest) = name(alloc, behind, LinePlace::Column)?;
                 Ok((
                     ColName {
                         table: Some(first),
@@ -180,10 +180,10 @@ impl Item for ColName {
         }
     }
 
-    fn place_behind(&self) -> Place {
+    fn place_behind(&self) -> LinePlace {
         match self.table {
-            Some(_) => Place::BehindItem,
-            None => Place::BehindItemName,
+            Some(_) => LinePlace::BehindItem,
+            None => LinePlace::BehindItemName,
         }
     }
 }
@@ -205,22 +205,22 @@ impl PrintedItem for ColName {
 pub(crate) fn assigned<V: Item>(
     alloc: Global,
     line: &[u8],
-    place: Place,
+    place: LinePlace,
 ) -> Result<(Text, V, &[u8]), Stopped>
     ensures item { IfOk result (λ r. BeginsWith (assigned_symbols V.symbols) line.now (r.0, r.1) r.2.now) }
     ensures syntax { IsErrOf result ParseRefusal.Syntax → BeginsWithNone (assigned_symbols V.symbols) line.now }
 {
     let (column, line) = name(alloc, line, place)?;
-    let line = expect(line, b"=", Place::Equals)?;
-    let (value, line) = V::read(alloc, line, Place::Value)?;
+    let line = expect(line, b"=", LinePlace::Equals)?;
+    let (value, line) = V::read(alloc, line, LinePlace::Value)?;
     Ok((column, value, line))
 }
 
 // The place behind the column of a condition.
-fn operator_place(column: &ColName) -> Place {
+fn operator_place(column: &ColName) -> LinePlace {
     match column.table {
-        Some(_) => Place::Operator,
-        None => Place::BehindConditionName,
+        Some(_) => LinePlace::Operator,
+        None => LinePlace::BehindConditionName,
     }
 }
 
@@ -228,21 +228,21 @@ fn operator_place(column: &ColName) -> Place {
 pub(crate) fn compared<V: Item>(
     alloc: Global,
     line: &[u8],
-    place: Place,
+    place: LinePlace,
 ) -> Result<(ColName, Op, V, &[u8]), Stopped>
     ensures item { IfOk result (λ r. BeginsWith (compared_symbols V.symbols) line.now (r.0, r.1, r.2) r.3.now) }
     ensures syntax { IsErrOf result ParseRefusal.Syntax → BeginsWithNone (compared_symbols V.symbols) line.now }
 {
     let (column, line) = ColName::read(alloc, line, place)?;
     let (op, line) = operator(line, operator_place(&column))?;
-    let (value, line) = V::read(alloc, line, Place::ComparedValue)?;
+    let (value, line) = V::read(alloc, line, LinePlace::ComparedValue)?;
     Ok((column, op, value, line))
 }
 
 impl Item for Setting {
     ghost symbols = { setting_symbols };
 
-    fn read(alloc: Global, line: &[u8], place: Place) -> Result<(Setting, &[u8]), Stopped> {
+    fn read(alloc: Global, line: &[u8], place: LinePlace) -> Result<(Setting, &[u8]), Stopped> {
         let (column, value, line) = assigned(alloc, line, place)?;
         Ok((Setting { column, value }, line))
     }
@@ -275,7 +275,7 @@ fn operator_str(op: Op) -> &'static str
 impl Item for Cond {
     ghost symbols = { condition_symbols };
 
-    fn read(alloc: Global, line: &[u8], place: Place) -> Result<(Cond, &[u8]), Stopped> {
+    fn read(alloc: Global, line: &[u8], place: LinePlace) -> Result<(Cond, &[u8]), Stopped> {
         let (column, op, value, line) = compared(alloc, line, place)?;
         Ok((Cond { column, op, value }, line))
     }
@@ -299,8 +299,8 @@ pub fn list<'a, T: Item>(
     alloc: Global,
     line: &'a [u8],
     between: &[u8],
-    first: Place,
-    further: Place,
+    first: LinePlace,
+    further: LinePlace,
 ) -> Result<(Vec<T>, &'a [u8]), Stopped>
     requires some { 0 < length between.now }
     requires ends_item { EndsItem between.now }
@@ -322,10 +322,10 @@ pub fn list<'a, T: Item>(
 }
 
 /// The place behind the last item of a list.
-pub(crate) fn behind_last<T: Item>(items: &[T]) -> Place {
+pub(crate) fn behind_last<T: Item>(items: &[T]) -> LinePlace {
     match items.last() {
         Some(item) => item.place_behind(),
-        None => Place::BehindListed,
+        None => LinePlace::BehindListed,
     }
 }
 

@@ -8,7 +8,7 @@ ghost use Rattle.mm_lang.specs.Printing.{behind};
 
 use crate::ParseRefusal;
 use crate::items::{Item, PrintedItem, list, push_list};
-use crate::places::Place;
+use crate::places::LinePlace;
 use crate::sink::Sink;
 use crate::stops::Stopped;
 use crate::symbols::{after, expect, name};
@@ -18,10 +18,10 @@ use std::alloc::Global;
 impl Item for JoinSide {
     ghost symbols = { side_symbols };
 
-    fn read(alloc: Global, line: &[u8], place: Place) -> Result<(JoinSide, &[u8]), Stopped> {
+    fn read(alloc: Global, line: &[u8], place: LinePlace) -> Result<(JoinSide, &[u8]), Stopped> {
         let (table, line) = name(alloc, line, place)?;
-        let line = expect(line, b".", Place::Dot)?;
-        let (column, line) = name(alloc, line, Place::Column)?;
+        let line = expect(line, b".", LinePlace::Dot)?;
+        let (column, line) = name(alloc, line, LinePlace::Column)?;
         Ok((JoinSide { table, column }, line))
     }
 }
@@ -41,12 +41,12 @@ impl PrintedItem for JoinSide {
 impl Item for Join {
     ghost symbols = { joined_symbols };
 
-    fn read(alloc: Global, line: &[u8], place: Place) -> Result<(Join, &[u8]), Stopped> {
+    fn read(alloc: Global, line: &[u8], place: LinePlace) -> Result<(Join, &[u8]), Stopped> {
         let (table, line) = name(alloc, line, place)?;
-        let line = expect(line, b"on", Place::On)?;
-        let (left, line) = JoinSide::read(alloc, line, Place::Table)?;
-        let line = expect(line, b"=", Place::Equals)?;
-        let (right, line) = JoinSide::read(alloc, line, Place::Table)?;
+        let line = expect(line, b"on", LinePlace::On)?;
+        let (left, line) = JoinSide::read(alloc, line, LinePlace::Table)?;
+        let line = expect(line, b"=", LinePlace::Equals)?;
+        let (right, line) = JoinSide::read(alloc, line, LinePlace::Table)?;
         Ok((Join { table, left, right }, line))
     }
 }
@@ -70,7 +70,7 @@ pub fn joins(alloc: Global, line: &[u8]) -> Result<(Vec<Join>, &[u8]), Stopped>
 {
     match after(line, b"join") {
         None => Ok((Vec::new(alloc), line)),
-        Some(front) => list(alloc, front, b"join", Place::Table, Place::Table),
+        Some(front) => list(alloc, front, b"join", LinePlace::Table, LinePlace::Table),
     }
 }
 

@@ -36,7 +36,7 @@ mod texts;
 pub use lexemes::split_lexeme;
 pub use line::Line;
 pub use parser::{block_length, parse, parse_or_stop};
-pub use places::{Place, Wanted};
+pub use places::{LinePlace, Wanted};
 pub use printer::{print, print_index, print_load, print_table};
 pub use refusal::ParseRefusal;
 pub use sink::Sink;

@@ -18,7 +18,7 @@ use crate::joins::joins;
 use crate::lexemes::split_lexeme;
 use crate::line::Line;
 use crate::numbers::count;
-use crate::places::Place;
+use crate::places::LinePlace;
 use crate::stops::Stopped;
 use crate::symbols::{after, after_name, expect, index_kind, name};
 use plain_tables::{Command, IndexKind, Items, Join, Schema, Sequence, Text};
@@ -85,7 +85,7 @@ pub fn parse_or_stop(alloc: Global, line: &Line<'_>) -> Result<Command, Stopped>
     ensures syntax { IsErrOf result ParseRefusal.Syntax → (c : Command) → Spells line.now c → ⊥ }
 {
     let Some(word) = command_word(line.word()) else {
-        return Err(Stopped::at(line.as_str().as_bytes(), Place::Command));
+        return Err(Stopped::at(line.as_str().as_bytes(), LinePlace::Command));
     };
     command(alloc, word, line.rest())
 }
@@ -118,7 +118,7 @@ fn table(alloc: Global, line: &[u8]) -> Result<Command, Stopped>
     ensures command { IfOk result (λ c. Completes (codes "table") line.now c) }
     ensures syntax { IsErrOf result ParseRefusal.Syntax → IsOfText line.now → (c : Command) → Completes (codes "table") line.now c → ⊥ }
 {
-    let (name, columns) = name_and_list(alloc, line, Place::Columns, Place::Column)?;
+    let (name, columns) = name_and_list(alloc, line, LinePlace::Columns, LinePlace::Column)?;
     Ok(Command::Table {
         name,
         schema: Schema {
@@ -136,7 +136,7 @@ fn drop_command(alloc: Global, line: &[u8]) -> Result<Command, Stopped>
         let table = only_name(alloc, front)?;
         return Ok(Command::DropTable { table });
     }
-    let front = expect(line, b"index", Place::Dropped)?;
+    let front = expect(line, b"index", LinePlace::Dropped)?;
     let (table, column, kind) = index_parts(alloc, front)?;
     Ok(Command::DropIndex {
         table,
@@ -163,7 +163,7 @@ fn tables(line: &[u8]) -> Result<Command, Stopped>
     ensures command { IfOk result (λ c. Completes (codes "tables") line.now c) }
     ensures syntax { IsErrOf result ParseRefusal.Syntax → (c : Command) → Completes (codes "tables") line.now c → ⊥ }
 {
-    end(line, Place::End)?;
+    end(line, LinePlace::End)?;
     Ok(Command::Tables)
 }
 
@@ -172,7 +172,7 @@ fn load(alloc: Global, line: &[u8]) -> Result<Command, Stopped>
     ensures command { IfOk result (λ c. Completes (codes "load") line.now c) }
     ensures syntax { IsErrOf result ParseRefusal.Syntax → (c : Command) → Completes (codes "load") line.now c → ⊥ }
 {
-    let (table, rest) = name(alloc, line, Place::Table)?;
+    let (table, rest) = name(alloc, line, LinePlace::Table)?;
     let bytes = only_count(rest)?;
     Ok(Command::Load { table, bytes })
 }
@@ -191,7 +191,7 @@ fn insert(alloc: Global, line: &[u8]) -> Result<Command, Stopped>
     ensures command { IfOk result (λ c. Completes (codes "insert") line.now c) }
     ensures syntax { IsErrOf result ParseRefusal.Syntax → IsOfText line.now → (c : Command) → Completes (codes "insert") line.now c → ⊥ }
 {
-    let (table, values) = name_and_list(alloc, line, Place::Values, Place::Value)?;
+    let (table, values) = name_and_list(alloc, line, LinePlace::Values, LinePlace::Value)?;
     Ok(Command::Insert {
         table,
         values: Sequence::from_vec(values),
@@ -246,10 +246,10 @@ pub(crate) fn update_parts<S: Item, C: Item>(
     ensures parts { IfOk result (λ r. IsUpdate S.symbols C.symbols line.now r.0 r.1.items r.2.items) }
     ensures syntax { IsErrOf result ParseRefusal.Syntax → IsOfText line.now → (table : List ℕ) (ss : List S) (cs : List C) → IsUpdate S.symbols C.symbols line.now table ss cs → ⊥ }
 {
-    let (table, behind_name) = name(alloc, line, Place::Table)?;
-    let front = expect(behind_name, b"set", Place::Set)?;
-    let (settings, rest) = list(alloc, front, b",", Place::Column, Place::Column)?;
-    let conditions = conditions(alloc, rest, Place::BehindSetting)?;
+    let (table, behind_name) = name(alloc, line, LinePlace::Table)?;
+    let front = expect(behind_name, b"set", LinePlace::Set)?;
+    let (settings, rest) = list(alloc, front, b",", LinePlace::Column, LinePlace::Column)?;
+    let conditions = conditions(alloc, rest, LinePlace::BehindSetting)?;
     Ok((table, settings, conditions))
 }
 
@@ -258,8 +258,8 @@ pub(crate) fn delete_parts<C: Item>(alloc: Global, line: &[u8]) -> Result<(Text,
     ensures parts { IfOk result (λ r. IsDelete C.symbols line.now r.0 r.1.items) }
     ensures syntax { IsErrOf result ParseRefusal.Syntax → IsOfText line.now → (table : List ℕ) (cs : List C) → IsDelete C.symbols line.now table cs → ⊥ }
 {
-    let (table, rest) = name(alloc, line, Place::DeletedTable)?;
-    let conditions = conditions(alloc, rest, Place::BehindDeletedTable)?;
+    let (table, rest) = name(alloc, line, LinePlace::DeletedTable)?;
+    let conditions = conditions(alloc, rest, LinePlace::BehindDeletedTable)?;
     Ok((table, conditions))
 }
 
@@ -301,32 +301,32 @@ fn distinct(line: &[u8]) -> (bool, &[u8])
 }
 
 // The place of the first item of a select.
-fn first_item(distinct: bool) -> Place {
+fn first_item(distinct: bool) -> LinePlace {
     if distinct {
-        Place::Distinct
+        LinePlace::Distinct
     } else {
-        Place::Select
+        LinePlace::Select
     }
 }
 
 // * or NAME {, NAME}
-fn items(alloc: Global, line: &[u8], place: Place) -> Result<(Items, &[u8]), Stopped>
+fn items(alloc: Global, line: &[u8], place: LinePlace) -> Result<(Items, &[u8]), Stopped>
     ensures items { IfOk result (λ r. BeginsWithItems line.now r.0 r.1.now) }
     ensures syntax { IsErrOf result ParseRefusal.Syntax → BeginsWithNoItems line.now }
 {
     match after(line, b"*") {
         Some(rest) => Ok((Items::All, rest)),
         None => {
-            let (names, rest) = list(alloc, line, b",", place, Place::Column)?;
+            let (names, rest) = list(alloc, line, b",", place, LinePlace::Column)?;
             Ok((Items::Named(Sequence::from_vec(names)), rest))
         }
     }
 }
 
 // The place behind the items of a select.
-fn behind_items(items: &Items) -> Place {
+fn behind_items(items: &Items) -> LinePlace {
     match items {
-        Items::All => Place::From,
+        Items::All => LinePlace::From,
         Items::Named(names) => behind_last(names.as_slice()),
     }
 }
@@ -335,20 +335,20 @@ fn behind_items(items: &Items) -> Place {
 fn from<C: Item>(
     alloc: Global,
     line: &[u8],
-    place: Place,
+    place: LinePlace,
 ) -> Result<(Text, Vec<Join>, Vec<C>), Stopped>
     ensures parts { IfOk result (λ r. IsFrom C.symbols line.now r.0 r.1.items r.2.items) }
     ensures syntax { IsErrOf result ParseRefusal.Syntax → IsOfText line.now → (table : List ℕ) (js : List Join) (cs : List C) → IsFrom C.symbols line.now table js cs → ⊥ }
 {
     let front = expect(line, b"from", place)?;
-    let (table, behind_table) = name(alloc, front, Place::Table)?;
+    let (table, behind_table) = name(alloc, front, LinePlace::Table)?;
     let (joins, rest) = joins(alloc, behind_table)?;
-    let conditions = conditions(alloc, rest, Place::BehindTable)?;
+    let conditions = conditions(alloc, rest, LinePlace::BehindTable)?;
     Ok((table, joins, conditions))
 }
 
 // where CONDITION {and CONDITION}, or nothing, and the end of the line
-fn conditions<C: Item>(alloc: Global, line: &[u8], place: Place) -> Result<Vec<C>, Stopped>
+fn conditions<C: Item>(alloc: Global, line: &[u8], place: LinePlace) -> Result<Vec<C>, Stopped>
     ensures conditions { IfOk result (λ v. IsWhere C.symbols line.now v.items) }
     ensures syntax { IsErrOf result ParseRefusal.Syntax → IsOfText line.now → (cs : List C) → IsWhere C.symbols line.now cs → ⊥ }
 {
@@ -356,8 +356,8 @@ fn conditions<C: Item>(alloc: Global, line: &[u8], place: Place) -> Result<Vec<C
         end(line, place)?;
         return Ok(Vec::new(alloc));
     };
-    let (conditions, rest) = list(alloc, front, b"and", Place::Column, Place::Column)?;
-    end(rest, Place::BehindCondition)?;
+    let (conditions, rest) = list(alloc, front, b"and", LinePlace::Column, LinePlace::Column)?;
+    end(rest, LinePlace::BehindCondition)?;
     Ok(conditions)
 }
 
@@ -366,8 +366,8 @@ fn only_name(alloc: Global, line: &[u8]) -> Result<Text, Stopped>
     ensures name { IfOk result (λ name. IsWhole line.now (Name name ∷ [])) }
     ensures syntax { IsErrOf result ParseRefusal.Syntax → (name : List ℕ) → IsWhole line.now (Name name ∷ []) → ⊥ }
 {
-    let (name, rest) = name(alloc, line, Place::Table)?;
-    end(rest, Place::End)?;
+    let (name, rest) = name(alloc, line, LinePlace::Table)?;
+    end(rest, LinePlace::End)?;
     Ok(name)
 }
 
@@ -377,9 +377,9 @@ fn only_count(line: &[u8]) -> Result<u64, Stopped>
 {
     let (characters, rest) = split_lexeme(line);
     let Some(number) = count(characters) else {
-        return Err(Stopped::at(line, Place::Count));
+        return Err(Stopped::at(line, LinePlace::Count));
     };
-    end(rest, Place::End)?;
+    end(rest, LinePlace::End)?;
     Ok(number)
 }
 
@@ -388,10 +388,10 @@ fn index_parts(alloc: Global, line: &[u8]) -> Result<(Text, Text, IndexKind), St
     ensures parts { IfOk result (λ r. IsWhole line.now (index_symbols r.0 r.1 r.2)) }
     ensures syntax { IsErrOf result ParseRefusal.Syntax → (table column : List ℕ) (k : IndexKind) → IsWhole line.now (index_symbols table column k) → ⊥ }
 {
-    let (table, behind_table) = name(alloc, line, Place::Table)?;
-    let (column, behind_column) = name(alloc, behind_table, Place::IndexedColumn)?;
+    let (table, behind_table) = name(alloc, line, LinePlace::Table)?;
+    let (column, behind_column) = name(alloc, behind_table, LinePlace::IndexedColumn)?;
     let (kind, rest) = index_kind(behind_column)?;
-    end(rest, Place::End)?;
+    end(rest, LinePlace::End)?;
     Ok((table, column, kind))
 }
 
@@ -399,22 +399,22 @@ fn index_parts(alloc: Global, line: &[u8]) -> Result<(Text, Text, IndexKind), St
 pub(crate) fn name_and_list<T: Item>(
     alloc: Global,
     line: &[u8],
-    opening: Place,
-    place: Place,
+    opening: LinePlace,
+    place: LinePlace,
 ) -> Result<(Text, Vec<T>), Stopped>
     ensures both { IfOk result (λ r. IsNameAndList T.symbols line.now r.0 r.1.items) }
     ensures syntax { IsErrOf result ParseRefusal.Syntax → IsOfText line.now → (name : List ℕ) (xs : List T) → IsNameAndList T.symbols line.now name xs → ⊥ }
 {
-    let (name, behind_name) = name(alloc, line, Place::Table)?;
+    let (name, behind_name) = name(alloc, line, LinePlace::Table)?;
     let front = expect(behind_name, b"(", opening)?;
     let (items, behind_items) = list(alloc, front, b",", place, place)?;
     let rest = expect(behind_items, b")", behind_last(items.as_slice()))?;
-    end(rest, Place::End)?;
+    end(rest, LinePlace::End)?;
     Ok((name, items))
 }
 
 // Refuses a line that isn't blanks alone.
-fn end(line: &[u8], place: Place) -> Result<(), Stopped>
+fn end(line: &[u8], place: LinePlace) -> Result<(), Stopped>
     ensures { MatchResult result (λ _. lexeme line.now ≡ []) (λ _. lexeme line.now ≢ []) }
 {
     let (characters, _) = split_lexeme(line);

@@ -20,7 +20,7 @@ pub enum Wanted {
 
 /// A place of a line: what has been read before it, as far as it matters for what may follow.
 #[derive(Clone, Copy, Debug, PartialEq, Eq)]
-pub enum Place {
+pub enum LinePlace {
     /// The first word of a command.
     Command,
     /// The first word of a statement.
@@ -84,38 +84,38 @@ const STATEMENTS: &[Wanted] = &[
     Keyword("select"),
 ];
 
-impl Place {
+impl LinePlace {
     /// What may stand here.
     pub fn wanted(self) -> &'static [Wanted] {
         match self {
-            Place::Command => COMMANDS,
-            Place::Statement => STATEMENTS,
-            Place::Table | Place::DeletedTable => &[TableName],
-            Place::Column | Place::IndexedColumn => &[ColumnName],
-            Place::Columns | Place::Values => &[Sign("(")],
-            Place::ColumnType => &[Keyword("int"), Keyword("text"), Keyword("ref")],
-            Place::BehindReference => &[Keyword("null"), Sign(","), Sign(")")],
-            Place::BehindListed => &[Sign(","), Sign(")")],
-            Place::Dropped => &[Keyword("table"), Keyword("index")],
-            Place::IndexKind => &[Keyword("tree"), Keyword("hash")],
-            Place::Value | Place::ComparedValue => &[Value],
-            Place::Set => &[Keyword("set")],
-            Place::Equals => &[Sign("=")],
-            Place::BehindSetting => &[Sign(","), Keyword("where"), End],
-            Place::BehindDeletedTable => &[Keyword("where"), End],
-            Place::Select => &[Keyword("distinct"), Sign("*"), ColumnName],
-            Place::Distinct => &[Sign("*"), ColumnName],
-            Place::BehindItemName => &[Sign("."), Sign(","), Keyword("from")],
-            Place::BehindItem => &[Sign(","), Keyword("from")],
-            Place::From => &[Keyword("from")],
-            Place::BehindTable => &[Keyword("join"), Keyword("where"), End],
-            Place::On => &[Keyword("on")],
-            Place::Dot => &[Sign(".")],
-            Place::BehindConditionName => &[Sign("."), Operator],
-            Place::Operator => &[Operator],
-            Place::BehindCondition => &[Keyword("and"), End],
-            Place::Count => &[Count],
-            Place::End => &[End],
+            LinePlace::Command => COMMANDS,
+            LinePlace::Statement => STATEMENTS,
+            LinePlace::Table | LinePlace::DeletedTable => &[TableName],
+            LinePlace::Column | LinePlace::IndexedColumn => &[ColumnName],
+            LinePlace::Columns | LinePlace::Values => &[Sign("(")],
+            LinePlace::ColumnType => &[Keyword("int"), Keyword("text"), Keyword("ref")],
+            LinePlace::BehindReference => &[Keyword("null"), Sign(","), Sign(")")],
+            LinePlace::BehindListed => &[Sign(","), Sign(")")],
+            LinePlace::Dropped => &[Keyword("table"), Keyword("index")],
+            LinePlace::IndexKind => &[Keyword("tree"), Keyword("hash")],
+            LinePlace::Value | LinePlace::ComparedValue => &[Value],
+            LinePlace::Set => &[Keyword("set")],
+            LinePlace::Equals => &[Sign("=")],
+            LinePlace::BehindSetting => &[Sign(","), Keyword("where"), End],
+            LinePlace::BehindDeletedTable => &[Keyword("where"), End],
+            LinePlace::Select => &[Keyword("distinct"), Sign("*"), ColumnName],
+            LinePlace::Distinct => &[Sign("*"), ColumnName],
+            LinePlace::BehindItemName => &[Sign("."), Sign(","), Keyword("from")],
+            LinePlace::BehindItem => &[Sign(","), Keyword("from")],
+            LinePlace::From => &[Keyword("from")],
+            LinePlace::BehindTable => &[Keyword("join"), Keyword("where"), End],
+            LinePlace::On => &[Keyword("on")],
+            LinePlace::Dot => &[Sign(".")],
+            LinePlace::BehindConditionName => &[Sign("."), Operator],
+            LinePlace::Operator => &[Operator],
+            LinePlace::BehindCondition => &[Keyword("and"), End],
+            LinePlace::Count => &[Count],
+            LinePlace::End => &[End],
         }
     }
 }

@@ -2,7 +2,7 @@
 
 ghost use Rattle.std.specs.Prelude.{◌≡◌};
 
-use plain_tables::NoMemory;
+use plain_tables::{NoMemory, Refusal};
 use std::alloc::{AllocError, AllocFailed};
 use thiserror::Error;
 
@@ -44,5 +44,18 @@ impl<T: Drop> From<AllocFailed<T>> for ParseRefusal {
 
     fn from(_: AllocFailed<T>) -> ParseRefusal {
         ParseRefusal::NoMemory
+    }
+}
+
+impl From<ParseRefusal> for Refusal {
+    ghost use Rattle.mm_lang.specs.Refusals.{refusal_of};
+
+    ghost from_gives = { λ p r. r ≡ refusal_of p };
+
+    fn from(refusal: ParseRefusal) -> Refusal {
+        match refusal {
+            ParseRefusal::Syntax => Refusal::NotACommand,
+            ParseRefusal::NoMemory => Refusal::NoMemory,
+        }
     }
 }

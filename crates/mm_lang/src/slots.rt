@@ -8,7 +8,7 @@ ghost use Rattle.mm_lang.specs.Statements.{slot_symbol, slot_by, setting_by, con
 
 use crate::items::{Item, assigned, compared, value};
 use crate::lexemes::split_lexeme;
-use crate::places::Place;
+use crate::places::LinePlace;
 use crate::stops::Stopped;
 use plain_statements::{Slot, SlotCond, SlotSetting};
 use std::alloc::Global;
@@ -27,7 +27,7 @@ pub trait SlotItem: Item {
 impl Item for Slot {
     ghost symbols = { slot_by slot_symbol };
 
-    fn read(alloc: Global, line: &[u8], place: Place) -> Result<(Slot, &[u8]), Stopped> {
+    fn read(alloc: Global, line: &[u8], place: LinePlace) -> Result<(Slot, &[u8]), Stopped> {
         let (characters, rest) = split_lexeme(line);
         if characters == b"?".as_slice() {
             return Ok((Slot::Hole(0), rest));
@@ -54,7 +54,7 @@ impl SlotItem for Slot {
 impl Item for SlotSetting {
     ghost symbols = { setting_by slot_symbol };
 
-    fn read(alloc: Global, line: &[u8], place: Place) -> Result<(SlotSetting, &[u8]), Stopped> {
+    fn read(alloc: Global, line: &[u8], place: LinePlace) -> Result<(SlotSetting, &[u8]), Stopped> {
         let (column, slot, line) = assigned(alloc, line, place)?;
         Ok((SlotSetting { column, slot }, line))
     }
@@ -71,7 +71,7 @@ impl SlotItem for SlotSetting {
 impl Item for SlotCond {
     ghost symbols = { condition_by slot_symbol };
 
-    fn read(alloc: Global, line: &[u8], place: Place) -> Result<(SlotCond, &[u8]), Stopped> {
+    fn read(alloc: Global, line: &[u8], place: LinePlace) -> Result<(SlotCond, &[u8]), Stopped> {
         let (column, op, slot, line) = compared(alloc, line, place)?;
         Ok((SlotCond { column, op, slot }, line))
     }

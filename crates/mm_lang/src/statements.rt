@@ -12,7 +12,7 @@ use crate::line::Line;
 use crate::parser::{
     CommandWord, SelectParts, command_word, delete_parts, name_and_list, select_parts, update_parts,
 };
-use crate::places::Place;
+use crate::places::LinePlace;
 use crate::slots::number_holes;
 use crate::stops::Stopped;
 use plain_statements::{Slot, SlotCond, SlotSetting, Statement};
@@ -35,7 +35,7 @@ fn statement(
         CommandWord::Insert => insert(alloc, rest),
         CommandWord::Select => select(alloc, rest),
         CommandWord::Update => update(alloc, rest),
-        _ => Err(Stopped::at(line, Place::Statement)),
+        _ => Err(Stopped::at(line, LinePlace::Statement)),
     }
 }
 
@@ -48,7 +48,7 @@ pub fn parse_statement_or_stop(alloc: Global, line: &Line<'_>) -> Result<Stateme
 {
     let whole = line.as_str().as_bytes();
     let Some(word) = command_word(line.word()) else {
-        return Err(Stopped::at(whole, Place::Statement));
+        return Err(Stopped::at(whole, LinePlace::Statement));
     };
     statement(alloc, whole, word, line.rest())
 }
@@ -71,8 +71,8 @@ fn insert(alloc: Global, line: &[u8]) -> Result<Statement, Stopped>
     let (table, mut slots): (Text, Vec<Slot>) = name_and_list(
         alloc,
         line,
-        Place::Values,
-        Place::Value,
+        LinePlace::Values,
+        LinePlace::Value,
     )?;
     number_holes(slots.as_mut_slice(), 0);
     Ok(Statement::Insert {

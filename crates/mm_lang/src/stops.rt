@@ -2,7 +2,7 @@
 
 ghost use Rattle.std.specs.Prelude.{◌≡◌, MatchOption};
 
-use crate::places::Place;
+use crate::places::LinePlace;
 use crate::refusal::ParseRefusal;
 use plain_tables::NoMemory;
 use std::alloc::AllocFailed;
@@ -13,7 +13,7 @@ use std::marker::Model;
 pub struct Stop {
     /// How many bytes of the line are left, those of the symbol and of the blanks before it among them.
     pub left: usize,
-    pub place: Place,
+    pub place: LinePlace,
 }
 
 /// Why a line gives no command or no statement, and where it stops if it spells none. Contracts see it as a `ParseRefusal`.
@@ -35,7 +35,7 @@ impl Model for Stopped {
 
 impl Stopped {
     /// That the symbol at the front of what is left of a line may not stand at a place.
-    pub(crate) fn at(left: &[u8], place: Place) -> Stopped
+    pub(crate) fn at(left: &[u8], place: LinePlace) -> Stopped
         ensures { result ≡ ParseRefusal.Syntax }
     {
         let left = left.len();
@@ -45,7 +45,7 @@ impl Stopped {
     }
 
     /// That the symbol at the front of what is left of a line is refused at a place.
-    pub(crate) fn by(refusal: ParseRefusal, left: &[u8], place: Place) -> Stopped
+    pub(crate) fn by(refusal: ParseRefusal, left: &[u8], place: LinePlace) -> Stopped
         ensures { result ≡ refusal }
     {
         match refusal {

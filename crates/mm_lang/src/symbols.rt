@@ -11,7 +11,7 @@ ghost use Rattle.plain_tables.specs.declared.schema.IndexKind.{IndexKind};
 
 use crate::ParseRefusal;
 use crate::lexemes::{is_letter_byte, is_word_byte, split_lexeme};
-use crate::places::Place;
+use crate::places::LinePlace;
 use crate::stops::Stopped;
 use plain_tables::{IndexKind, Op, Text};
 use std::alloc::Global;
@@ -93,7 +93,7 @@ pub fn after<'a>(line: &'a [u8], symbol: &[u8]) -> Option<&'a [u8]>
 }
 
 /// What stands behind this keyword or sign. The error is `Syntax`, where the line begins with something else.
-pub fn expect<'a>(line: &'a [u8], symbol: &[u8], place: Place) -> Result<&'a [u8], Stopped>
+pub fn expect<'a>(line: &'a [u8], symbol: &[u8], place: LinePlace) -> Result<&'a [u8], Stopped>
     ensures { MatchResult result (λ rest. (lexeme line.now ≡ symbol.now) × (rest.now ≡ after_lexeme line.now)) (λ _. lexeme line.now ≢ symbol.now) }
 {
     match after(line, symbol) {
@@ -103,7 +103,7 @@ pub fn expect<'a>(line: &'a [u8], symbol: &[u8], place: Place) -> Result<&'a [u8
 }
 
 /// The name at the front, and what stands behind it.
-pub fn name(alloc: Global, line: &[u8], place: Place) -> Result<(Text, &[u8]), Stopped>
+pub fn name(alloc: Global, line: &[u8], place: LinePlace) -> Result<(Text, &[u8]), Stopped>
     ensures name { IfOk result (λ r. IsName (lexeme line.now) × (r.0 ≡ lexeme line.now) × (r.1.now ≡ after_lexeme line.now)) }
     ensures syntax { IsErrOf result ParseRefusal.Syntax → IsName (lexeme line.now) → ⊥ }
 {
@@ -143,7 +143,7 @@ fn operator_of(characters: &[u8]) -> Option<Op>
 }
 
 /// The operator at the front, and what stands behind it.
-pub fn operator(line: &[u8], place: Place) -> Result<(Op, &[u8]), Stopped>
+pub fn operator(line: &[u8], place: LinePlace) -> Result<(Op, &[u8]), Stopped>
     ensures { MatchResult result (λ r. (lexeme line.now ≡ operator_text r.0) × (r.1.now ≡ after_lexeme line.now)) (λ _. (op : Op) → lexeme line.now ≢ operator_text op) }
 {
     let (characters, rest) = split_lexeme(line);
@@ -171,6 +171,6 @@ pub fn index_kind(line: &[u8]) -> Result<(IndexKind, &[u8]), Stopped>
     let (characters, rest) = split_lexeme(line);
     match index_kind_of(characters) {
         Some(kind) => Ok((kind, rest)),
-        None => Err(Stopped::at(line, Place::IndexKind)),
+        None => Err(Stopped::at(line, LinePlace::IndexKind)),
     }
 }

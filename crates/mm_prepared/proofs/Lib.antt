@@ -1,2 +1,2 @@
-pub mod DeclareLemmas
-pub mod KeptLemmas
+pub mod Declarations
+pub mod KeptStatements

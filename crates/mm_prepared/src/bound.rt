@@ -6,8 +6,8 @@ ghost use Rattle.plain_tables.specs.declared.value.Value.TheVariants as value;
 ghost use Rattle.mm_prepared.specs.Cells.{IsSmall, cell_value};
 ghost use Rattle.mm_prepared.specs.declared.declined.Declined.TheVariants as declined;
 
-use crate::cell::Cell;
 use crate::declined::Declined;
+use crate::lent_value::LentValue;
 use no_memory::NoMemory;
 use plain_tables::Value;
 use std::alloc::Global;
@@ -58,7 +58,7 @@ impl Bound {
     }
 
     /// Binds a value to the hole of a place. A text is copied. Only a text of more than 14 bytes needs memory.
-    pub fn bind(&mut self, place: usize, cell: Cell<'_>) -> Result<(), Declined>
+    pub fn bind(&mut self, place: usize, cell: LentValue<'_>) -> Result<(), Declined>
         ensures bound { OnOk result (self.new ≡ slice_set self.old place (cell_value cell.entry)) }
         ensures within { OnOk result (place < length self.old) }
         ensures past { length self.old ≤ place → result ≡ Err declined.NoSuchPlace }

@@ -8,8 +8,8 @@ ghost use Rattle.mm_prepared.specs.declared.declined.Declined.TheVariants as dec
 ghost use Rattle.mm_prepared.specs.declared.kept.Prepared.{Prepared as PlainPrepared};
 
 use crate::bound::Bound;
-use crate::cell::Cell;
 use crate::declined::Declined;
+use crate::lent_value::LentValue;
 use no_memory::NoMemory;
 use plain_statements::Resolution;
 use plain_tables::Text;
@@ -119,7 +119,7 @@ impl Statements {
 
     /// Binds a value to the hole of a place in the statement that a number names. A text is copied. Only one of more than 14 bytes needs
     /// memory.
-    pub fn bind(&mut self, number: usize, place: usize, cell: Cell<'_>) -> Result<(), Declined>
+    pub fn bind(&mut self, number: usize, place: usize, cell: LentValue<'_>) -> Result<(), Declined>
         ensures bound { OnOk result ((p : PlainPrepared) → named self.old number ≡ Some p → NamesNow self.old self.new number (Some (record p { bound = slice_set p.bound place (cell_value cell.entry) }))) }
         ensures missing { named self.old number ≡ None → result ≡ Err declined.NoSuchStatement }
         ensures past { (p : PlainPrepared) → named self.old number ≡ Some p → length p.bound ≤ place → result ≡ Err declined.NoSuchPlace }

@@ -14,7 +14,6 @@
 #![tactic(auto)]
 
 mod bound;
-mod cell;
 mod commands;
 mod declaring;
 mod declined;
@@ -22,12 +21,13 @@ mod filling;
 mod finishing;
 mod kept;
 mod lent;
+mod lent_value;
 
 pub use bound::Bound;
-pub use cell::Cell;
 pub use commands::Commands;
 pub use declaring::may_declare;
 pub use declined::Declined;
 pub use finishing::finish;
 pub use kept::{Prepared, Statements};
 pub use lent::{Lent, lend};
+pub use lent_value::LentValue;

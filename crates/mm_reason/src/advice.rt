@@ -4,7 +4,7 @@ use crate::beside::{beside, of_word};
 use crate::hints::hint;
 use crate::nearest::Nearest;
 use crate::unfit::{Kind, Unfit};
-use mm_lang::{Place, Wanted};
+use mm_lang::{LinePlace, Wanted};
 use no_memory::NoMemory;
 use std::alloc::Global;
 
@@ -31,7 +31,7 @@ impl Advice {
 }
 
 // The keyword that a symbol is but for its capitals, of those that may stand at a place.
-fn keyword_in_capitals(place: Place, symbol: &str) -> Option<&'static str> {
+fn keyword_in_capitals(place: LinePlace, symbol: &str) -> Option<&'static str> {
     for wanted in place.wanted() {
         let keyword = match wanted {
             Wanted::Keyword(keyword) => *keyword,
@@ -48,7 +48,7 @@ fn keyword_in_capitals(place: Place, symbol: &str) -> Option<&'static str> {
 // The keyword that is wrong by its capitals, at the symbol or before it.
 fn capitals(unfit: &Unfit<'_>) -> Option<&'static str> {
     let is_distinct = unfit.before.eq_ignore_ascii_case("distinct");
-    if unfit.place == Place::BehindItemName && is_distinct {
+    if unfit.place == LinePlace::BehindItemName && is_distinct {
         return Some("distinct");
     }
     keyword_in_capitals(unfit.place, unfit.text)
@@ -57,7 +57,7 @@ fn capitals(unfit: &Unfit<'_>) -> Option<&'static str> {
 // The keyword that is nearest to a word, of those that may stand at a place.
 fn nearest_keyword(
     alloc: Global,
-    place: Place,
+    place: LinePlace,
     word: &str,
 ) -> Result<Option<&'static str>, NoMemory> {
     let mut nearest = Nearest::of(word);
@@ -70,19 +70,19 @@ fn nearest_keyword(
 }
 
 // How a command is written, by a place that it alone has.
-fn usage(place: Place) -> Option<&'static str> {
+fn usage(place: LinePlace) -> Option<&'static str> {
     match place {
-        Place::Columns => Some("a table is table T (id int, name text)"),
-        Place::ColumnType => Some("the types are int, text and ref T"),
-        Place::IndexedColumn | Place::IndexKind => Some("an index is index T c tree"),
-        Place::Values => Some("an insert is insert T (1, 'x')"),
-        Place::Set => Some("an update is update T set c = 1 where id = 1"),
-        Place::DeletedTable | Place::BehindDeletedTable => {
+        LinePlace::Columns => Some("a table is table T (id int, name text)"),
+        LinePlace::ColumnType => Some("the types are int, text and ref T"),
+        LinePlace::IndexedColumn | LinePlace::IndexKind => Some("an index is index T c tree"),
+        LinePlace::Values => Some("an insert is insert T (1, 'x')"),
+        LinePlace::Set => Some("an update is update T set c = 1 where id = 1"),
+        LinePlace::DeletedTable | LinePlace::BehindDeletedTable => {
             Some("a delete is delete T where id = 1")
         }
-        Place::On => Some("a join is join U on T.a = U.b"),
-        Place::Dot => Some("a join names each column with its table"),
-        Place::Count => Some("a load is load T 20, with 20 bytes behind the line"),
+        LinePlace::On => Some("a join is join U on T.a = U.b"),
+        LinePlace::Dot => Some("a join names each column with its table"),
+        LinePlace::Count => Some("a load is load T 20, with 20 bytes behind the line"),
         _ => None,
     }
 }
@@ -90,14 +90,15 @@ fn usage(place: Place) -> Option<&'static str> {
 // What is to be known of a symbol by its kind alone.
 fn of_kind(unfit: &Unfit<'_>) -> Option<&'static str> {
     match (unfit.kind, unfit.place) {
-        (Kind::Word, Place::Value | Place::ComparedValue) => Some(of_word(unfit)),
-        (Kind::Word, Place::BehindTable) => Some("there are no aliases"),
-        (Kind::Word, Place::BehindItemName | Place::BehindItem) => {
+        (Kind::Word, LinePlace::Value | LinePlace::ComparedValue) => Some(of_word(unfit)),
+        (Kind::Word, LinePlace::BehindTable) => Some("there are no aliases"),
+        (Kind::Word, LinePlace::BehindItemName | LinePlace::BehindItem) => {
             Some("a comma stands between columns, and there are no aliases")
         }
-        (Kind::Text, Place::Table | Place::Column | Place::Select | Place::Distinct) => {
-            Some("names have no quote marks")
-        }
+        (
+            Kind::Text,
+            LinePlace::Table | LinePlace::Column | LinePlace::Select | LinePlace::Distinct,
+        ) => { Some("names have no quote marks") }
         (_, place) => usage(place),
     }
 }
@@ -108,7 +109,7 @@ fn known(unfit: &Unfit<'_>) -> Option<&'static str> {
         return Some("a quote mark in a text is written twice");
     }
     match unfit.place {
-        Place::IndexedColumn | Place::DeletedTable => usage(unfit.place),
+        LinePlace::IndexedColumn | LinePlace::DeletedTable => usage(unfit.place),
         place => match beside(unfit) {
             Some(words) => Some(words),
             None => hint(place, unfit.text),

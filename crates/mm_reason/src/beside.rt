@@ -2,7 +2,7 @@
 
 use crate::hints::is_one_of;
 use crate::unfit::{Kind, Unfit, has_word, is_numeral};
-use mm_lang::Place;
+use mm_lang::LinePlace;
 
 // The symbols before one, those that it may be itself, and those behind it, each any where none is named; and what is to be known.
 type Neighbours = (
@@ -87,10 +87,10 @@ fn behind_number(text: &str) -> Option<&'static str> {
 }
 
 // What is to be known of a comma.
-fn of_comma(place: Place) -> Option<&'static str> {
+fn of_comma(place: LinePlace) -> Option<&'static str> {
     match place {
-        Place::BehindTable => Some("a join is join U on T.a = U.b"),
-        Place::BehindCondition => Some("conditions are joined by and"),
+        LinePlace::BehindTable => Some("a join is join U on T.a = U.b"),
+        LinePlace::BehindCondition => Some("conditions are joined by and"),
         _ => None,
     }
 }

@@ -1,6 +1,6 @@
 //! What is said to those who write as other databases want it: symbols that stand where they may not, and what is to be known.
 
-use mm_lang::{Place, Wanted};
+use mm_lang::{LinePlace, Wanted};
 
 // Where a hint is for, by what may stand there.
 #[derive(Clone, Copy)]
@@ -179,16 +179,17 @@ static ANYWHERE: [Hint; 7] = [
 ];
 
 // The spot of a place.
-fn spot_of(place: Place) -> Spot {
+fn spot_of(place: LinePlace) -> Spot {
     match place {
-        Place::Command | Place::Statement => Spot::Command,
-        Place::ColumnType => Spot::Type,
-        Place::BehindReference | Place::BehindListed => Spot::Listed,
-        Place::BehindItemName | Place::BehindItem | Place::From => Spot::Item,
-        Place::BehindConditionName | Place::Operator => Spot::Operator,
-        Place::Value | Place::ComparedValue => Spot::Value,
-        Place::BehindSetting | Place::BehindDeletedTable | Place::BehindTable => Spot::End,
-        Place::BehindCondition | Place::End => Spot::End,
+        LinePlace::Command | LinePlace::Statement => Spot::Command,
+        LinePlace::ColumnType => Spot::Type,
+        LinePlace::BehindReference | LinePlace::BehindListed => Spot::Listed,
+        LinePlace::BehindItemName | LinePlace::BehindItem | LinePlace::From => Spot::Item,
+        LinePlace::BehindConditionName | LinePlace::Operator => Spot::Operator,
+        LinePlace::Value | LinePlace::ComparedValue => Spot::Value,
+        LinePlace::BehindSetting | LinePlace::BehindDeletedTable | LinePlace::BehindTable =>
+            Spot::End,
+        LinePlace::BehindCondition | LinePlace::End => Spot::End,
         _ => Spot::Other,
     }
 }
@@ -201,7 +202,7 @@ pub fn is_one_of(symbol: &str, symbols: &[&str]) -> bool {
 }
 
 // Whether a line may end at a place.
-fn may_end(place: Place) -> bool {
+fn may_end(place: LinePlace) -> bool {
     place
         .wanted()
         .iter()
@@ -210,7 +211,7 @@ fn may_end(place: Place) -> bool {
 
 // Whether a command begins with this word.
 fn begins_command(word: &str) -> bool {
-    Place::Command.wanted().iter().any(
+    LinePlace::Command.wanted().iter().any(
         |wanted| matches!(wanted, Wanted::Keyword(keyword) if *keyword == word),
     )
 }
@@ -236,7 +237,7 @@ fn hint_of(hints: &'static [Hint], symbol: &str) -> Option<&'static str> {
 }
 
 /// What is to be known where a symbol stands at a place where it may not.
-pub fn hint(place: Place, symbol: &str) -> Option<&'static str> {
+pub fn hint(place: LinePlace, symbol: &str) -> Option<&'static str> {
     if may_end(place) && begins_command(symbol) {
         return Some("a line is one command");
     }

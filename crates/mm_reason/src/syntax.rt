@@ -4,7 +4,7 @@ use crate::advice::{Advice, what_helps};
 use crate::shown::Cut;
 use crate::told::words;
 use crate::unfit::{Kind, Unfit, is_numeral, symbol_at};
-use mm_lang::{LONGEST_NAME, Place, Stop, Wanted, is_reserved_word};
+use mm_lang::{LONGEST_NAME, LinePlace, Stop, Wanted, is_reserved_word};
 use no_memory::NoMemory;
 use std::alloc::Global;
 
@@ -24,7 +24,7 @@ fn words_of(wanted: Wanted) -> &'static str {
 }
 
 // All that may stand at a place, in words.
-fn wanted(alloc: Global, place: Place) -> Result<String, NoMemory> {
+fn wanted(alloc: Global, place: LinePlace) -> Result<String, NoMemory> {
     let mut words = String::new(alloc);
     let mut left = place.wanted().len();
     for wanted in place.wanted() {
@@ -54,7 +54,7 @@ fn misformed(alloc: Global, unfit: &Unfit<'_>) -> Result<Option<String>, NoMemor
 }
 
 // Why a word is no name, where one may stand.
-fn no_name(alloc: Global, place: Place, word: &str) -> Result<String, NoMemory> {
+fn no_name(alloc: Global, place: LinePlace, word: &str) -> Result<String, NoMemory> {
     let (text, bytes) = (Cut::of(word), word.len());
     if is_reserved_word(word.as_bytes()) {
         let wanted = wanted(alloc, place)?;
@@ -101,8 +101,8 @@ fn no_beginning(
     advice: Option<Advice>,
 ) -> Result<Option<String>, NoMemory> {
     let what = match unfit.place {
-        Place::Command => "command",
-        Place::Statement => "statement",
+        LinePlace::Command => "command",
+        LinePlace::Statement => "statement",
         _ => return Ok(None),
     };
     if advice.is_none() {

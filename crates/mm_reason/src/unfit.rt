@@ -1,7 +1,7 @@
 //! The symbol at which a line stops, and those beside it.
 
 use crate::columns::{column_behind, split_left};
-use mm_lang::{Place, Stop, split_lexeme};
+use mm_lang::{LinePlace, Stop, split_lexeme};
 
 /// What a symbol is, by its characters.
 #[derive(Clone, Copy, PartialEq, Eq)]
@@ -22,7 +22,7 @@ pub enum Kind {
 /// A symbol at a place where it may not stand. Columns count characters from 1.
 #[derive(Clone, Copy)]
 pub struct Unfit<'a> {
-    pub place: Place,
+    pub place: LinePlace,
     pub column: usize,
     pub kind: Kind,
     pub text: &'a str,

@@ -16,7 +16,7 @@ use Rattle.mm_index.specs.Order.{IsStrictOver, IsRising}
 use Rattle.mm_index.proofs.Listed.{IsRising-agree}
 use Rattle.plain_tables.specs.declared.value.Value.{Value}
 use Rattle.plain_tables.specs.Values.{value_cmp, value_cmp_total}
-use Rattle.plain_tables.proofs.ValueLemmas.{value_cmp-exact}
+use Rattle.plain_tables.proofs.Values.{value_cmp-exact}
 use Rattle.mm_relation.specs.Rows.{Row}
 use Rattle.mm_relation.specs.declared.row.Cell.{Cell}
 use Rattle.mm_relation.specs.declared.row.Cell.TheVariants.{Held, Link}

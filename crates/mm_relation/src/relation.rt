@@ -29,7 +29,6 @@ use std::marker::Model;
 use ttree::{TreeShape, table_tree_shape};
 
 /// The rows of one table in a store of their own, under the tree of their keys and every declared index.
-#[derive(Drop)]
 pub struct Relation {
     pub(crate) schema: Schema,
     pub(crate) targets: Vec<Option<usize>>,
@@ -37,6 +36,19 @@ pub struct Relation {
     pub(crate) rows: Rows,
     pub(crate) by_key: Tree,
     pub(crate) indexes: Sequence<IndexOn>,
+}
+
+impl Drop for Relation {
+    fn drop(self) {
+        let Relation {
+            schema: _,
+            targets: _,
+            declared: _,
+            rows: _,
+            by_key: _,
+            indexes: _,
+        } = self;
+    }
 }
 
 impl Model for Relation {

@@ -16,7 +16,7 @@ use Rattle.plain_tables.specs.Queries.{JoinedColumn, column_number, fits, fits_o
 use Rattle.plain_tables.specs.declared.numbers.Place.{Place}
 use Rattle.plain_tables.specs.declared.schema.Column.{Column}
 use Rattle.plain_tables.specs.declared.condition.ColName.{ColName}
-use Rattle.plain_tables.proofs.MeantLemmas.{only}
+use Rattle.plain_tables.proofs.Meant.{only}
 use Rattle.mm_resolver.specs.declared.named_table.NamedTable.{NamedTable}
 use Rattle.mm_resolver.specs.declared.names.NamedColumn.{NamedColumn}
 use Rattle.mm_resolver.proofs.Lists.{none_found}

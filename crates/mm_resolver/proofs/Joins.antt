@@ -33,7 +33,7 @@ use Rattle.mm_resolver.specs.Checks.{verdict}
 use Rattle.mm_resolver.specs.Select.{IsScopeOf, placed_sides, sides_found, sides_differ, joined_rest}
 use Rattle.mm_resolver.proofs.Named.{option_map_or-map, shown_places-are}
 use Rattle.mm_resolver.proofs.Sources.{map-map}
-use Rattle.plain_tables.proofs.SelectLemmas.{once_apart}
+use Rattle.plain_tables.proofs.Selects.{once_apart}
 
 -- ---- names that stand twice
 

@@ -27,7 +27,7 @@ use Rattle.plain_tables.specs.declared.schema.ColKind.TheVariants as kind
 use Rattle.plain_tables.specs.declared.schema.Column.{Column}
 use Rattle.plain_tables.specs.declared.value.Value.{Value}
 use Rattle.plain_tables.specs.declared.value.Value.TheVariants as value
-use Rattle.plain_tables.proofs.HeldLemmas.{RowsFit}
+use Rattle.plain_tables.proofs.Held.{RowsFit}
 use Rattle.plain_streams.proofs.BlockFits.{key-value}
 use Rattle.mm_relation.specs.State.{RelationState}
 use Rattle.mm_catalog.specs.State.{CatalogState}
@@ -39,7 +39,7 @@ use Rattle.mm_catalog.proofs.Tables.{database-get}
 use Rattle.temp_list.specs.Reading as lists
 use Rattle.temp_list.specs.Reading.{value_in}
 use Rattle.temp_list.specs.Lists.{IsRowOver, HasPlace, value_of}
-use Rattle.mm_session.proofs.MemberLemmas.{value_seen, rows_same}
+use Rattle.mm_session.proofs.Members.{value_seen, rows_same}
 
 integer_unlinked : (z : ℤ) → FitsSigned w64 z → link_number (value.Int z) ≡ None
 integer_unlinked (pos n) fits = grind (arith, common_steps)

@@ -8,7 +8,7 @@ use Rattle.mm_session.specs.declared.stream.pending_block.Unkept.{Unkept}
 use Rattle.mm_session.specs.declared.stream.pending_block.Unkept.TheVariants.{TooLong, NoMemory}
 use Rattle.mm_session.specs.declared.stream.pending_block.PendingBlock.{PendingBlock}
 use Rattle.mm_session.specs.declared.stream.pending_block.PendingBlock.TheVariants.{Storing, Counting}
-use Rattle.mm_session.specs.declared.stream.kept.Kept.{Kept}
+use Rattle.mm_session.specs.declared.stream.kept.KeptInput.{KeptInput}
 
 -- how many bytes of a block are to come
 abbrev pub to_come : PendingBlock → ℕ
@@ -52,13 +52,13 @@ pub record KeepsRequest (limits : Limits) (rest : List ℕ) (line : KeptLine) (b
   pub keeps_block : KeepsBlock limits.block asked request.block block
 
 -- This is kept of the rest of a stream.
-abbrev pub Keeps : Limits → List ℕ → Kept → Type 0
+abbrev pub Keeps : Limits → List ℕ → KeptInput → Type 0
 Keeps limits rest kept = MatchOption kept.block (KeepsLine rest kept.line) (KeepsRequest limits rest kept.line)
 
 -- nothing has come of a request
-abbrev pub nothing : Kept
+abbrev pub nothing : KeptInput
 nothing = record { line = PartOfLine []; block = None }
 
 -- whether nothing has come of a request
-abbrev pub is_nothing : Kept → Bool
+abbrev pub is_nothing : KeptInput → Bool
 is_nothing kept = not (is_some kept.block) && is_start kept.line

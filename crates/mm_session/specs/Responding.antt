@@ -7,7 +7,7 @@ use Rattle.mm_catalog.specs.Seen.{database_of}
 use Rattle.mm_session.specs.Buffers.{kept_of}
 use Rattle.mm_session.specs.Kept.{Keeps, KeepsLine, KeepsRequest, nothing}
 use Rattle.mm_session.specs.declared.stream.pending_block.PendingBlock.{PendingBlock}
-use Rattle.mm_session.specs.declared.stream.kept.Kept.{Kept}
+use Rattle.mm_session.specs.declared.stream.kept.KeptInput.{KeptInput}
 use Rattle.mm_session.specs.declared.stream.responder.Responder.{Responder}
 
 -- That answers the request, from the tables before to those after.
@@ -57,7 +57,7 @@ Takes before old new bytes others =
     (λ behind. (front : List ℕ) × (bytes ≡ front ++ behind) × Completes before old new front)
 
 -- one where a block has begun, and else none
-abbrev pub waits : Kept → ℕ
+abbrev pub waits : KeptInput → ℕ
 waits kept = if is_some kept.block then 1 else 0
 
 -- The stream has ended. Whichever rest there was, if it isn't empty it is the last request, which is answered so.

@@ -3,7 +3,7 @@ use Rattle.std.specs.Prelude.{◌≡◌, ℕ, ◌≤◌, List, [], ◌++◌, len
 use Rattle.std.specs.Coded.{Coded, code_by, coded×, coded_bool, coded_list, coded_ℕ}
 use Rattle.std.specs.Io.KnownBytes.{Appends}
 use Rattle.mm_session.specs.Kept.{Keeps, nothing}
-use Rattle.mm_session.specs.declared.stream.kept.Kept.{Kept}
+use Rattle.mm_session.specs.declared.stream.kept.KeptInput.{KeptInput}
 use Rattle.mm_catalog.specs.State.{CatalogState}
 use Rattle.plain_tables.specs.Databases.{Database}
 use Rattle.plain_tables.specs.Tables.{Table}
@@ -24,7 +24,7 @@ pub record State : Type 0 where
   pub saved : List Database
   pub catalog : CatalogState
   pub ended : Bool
-  pub kept : Kept
+  pub kept : KeptInput
 
 abbrev pub table_code : Coded Column → Coded IndexKind → Coded Value → Coded Table
 table_code column kind value =
@@ -33,9 +33,9 @@ table_code column kind value =
     (λ t. (t.name, (t.columns, (t.indexes, t.rows))))
     (λ p. record { name = p.0; columns = p.1.0; indexes = p.1.1.0; rows = p.1.1.1 }) (λ _. refl)
 
-abbrev pub state_code : Coded Limits → Coded Table → Coded CatalogState → Coded Kept → Coded State
+abbrev pub state_code : Coded Limits → Coded Table → Coded CatalogState → Coded KeptInput → Coded State
 state_code limits table catalog kept =
-    code_by (Limits × (Database × (List Database × (CatalogState × (Bool × Kept)))))
+    code_by (Limits × (Database × (List Database × (CatalogState × (Bool × KeptInput)))))
     (coded× limits (coded× (coded_list table) (coded× (coded_list (coded_list table)) (coded× catalog (coded× coded_bool kept)))))
     (λ s. (s.limits, (s.database, (s.saved, (s.catalog, (s.ended, s.kept))))))
     (λ p. record { limits = p.0; database = p.1.0; saved = p.1.1.0; catalog = p.1.1.1.0; ended = p.1.1.1.1.0; kept = p.1.1.1.1.1 }) (λ _. refl)
@@ -45,7 +45,7 @@ abbrev pub tables_of : State → Transactional
 tables_of s = record { database = s.database; saved = s.saved }
 
 -- This is kept of the stream: what is kept of the rest that it leaves behind its requests.
-abbrev pub KeepsOf : Limits → Kept → List ℕ → Type 0
+abbrev pub KeepsOf : Limits → KeptInput → List ℕ → Type 0
 KeepsOf limits kept stream = (requests : List Request) × (rest : List ℕ) × Divides stream requests rest × Keeps limits rest kept
 
 -- The session stands in a run: from that database the stream had these answers so far.

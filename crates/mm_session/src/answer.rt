@@ -100,7 +100,7 @@ impl Answer {
     }
 
     /// Makes this the answer. A short text needs no memory.
-    pub fn set(&mut self, text: &[u8])
+    pub(crate) fn set(&mut self, text: &[u8])
         requires { length text.now ≤ 64 }
         ensures { self.new ≡ text.now }
     {
@@ -109,7 +109,7 @@ impl Answer {
     }
 
     /// Makes the number of rows that a command changed the answer. It takes no memory.
-    pub fn tell_changed(&mut self, count: usize)
+    pub(crate) fn tell_changed(&mut self, count: usize)
         ensures { self.new ≡ answer_text (Changed count) }
     {
         if count == 1 {
@@ -138,7 +138,7 @@ impl Answer {
     }
 
     /// Puts bytes in at an index, in front of those that stand there and behind it.
-    pub fn insert(&mut self, at: usize, bytes: &[u8]) -> Result<(), NoMemory>
+    pub(crate) fn insert(&mut self, at: usize, bytes: &[u8]) -> Result<(), NoMemory>
         requires { at ≤ length self.old }
         ensures { OnOk result (self.new ≡ take at self.old ++ (bytes.now ++ drop at self.old)) }
     {
@@ -149,7 +149,7 @@ impl Answer {
 
     /// Puts another answer in at an index, in front of the bytes that stand there and behind it. A few bytes are moved by way of the
     /// other's room, which is faster than to turn them where they lie.
-    pub fn insert_answer(&mut self, at: usize, mut front: Answer) -> Result<(), NoMemory>
+    pub(crate) fn insert_answer(&mut self, at: usize, mut front: Answer) -> Result<(), NoMemory>
         requires { at ≤ length self.old }
         ensures { OnOk result (self.new ≡ take at self.old ++ (front ++ drop at self.old)) }
     {
@@ -162,7 +162,7 @@ impl Answer {
     }
 
     /// Puts a number at the end, in decimal digits. While the answer is short it needs no memory.
-    pub fn push_number(&mut self, n: u64) -> Result<(), NoMemory>
+    pub(crate) fn push_number(&mut self, n: u64) -> Result<(), NoMemory>
         ensures pushed { OnOk result (self.new ≡ self.old ++ decimal n) }
         ensures short { length self.old + length (decimal n) ≤ 64 → IsOk result }
     {

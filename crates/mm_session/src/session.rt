@@ -44,7 +44,7 @@ impl Model for Session {
     ghost use Rattle.mm_catalog.specs.contracts.catalog.Catalog.{the_row as catalog_row};
     ghost use Rattle.mm_transactions.specs.State.{saved_of};
     ghost use Rattle.mm_session.specs.Sessions.{State, state_code, table_code};
-    ghost use Rattle.mm_session.specs.contracts.stream.kept.Kept.{the_row as kept_row};
+    ghost use Rattle.mm_session.specs.contracts.stream.kept.KeptInput.{the_row as kept_row};
 
     ghost Value = { State };
 

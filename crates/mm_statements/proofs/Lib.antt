@@ -1,16 +1,16 @@
-pub mod ChangeLemmas
-mod ColumnLemmas
-pub mod CountingLemmas
-pub mod ExecuteLemmas
-pub mod FinishedLemmas
-pub mod GivenLemmas
-pub mod HeadingLemmas
-pub mod LineLemmas
-pub mod MarkLemmas
-pub mod NotedLemmas
-pub mod PrepareLemmas
-pub mod QueryLemmas
-pub mod RequestLemmas
-pub mod RightLemmas
-pub mod SeenLemmas
-pub mod SharedLemmas
+pub mod Changes
+mod ColumnsTold
+pub mod Counts
+pub mod Executing
+pub mod Finished
+pub mod Given
+pub mod Headings
+pub mod Lines
+pub mod Marks
+pub mod NotedMeanings
+pub mod Preparing
+pub mod Queries
+pub mod Requests
+pub mod Right
+pub mod Seen
+pub mod Sharing

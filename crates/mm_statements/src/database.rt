@@ -12,7 +12,7 @@ use crate::reading::{count_marks, meaning, readable};
 use crate::resolving::{command_of, resolution_of, resolve, settle};
 use crate::shared::SharedSession;
 use mm_cells::Cells;
-use mm_prepared::{Cell, Commands, Declined, Lent, Statements, may_declare};
+use mm_prepared::{Commands, Declined, Lent, LentValue, Statements, may_declare};
 use mm_session::{Answer, SelectRoom, Session};
 use mm_transactions::NoTransaction;
 use no_memory::NoMemory;
@@ -415,7 +415,7 @@ impl Database {
 
     /// Binds a value to the hole of a place in the statement that a number names. A text is copied. Only one of more than 14 bytes needs
     /// memory.
-    pub fn bind(&mut self, number: usize, place: usize, cell: Cell<'_>) -> Result<(), Declined>
+    pub fn bind(&mut self, number: usize, place: usize, cell: LentValue<'_>) -> Result<(), Declined>
         ensures bound { OnOk result ((p : KeptStatement) → statement_at self.old number ≡ Some p → NowNames self.old self.new number (Some (record p { values = slice_set p.values place (cell_value cell.entry) }))) }
         ensures missing { statement_at self.old number ≡ None → result ≡ Err declined.NoSuchStatement }
         ensures past { (p : KeptStatement) → statement_at self.old number ≡ Some p → length p.values ≤ place → result ≡ Err declined.NoSuchPlace }

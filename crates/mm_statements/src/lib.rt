@@ -37,6 +37,6 @@ pub use database::{Database, Executed, Numbered, PreparedLine};
 pub use faults::{
     BeginFault, ExecuteFault, PrepareFault, QueryFault, RequestFault, ShareFault, StreamFault,
 };
-pub use mm_prepared::{Bound, Cell, Declined, Prepared, Statements, finish};
+pub use mm_prepared::{Bound, Declined, LentValue, Prepared, Statements, finish};
 pub use mm_transactions::NoTransaction;
 pub use planning::PlannedSelect;

@@ -7,7 +7,7 @@ ghost use Rattle.mm_statements.specs.Resolving.{IsOfRows};
 
 use crate::reading::readable;
 use crate::shared::SharedSession;
-use mm_lang::{ParseRefusal, parse};
+use mm_lang::parse;
 use plain_tables::{Command, Refusal, Resolved};
 use std::alloc::Global;
 
@@ -37,11 +37,7 @@ pub fn command_of_line(
     ensures refused { IfErr result (IsUnqueried held.now.session (without_return line.now)) }
 {
     let line = readable(line)?;
-    let command = match parse(alloc, &line) {
-        Ok(command) => command,
-        Err(ParseRefusal::Syntax) => return Err(Refusal::NotACommand),
-        Err(ParseRefusal::NoMemory) => return Err(Refusal::NoMemory),
-    };
+    let command = parse(alloc, &line)?;
     if !is_statement(&command) {
         return Err(Refusal::NotACommand);
     }

@@ -10,7 +10,7 @@ ghost use Rattle.mm_statements.specs.Querying.{IsUnread};
 ghost use Rattle.mm_statements.specs.Resolving.{IsUnmeant, LineMeans};
 
 use mm_catalog::Catalog;
-use mm_lang::{Line, ParseRefusal, parse_statement};
+use mm_lang::{Line, parse_statement};
 use mm_session::{Judged, LONGEST_LINE, judge_line};
 use plain_statements::Resolution;
 use plain_tables::Refusal;
@@ -64,11 +64,7 @@ pub fn meaning(alloc: Global, catalog: &Catalog, line: &Line<'_>) -> Result<Reso
     ensures means { IfOk result (LineMeans (database_of catalog.now) line.now) }
     ensures refused { IfErr result (λ e. e ≢ refusal.NoMemory → IsUnmeant (database_of catalog.now) line.now e) }
 {
-    let statement = match parse_statement(alloc, line) {
-        Ok(statement) => statement,
-        Err(ParseRefusal::Syntax) => return Err(Refusal::NotACommand),
-        Err(ParseRefusal::NoMemory) => return Err(Refusal::NoMemory),
-    };
+    let statement = parse_statement(alloc, line)?;
     catalog.resolve_statement(statement)
 }
 

@@ -8,7 +8,7 @@ use Rattle.std.proofs.lemmas.List.Elements.{All-contains}
 use Rattle.common_lemmas.proofs.Elements.{Contains-cons, Contains-cons_cases, Contains-head}
 use Rattle.common_lemmas.proofs.Pairs.{AllPairs-head, AllPairs-nil, AllPairs-tail}
 use Rattle.plain_tables.specs.Tables.{AreRising, Row, key_cmp, with_row}
-use Rattle.plain_tables.proofs.RowLemmas.{All-with_row, key_cmp_total, with_row-rises}
+use Rattle.plain_tables.proofs.Rows.{All-with_row, key_cmp_total, with_row-rises}
 use Rattle.mm_catalog.proofs.AnyOrder.{member_with, other_with}
 use Rattle.mm_catalog.proofs.Rising.{rising_same}
 use Rattle.mm_transactions.specs.Tables.{in_key_order}

@@ -6,7 +6,7 @@ use Rattle.std.specs.Option.{option_map_or}
 use Rattle.plain_tables.specs.ResolvedLaws.{emptied}
 use Rattle.plain_tables.specs.Tables.{Table}
 use Rattle.plain_tables.specs.declared.schema.Schema.{Schema}
-use Rattle.plain_tables.proofs.ChangeLemmas.{map_set_alike}
+use Rattle.plain_tables.proofs.Changes.{map_set_alike}
 use Rattle.mm_relation.specs.State.{RelationState}
 use Rattle.mm_catalog.specs.Outline.{Outline, RelationOutline, changed_at, outline_of, relation_outline}
 use Rattle.mm_catalog.specs.Seen.{database_of, table_of}

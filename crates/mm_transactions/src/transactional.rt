@@ -16,10 +16,15 @@ use std::alloc::Global;
 use std::marker::Model;
 
 /// Tables by name, and the transactions that are open over them.
-#[derive(Drop)]
 pub struct TransactionalCatalog {
     catalog: Catalog,
     log: UndoLog,
+}
+
+impl Drop for TransactionalCatalog {
+    fn drop(self) {
+        let TransactionalCatalog { catalog: _, log: _ } = self;
+    }
 }
 
 impl Model for TransactionalCatalog {

@@ -10,9 +10,9 @@ use Rattle.std.proofs.Crossing.{frees}
 use Rattle.std.specs.declared.option.Option.{Option}
 use Rattle.std.specs.declared.option.Option.TheVariants.{None, Some}
 use Rattle.mmdb_c.specs.Handles.{holds}
-use Rattle.mmdb_c.specs.contracts.database.Database as database
+use Rattle.mmdb_c.specs.contracts.database.OpenDatabase as database
 use Rattle.mmdb_c.specs.contracts.handle.Handle as handle
-use Rattle.mmdb_c.proofs.database.Database.TheSendSync.{the_send}
+use Rattle.mmdb_c.proofs.database.OpenDatabase.TheSendSync.{the_send}
 
 holds-Keyless : (R : RattleType) → IsSend R → (p : Ptr) (x : Option R.Denot) → Keyless (holds R p x)
 holds-Keyless R s null_ptr None = tt

@@ -22,7 +22,7 @@ use Rattle.std.specs.contracts.impls.GlobalAllocator.TheImpl.{ghosts}
 use Rattle.std.proofs.GlobalToken.{dealloc_token-Testable}
 use Rattle.std_alloc.specs.Box.Ownership.{box_owns}
 use Rattle.mmdb_c.specs.Handles.{holds}
-use Rattle.mmdb_c.specs.contracts.database.Database as database
+use Rattle.mmdb_c.specs.contracts.database.OpenDatabase as database
 use Rattle.mmdb_c.specs.contracts.handle.Handle as handle
 
 abbrev pub one : Val → Val

@@ -7,25 +7,25 @@ use Rattle.mm_statements.specs.Planning.{IsPlanOfLine}
 use Rattle.mm_statements.specs.Planning as planning
 use Rattle.mm_statements.specs.declared.planning.PlannedSelect.{PlannedSelect}
 use Rattle.mmdb_c.specs.Calls.{KeepsRows}
-use Rattle.mmdb_c.specs.declared.database.Database.{Database}
+use Rattle.mmdb_c.specs.declared.database.OpenDatabase.{OpenDatabase}
 
 -- the line spells a select, which has a plan
-abbrev pub IsPlanned : List ℕ → Database → Type 0
+abbrev pub IsPlanned : List ℕ → OpenDatabase → Type 0
 IsPlanned line d = (told : PlannedSelect) × IsPlanOfLine d.inner.session (without_return line) told
 
 -- The session, its statements, all rows and the reason are as they were.
-pub record OnlyAnswers (old new : Database) : Type 0 where
+pub record OnlyAnswers (old new : OpenDatabase) : Type 0 where
   pub inner : new.inner ≡ old.inner
   pub rows : KeepsRows old new
   pub reason : new.reason ≡ old.reason
 
 -- The line spells a select, whose plan is kept as the answer, in words, and nothing else changed.
-pub record TellsPlan (line : List ℕ) (old new : Database) : Type 0 where
+pub record TellsPlan (line : List ℕ) (old new : OpenDatabase) : Type 0 where
   pub planned : IsPlanned line old
   pub kept : OnlyAnswers old new
 
 -- No plan is told of the line, the answer is the refusal, and nothing else changed.
-pub record IsUnplanned (line : List ℕ) (old new : Database) : Type 0 where
+pub record IsUnplanned (line : List ℕ) (old new : OpenDatabase) : Type 0 where
   pub why : Refusal
   pub unplanned : planning.IsUnplanned old.inner.session (without_return line) why
   pub answer : new.answer ≡ refusal_text why

@@ -8,19 +8,19 @@ use Rattle.mm_statements.specs.Databases as databases
 use Rattle.mm_statements.specs.Executing.{IsChangeOf}
 use Rattle.mm_statements.specs.Querying.{IsChangeOfLine}
 use Rattle.mmdb_c.specs.Calls.{KeepsRows}
-use Rattle.mmdb_c.specs.declared.database.Database.{Database}
+use Rattle.mmdb_c.specs.declared.database.OpenDatabase.{OpenDatabase}
 
 -- Other databases may have its session too.
-abbrev pub IsShared : Database → Type 0
+abbrev pub IsShared : OpenDatabase → Type 0
 IsShared d = IsTrue d.inner.shared
 
 -- Nothing has changed, but that its session may be shared now.
-pub record SharesMore (old new : Database) : Type 0 where
+pub record SharesMore (old new : OpenDatabase) : Type 0 where
   pub inner : databases.SharesMore old.inner new.inner
   pub others : new ≡ record old { inner = new.inner }
 
 -- Its session is this one, which it shares or not. Its statements, the values that are bound to them, the answer, the reason and all rows are as they were.
-pub record ChangesSession (it : State) (is_shared : Bool) (old new : Database) : Type 0 where
+pub record ChangesSession (it : State) (is_shared : Bool) (old new : OpenDatabase) : Type 0 where
   pub session : new.inner.session ≡ it
   pub shared : new.inner.shared ≡ is_shared
   pub statements : SameStatements old.inner new.inner
@@ -29,15 +29,15 @@ pub record ChangesSession (it : State) (is_shared : Bool) (old new : Database) :
   pub rows : KeepsRows old new
 
 -- It shares the session of the other, and with it the tables.
-abbrev pub Shares : Database → Database → Database → Type 0
+abbrev pub Shares : OpenDatabase → OpenDatabase → OpenDatabase → Type 0
 Shares other old new = ChangesSession other.inner.session true old new
 
 -- It has a session of its own, without tables.
-abbrev pub Leaves : Database → Database → Type 0
+abbrev pub Leaves : OpenDatabase → OpenDatabase → Type 0
 Leaves old new = ChangesSession (new_session old.inner.session.limits [] new.inner.session.catalog) false old new
 
 -- It shares the session of the other, and has no statements; no call has answered.
-pub record OpensOn (other d : Database) : Type 0 where
+pub record OpensOn (other d : OpenDatabase) : Type 0 where
   pub session : d.inner.session ≡ other.inner.session
   pub shared : d.inner.shared ≡ true
   pub none : (number : ℕ) → statement_at d.inner number ≡ None
@@ -45,30 +45,30 @@ pub record OpensOn (other d : Database) : Type 0 where
   pub reason : d.reason ≡ []
 
 -- The handle is open and has the tables of the other. Where it was open before, the rest stays.
-abbrev pub Joins : Database → Option Database → Option Database → Type 0
+abbrev pub Joins : OpenDatabase → Option OpenDatabase → Option OpenDatabase → Type 0
 Joins other (Some old) (Some new) = Shares other old new
 Joins other None (Some new) = OpensOn other new
 Joins other old None = ⊥
 
 -- Nothing has changed, but that the answer is empty.
-pub record LosesAnswer (old new : Database) : Type 0 where
+pub record LosesAnswer (old new : OpenDatabase) : Type 0 where
   pub inner : IsUnchanged old.inner new.inner
   pub rows : KeepsRows old new
   pub answer : new.answer ≡ []
 
 -- The session is shared, the statement is an insert, an update or a delete with the values that are bound, and the answer is empty.
-pub record IsKeptOff (number : ℕ) (old new : Database) : Type 0 where
+pub record IsKeptOff (number : ℕ) (old new : OpenDatabase) : Type 0 where
   pub shared : IsShared old
   pub change : IsChangeOf old.inner number
   pub answer : new.answer ≡ []
 
 -- The session is shared, the line is an insert, an update or a delete, and the answer is empty.
-pub record IsLineKeptOff (line : List ℕ) (old new : Database) : Type 0 where
+pub record IsLineKeptOff (line : List ℕ) (old new : OpenDatabase) : Type 0 where
   pub shared : IsShared old
   pub change : IsChangeOfLine old.inner.session.database (without_return line)
   pub answer : new.answer ≡ []
 
 -- The session is shared, and the request would change tables.
-pub record IsRequestKeptOff (asked : Request) (d : Database) : Type 0 where
+pub record IsRequestKeptOff (asked : Request) (d : OpenDatabase) : Type 0 where
   pub shared : IsShared d
   pub change : WouldChange d.inner.session.database asked

@@ -26,40 +26,40 @@ use Rattle.mm_prepared.specs.declared.declined.Declined.{Declined}
 use Rattle.mm_prepared.specs.declared.declined.Declined.TheVariants as declined
 use Rattle.mm_statements.specs.declared.faults.ExecuteFault.TheVariants as fault
 use Rattle.mmdb_c.specs.Calls.{KeepsRows}
-use Rattle.mmdb_c.specs.declared.database.Database.{Database}
+use Rattle.mmdb_c.specs.declared.database.OpenDatabase.{OpenDatabase}
 use Rattle.mmdb_c.specs.declared.statements.Statement.{Statement}
 use Rattle.mmdb_c.specs.declared.rows.Rows.{Rows}
 
 -- the session and the statements are as they were
-abbrev pub KeepsAll : Database → Database → Type 0
+abbrev pub KeepsAll : OpenDatabase → OpenDatabase → Type 0
 KeepsAll old new = IsUnchanged old.inner new.inner
 
 -- Session, statements, answer and all rows are as they were.
-pub record KeepsEach (old new : Database) : Type 0 where
+pub record KeepsEach (old new : OpenDatabase) : Type 0 where
   pub all : KeepsAll old new
   pub answer : new.answer ≡ old.answer
   pub rows : KeepsRows old new
 
 -- What every other statement and the line last queried have shown, and the columns last asked for, lie where they lay, and are what they
 -- were.
-pub record KeepsOthers (number : ℕ) (old new : Database) : Type 0 where
+pub record KeepsOthers (number : ℕ) (old new : OpenDatabase) : Type 0 where
   pub others : (other : ℕ) (cells : Cells) → other ≢ number → slice_get old.shown.items other ≡ Some cells → slice_get new.shown.items other ≡ Some cells
   pub queried : new.queried ≡ old.queried
   pub columns : new.columns ≡ old.columns
 
 -- What every statement has shown, and the columns last asked for, lie where they lay, and are what they were.
-pub record KeepsStatements (old new : Database) : Type 0 where
+pub record KeepsStatements (old new : OpenDatabase) : Type 0 where
   pub shown : new.shown ≡ old.shown
   pub columns : new.columns ≡ old.columns
 
 -- What every statement and the line last queried have shown lies where it lay, and is what it was.
-pub record KeepsShown (old new : Database) : Type 0 where
+pub record KeepsShown (old new : OpenDatabase) : Type 0 where
   pub shown : new.shown ≡ old.shown
   pub queried : new.queried ≡ old.queried
 
 -- The line is kept as the statement that it spells, under a number that named none, with a null for each of its places; and the answer is
 -- empty.
-pub record Prepares (line : List ℕ) (old new : Database) (told : Statement) : Type 0 where
+pub record Prepares (line : List ℕ) (old new : OpenDatabase) (told : Statement) : Type 0 where
   pub prepared : IsPrepared old.inner.session.database (without_return line) told.places
   pub fresh : statement_at old.inner told.number ≡ None
   pub kept : NowNames old.inner new.inner told.number (Some (record { line = without_return line; values = replicate told.places value.Null }))
@@ -69,28 +69,28 @@ pub record Prepares (line : List ℕ) (old new : Database) (told : Statement) : 
   pub rows : KeepsRows old new
 
 -- The line spells no statement that can be kept, and the answer is the refusal.
-pub record IsUnprepared (line : List ℕ) (old new : Database) : Type 0 where
+pub record IsUnprepared (line : List ℕ) (old new : OpenDatabase) : Type 0 where
   pub why : Refusal
   pub refused : preparing.IsUnprepared old.inner.session.database (without_return line) why
   pub answer : new.answer ≡ refusal_text why
   pub rows : KeepsRows old new
 
 -- the number names no statement
-abbrev pub IsMissing : ℕ → Database → Type 0
+abbrev pub IsMissing : ℕ → OpenDatabase → Type 0
 IsMissing number d = statement_at d.inner number ≡ None
 
 -- the number names a statement, which has no such place
-abbrev pub IsPast : ℕ → ℕ → Database → Type 0
+abbrev pub IsPast : ℕ → ℕ → OpenDatabase → Type 0
 IsPast number place d = (kept : KeptStatement) × (statement_at d.inner number ≡ Some kept) × (length kept.values ≤ place)
 
 -- why no value was bound
-abbrev pub IsUnbound : ℕ → ℕ → Database → Declined → Type 0
+abbrev pub IsUnbound : ℕ → ℕ → OpenDatabase → Declined → Type 0
 IsUnbound number place d declined.NoSuchStatement = IsMissing number d
 IsUnbound number place d declined.NoSuchPlace = IsPast number place d
 IsUnbound number place d declined.NoMemory = Unit {0}
 
 -- The value stands at the place of the statement, and nothing else has changed.
-pub record Binds (number place : ℕ) (v : Value) (old new : Database) : Type 0 where
+pub record Binds (number place : ℕ) (v : Value) (old new : OpenDatabase) : Type 0 where
   pub kept : KeptStatement
   pub there : statement_at old.inner number ≡ Some kept
   pub bound : NowNames old.inner new.inner number (Some (record kept { values = slice_set kept.values place v }))
@@ -100,11 +100,11 @@ pub record Binds (number place : ℕ) (v : Value) (old new : Database) : Type 0 
   pub rows : KeepsRows old new
 
 -- the values that the statement of a number has shown
-abbrev pub shown_by : Database → ℕ → List Value
+abbrev pub shown_by : OpenDatabase → ℕ → List Value
 shown_by d number = option_map_or values_of (slice_get d.shown.items number) []
 
 -- The number names no statement, and what that has shown is gone; nothing else has changed.
-pub record Finalizes (number : ℕ) (old new : Database) : Type 0 where
+pub record Finalizes (number : ℕ) (old new : OpenDatabase) : Type 0 where
   pub freed : NowNames old.inner new.inner number None
   pub session : new.inner.session ≡ old.inner.session
   pub shared : new.inner.shared ≡ old.inner.shared
@@ -113,7 +113,7 @@ pub record Finalizes (number : ℕ) (old new : Database) : Type 0 where
   pub rows : KeepsOthers number old new
 
 -- The effect of the statement came about beside the stream, and what it shows are its cells.
-pub record HasExecuted (number : ℕ) (old new : Database) (given : Executed) : Type 0 where
+pub record HasExecuted (number : ℕ) (old new : OpenDatabase) (given : Executed) : Type 0 where
   pub effect : Effect
   pub is : IsEffectOf old.inner number effect
   pub gave : HasGiven new.inner.session effect given (shown_by new number)
@@ -139,34 +139,34 @@ HasColumns (gives.Changed count) = Unit {0}
 HasColumns (gives.Rows columns) = 0 < columns
 
 -- The effect of the statement came about, and C is told what it gave, and where what it shows lies.
-abbrev pub HasTold : ℕ → Database → Database → Rows → Type 0
+abbrev pub HasTold : ℕ → OpenDatabase → OpenDatabase → Rows → Type 0
 HasTold number old new told =
     (given : Executed) × HasExecuted number old new given × IsSomeAnd (slice_get new.shown.items number) (λ cells. Tells cells given told)
 
 -- So it is, and the answer is empty.
-pub record Executes (number : ℕ) (old new : Database) (told : Rows) : Type 0 where
+pub record Executes (number : ℕ) (old new : OpenDatabase) (told : Rows) : Type 0 where
   pub done : HasTold number old new told
   pub answer : new.answer ≡ []
 
 -- The statement is refused, or there was no memory; that is the answer.
-pub record IsUnexecuted (number : ℕ) (old new : Database) : Type 0 where
+pub record IsUnexecuted (number : ℕ) (old new : OpenDatabase) : Type 0 where
   pub why : Refusal
   pub declined : IsDeclined old.inner number (fault.Refused why)
   pub answer : new.answer ≡ refusal_text why
 
 -- The columns of what the statement shows are kept, and the answer is empty.
-pub record KeepsColumns (number : ℕ) (old new : Database) : Type 0 where
+pub record KeepsColumns (number : ℕ) (old new : OpenDatabase) : Type 0 where
   pub told : TellsColumns old.inner number (values_of new.columns)
   pub answer : new.answer ≡ []
 
 -- The statement is refused, whatever is bound, or there was no memory; that is the answer.
-pub record IsUntold (number : ℕ) (old new : Database) : Type 0 where
+pub record IsUntold (number : ℕ) (old new : OpenDatabase) : Type 0 where
   pub why : Refusal
   pub untold : executing.IsUntold old.inner number (fault.Refused why)
   pub answer : new.answer ≡ refusal_text why
 
 -- The effect of the line came about beside the stream; what it shows is kept, and C is told what it gave.
-pub record HasQueried (line : List ℕ) (old new : Database) (told : Rows) (given : Executed) : Type 0 where
+pub record HasQueried (line : List ℕ) (old new : OpenDatabase) (told : Rows) (given : Executed) : Type 0 where
   pub effect : Effect
   pub is : IsEffectOfLine old.inner.session (without_return line) effect
   pub gave : HasGiven new.inner.session effect given (values_of new.queried)
@@ -176,13 +176,13 @@ pub record HasQueried (line : List ℕ) (old new : Database) (told : Rows) (give
   pub statements : SameStatements old.inner new.inner
 
 -- So it is, and the answer is empty.
-pub record Queries (line : List ℕ) (old new : Database) (told : Rows) : Type 0 where
+pub record Queries (line : List ℕ) (old new : OpenDatabase) (told : Rows) : Type 0 where
   pub given : Executed
   pub done : HasQueried line old new told given
   pub answer : new.answer ≡ []
 
 -- Nothing comes of the line, and the answer is the refusal.
-pub record IsUnqueried (line : List ℕ) (old new : Database) : Type 0 where
+pub record IsUnqueried (line : List ℕ) (old new : OpenDatabase) : Type 0 where
   pub why : Refusal
   pub unqueried : querying.IsUnqueried old.inner.session (without_return line) why
   pub answer : new.answer ≡ refusal_text why

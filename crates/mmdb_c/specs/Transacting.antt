@@ -5,19 +5,19 @@ use Rattle.mm_session.specs.OneRequest.{IsAtSamePlace}
 use Rattle.mm_session.specs.Sessions.{tables_of}
 use Rattle.mm_statements.specs.Databases.{SameStatements}
 use Rattle.mmdb_c.specs.Calls.{KeepsRows}
-use Rattle.mmdb_c.specs.declared.database.Database.{Database}
+use Rattle.mmdb_c.specs.declared.database.OpenDatabase.{OpenDatabase}
 
 -- a transaction of the database is open
-abbrev pub IsInTransaction : Database → Type 0
+abbrev pub IsInTransaction : OpenDatabase → Type 0
 IsInTransaction d = d.inner.session.saved ≢ []
 
 -- none is
-abbrev pub IsOutside : Database → Type 0
+abbrev pub IsOutside : OpenDatabase → Type 0
 IsOutside d = d.inner.session.saved ≡ []
 
 -- That became of the tables, which no other database shares, and of what its transactions began with. The stream is where it was, and the statements, the values that
 -- are bound to them, the answer, the reason and all rows are as they were.
-pub record Steps (step : Transactional → Transactional) (old new : Database) : Type 0 where
+pub record Steps (step : Transactional → Transactional) (old new : OpenDatabase) : Type 0 where
   pub tables : tables_of new.inner.session ≡ step (tables_of old.inner.session)
   pub alone : new.inner.shared ≡ false
   pub stream : IsAtSamePlace old.inner.session new.inner.session

@@ -3,11 +3,11 @@
 ghost use Rattle.std.specs.Prelude.{◌≡◌, Err, IfOk, IsErrOf};
 ghost use Rattle.mmdb_c.specs.declared.statements.Unexecuted.TheVariants as unexecuted;
 
-use crate::database::Database;
+use crate::database::OpenDatabase;
 use crate::statements::Unexecuted;
 use mm_statements::ExecuteFault;
 
-impl Database {
+impl OpenDatabase {
     ghost use Rattle.mmdb_c.specs.Counting.{CountsRows, IsUncounted, OnlyCounts, ShowsTooMany};
     ghost use Rattle.mmdb_c.specs.StatementCalls.{IsMissing};
 

@@ -16,7 +16,7 @@ use std::alloc::Global;
 /// A database, the answers to the last call, the reason that was last asked for, the values that each of its statements has shown, by
 /// their numbers, the columns that were last asked for, and the values that the line last queried has shown.
 #[derive(Drop)]
-pub struct Database {
+pub struct OpenDatabase {
     pub inner: mm_statements::Database,
     pub answer: Answer,
     pub reason: Answer,
@@ -25,16 +25,16 @@ pub struct Database {
     pub queried: Cells,
 }
 
-impl Database {
+impl OpenDatabase {
     ghost use Rattle.mmdb_c.specs.Calls.{request, IsNew, AnswersRequest, TellsIndexes, TakesPiece, LosesStream, IsAsBefore};
     ghost use Rattle.mmdb_c.specs.Sharing.{IsRequestKeptOff, IsShared, LosesAnswer};
 
     /// A database with no tables and no statements, an empty answer and an empty reason.
-    pub fn new(alloc: Global, policy: Policy, limits: Limits) -> Result<Database, NoMemory>
+    pub fn new(alloc: Global, policy: Policy, limits: Limits) -> Result<OpenDatabase, NoMemory>
         requires { limits.rows ≤ 16777216 }
         ensures { IfOk result (IsNew limits) }
     {
-        Ok(Database {
+        Ok(OpenDatabase {
             inner: mm_statements::Database::new(alloc, policy, limits)?,
             answer: Answer::new(alloc)?,
             reason: Answer::new(alloc)?,

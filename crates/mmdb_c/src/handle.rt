@@ -5,11 +5,11 @@ ghost use Rattle.std.specs.Option.{MatchOption};
 ghost use Rattle.std.specs.declared.option.Option.{Option};
 ghost use Rattle.std.specs.declared.option.Option.TheVariants.{None, Some};
 ghost use Rattle.std.specs.Coded.{coded_option};
-ghost use Rattle.mmdb_c.specs.declared.database.Database.{Database};
-ghost use Rattle.mmdb_c.specs.contracts.database.Database.{the_row};
+ghost use Rattle.mmdb_c.specs.declared.database.OpenDatabase.{OpenDatabase};
+ghost use Rattle.mmdb_c.specs.contracts.database.OpenDatabase.{the_row};
 ghost use Rattle.mmdb_c.specs.Handles.{holds};
 
-use crate::database::Database;
+use crate::database::OpenDatabase;
 use raw_box::RawBox;
 use std::alloc::Global;
 use std::marker::Model;
@@ -20,7 +20,7 @@ use std::ptr::null_mut;
 #[repr(C)]
 pub struct Handle {
     at: *mut u8,
-    pub ghost database: { Option Database } by { coded_option the_row.coded },
+    pub ghost database: { Option OpenDatabase } by { coded_option the_row.coded },
 }
 
 impl Model for Handle {
@@ -39,7 +39,7 @@ impl Handle {
     }
 
     /// A handle of that database.
-    fn of(raw: RawBox<Database, Global>) -> Handle
+    fn of(raw: RawBox<OpenDatabase, Global>) -> Handle
         ensures { result.database ≡ Some raw.value }
     {
         let RawBox { at, alloc: _ } = raw;
@@ -47,7 +47,7 @@ impl Handle {
     }
 
     /// The database, if there is one.
-    fn into_raw(self, alloc: Global) -> Option<RawBox<Database, Global>>
+    fn into_raw(self, alloc: Global) -> Option<RawBox<OpenDatabase, Global>>
         ensures { MatchOption result (self.database ≡ None) (λ b. self.database ≡ Some b.value) }
     {
         let Handle { at } = self;
@@ -55,14 +55,14 @@ impl Handle {
             None
         } else {
             Some(RawBox {
-                at: at as *mut Database,
+                at: at as *mut OpenDatabase,
                 alloc,
             })
         }
     }
 
     /// Takes the database out, and leaves a handle of none.
-    pub fn take(&mut self, alloc: Global) -> Option<Box<Database>>
+    pub fn take(&mut self, alloc: Global) -> Option<Box<OpenDatabase>>
         ensures taken { MatchOption result (self.old.database ≡ None) (λ b. self.old.database ≡ Some b.value) }
         ensures closed { self.new.database ≡ None }
     {
@@ -73,7 +73,7 @@ impl Handle {
     }
 
     /// Makes this a handle of that database, and frees another that was there.
-    pub fn put(&mut self, alloc: Global, database: Box<Database>)
+    pub fn put(&mut self, alloc: Global, database: Box<OpenDatabase>)
         ensures { self.new.database ≡ Some database.value }
     {
         let before = replace(self, Handle::of(RawBox::from_box(database)));

@@ -35,7 +35,7 @@ mod statements;
 pub mod transaction_calls;
 mod transactions;
 
-use crate::database::Database;
+use crate::database::OpenDatabase;
 use crate::handle::Handle;
 use mm_statements::{RequestFault, StreamFault};
 use no_memory::NoMemory;
@@ -86,11 +86,15 @@ pub struct Bytes {
 }
 
 // A database with no tables and no statements, in a place of its own.
-fn new_database(alloc: Global, policy: Policy, limits: Limits) -> Result<Box<Database>, NoMemory>
+fn new_database(
+    alloc: Global,
+    policy: Policy,
+    limits: Limits,
+) -> Result<Box<OpenDatabase>, NoMemory>
     requires { limits.rows ≤ 16777216 }
     ensures { IfOk result (λ database. IsNew limits database.value) }
 {
-    let database = Database::new(alloc, policy, limits)?;
+    let database = OpenDatabase::new(alloc, policy, limits)?;
     Ok(Box::new(alloc, database)?)
 }
 

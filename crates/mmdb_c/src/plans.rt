@@ -1,11 +1,11 @@
 //! The plan of the select that a line spells.
 
-use crate::database::Database;
+use crate::database::OpenDatabase;
 use mm_reason::plan_words;
 use plain_tables::Refusal;
 use std::alloc::Global;
 
-impl Database {
+impl OpenDatabase {
     ghost use Rattle.std.specs.Prelude.{IfErr, OnErr, OnOk};
     ghost use Rattle.plain_streams.specs.Requests.{without_return};
     ghost use Rattle.mm_statements.specs.Planning.{IsUnplanned as IsUnplannedFor};

@@ -1,6 +1,6 @@
 //! Why a statement was refused, and why a line is none.
 
-use crate::database::Database;
+use crate::database::OpenDatabase;
 use mm_reason::{ReasonFault, prepare_reason, refusal_of, statement_reason};
 use no_memory::NoMemory;
 use std::alloc::Global;
@@ -36,7 +36,7 @@ impl From<ReasonFault> for Unexplained {
     }
 }
 
-impl Database {
+impl OpenDatabase {
     ghost use Rattle.std.specs.Prelude.{◌≡◌, Err};
     ghost use Rattle.mmdb_c.specs.Calls.{IsAsBefore};
     ghost use Rattle.mmdb_c.specs.StatementCalls.{IsMissing};

@@ -3,14 +3,14 @@
 ghost use Rattle.std.specs.Prelude.{◌≡◌, ◌<◌};
 ghost use Rattle.mmdb_c.specs.StatementCalls.{HasColumns, Tells};
 
-use mm_cells::{Cell, Cells};
+use mm_cells::{Cells, ResultCell};
 use mm_statements::Executed;
 
 /// The cells of rows, one row behind the other, and the bytes of their texts; or how many rows were changed.
 #[repr(C)]
 #[derive(Drop)]
 pub struct Rows {
-    pub cells: *const Cell,
+    pub cells: *const ResultCell,
     pub texts: *const u8,
     pub rows: usize,
     pub columns: usize,

@@ -1,19 +1,19 @@
 //! Databases that share their tables.
 
-use crate::database::Database;
+use crate::database::OpenDatabase;
 use mm_cells::Cells;
 use mm_session::Answer;
 use mm_statements::ShareFault;
 use std::alloc::Global;
 
-impl Database {
+impl OpenDatabase {
     ghost use Rattle.std.specs.Prelude.{◌≡◌, ◌⊎◌, Err, false, IfOk, IsErrOf, OnErr, OnOk};
     ghost use Rattle.mm_statements.specs.declared.faults.ShareFault.TheVariants as share_fault;
     ghost use Rattle.mmdb_c.specs.Sharing.{IsShared, Leaves, OpensOn, Shares, SharesMore};
     ghost use Rattle.mmdb_c.specs.Transacting.{IsInTransaction};
 
     /// A database that shares the tables, with no statements, an empty answer and an empty reason.
-    pub fn reader(&mut self, alloc: Global) -> Result<Database, ShareFault>
+    pub fn reader(&mut self, alloc: Global) -> Result<OpenDatabase, ShareFault>
         ensures done { IfOk result (OpensOn self.old) }
         ensures sharing { OnOk result (IsShared self.new) }
         ensures stays { SharesMore self.old self.new }
@@ -21,7 +21,7 @@ impl Database {
         ensures open { IsErrOf result share_fault.InTransaction → IsInTransaction self.old }
         ensures waits { IsInTransaction self.old → result ≡ Err share_fault.InTransaction }
     {
-        Ok(Database {
+        Ok(OpenDatabase {
             inner: self.inner.reader(alloc)?,
             answer: Answer::new(alloc)?,
             reason: Answer::new(alloc)?,
@@ -32,7 +32,7 @@ impl Database {
     }
 
     /// Has another database share the tables, in the place of its own.
-    pub fn share(&mut self, alloc: Global, other: &mut Database) -> Result<(), ShareFault>
+    pub fn share(&mut self, alloc: Global, other: &mut OpenDatabase) -> Result<(), ShareFault>
         ensures done { OnOk result (Shares self.old other.old other.new) }
         ensures sharing { OnOk result (IsShared self.new) }
         ensures stays { SharesMore self.old self.new }

@@ -6,14 +6,14 @@ ghost use Rattle.mm_statements.specs.declared.faults.ShareFault.TheVariants as s
 ghost use Rattle.mmdb_c.specs.Transacting.{IsInTransaction};
 ghost use Rattle.mmdb_c.specs.Sharing.{IsShared, Joins, Leaves, OpensOn, SharesMore};
 
-use crate::database::Database;
+use crate::database::OpenDatabase;
 use crate::handle::Handle;
 use crate::{DONE, IN_TRANSACTION, NO_MEMORY, NOT_OPEN};
 use mm_statements::ShareFault;
 use std::alloc::Global;
 
 // A database that shares the tables, in a place of its own.
-fn new_reader(alloc: Global, database: &mut Database) -> Result<Box<Database>, ShareFault>
+fn new_reader(alloc: Global, database: &mut OpenDatabase) -> Result<Box<OpenDatabase>, ShareFault>
     ensures done { IfOk result (λ reader. OpensOn database.old reader.value) }
     ensures sharing { OnOk result (IsShared database.new) }
     ensures stays { SharesMore database.old database.new }
@@ -29,7 +29,7 @@ fn new_reader(alloc: Global, database: &mut Database) -> Result<Box<Database>, S
 }
 
 // Has a handle share the tables of a database.
-fn join(alloc: Global, database: &mut Database, reader: &mut Handle) -> Result<(), ShareFault>
+fn join(alloc: Global, database: &mut OpenDatabase, reader: &mut Handle) -> Result<(), ShareFault>
     ensures done { OnOk result (Joins database.old reader.old.database reader.new.database) }
     ensures sharing { OnOk result (IsShared database.new) }
     ensures stays { SharesMore database.old database.new }

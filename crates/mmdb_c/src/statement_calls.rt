@@ -18,7 +18,7 @@ use crate::{
     DONE, NO_LINE, NO_MEMORY, NO_SUCH_PLACE, NO_SUCH_STATEMENT, NOT_OPEN, NOT_UTF8, REFUSED,
     SHARED, TOO_LARGE,
 };
-use mm_statements::{Cell, Declined, Executed, QueryFault};
+use mm_statements::{Declined, Executed, LentValue, QueryFault};
 use std::alloc::Global;
 
 /// Prepares the statement that a line spells, and tells its number and how many places it has.
@@ -60,7 +60,7 @@ pub extern "C" fn mmdb_prepare(
 }
 
 // Binds a value to a place of a statement.
-fn bind(alloc: Global, handle: &mut Handle, statement: u32, place: u32, cell: Cell<'_>) -> u32
+fn bind(alloc: Global, handle: &mut Handle, statement: u32, place: u32, cell: LentValue<'_>) -> u32
     ensures not_open { (result ≡ NOT_OPEN) ↔ IsNone handle.old.database }
     ensures missing { IsSomeAnd handle.old.database (IsMissing statement) → result ≡ NO_SUCH_STATEMENT }
     ensures past { IsSomeAnd handle.old.database (IsPast statement place) → result ≡ NO_SUCH_PLACE }
@@ -104,7 +104,7 @@ pub extern "C" fn mmdb_bind_integer(
     ensures kept { result ≢ DONE → IsSome handle.old.database → Becomes handle.old.database handle.new.database KeepsEach }
     ensures closed { result ≡ NOT_OPEN → handle.new.database ≡ handle.old.database }
 {
-    bind(alloc, handle, statement, place, Cell::Integer(integer))
+    bind(alloc, handle, statement, place, LentValue::Integer(integer))
 }
 
 /// Binds a null to a place of a statement. It needs no memory.
@@ -125,7 +125,7 @@ pub extern "C" fn mmdb_bind_null(
     ensures kept { result ≢ DONE → IsSome handle.old.database → Becomes handle.old.database handle.new.database KeepsEach }
     ensures closed { result ≡ NOT_OPEN → handle.new.database ≡ handle.old.database }
 {
-    bind(alloc, handle, statement, place, Cell::Null)
+    bind(alloc, handle, statement, place, LentValue::Null)
 }
 
 /// Binds a text to a place of a statement. It is copied. One of at most 14 bytes needs no memory.
@@ -150,7 +150,7 @@ pub extern "C" fn mmdb_bind_text(
     ensures closed { result ≡ NOT_OPEN → handle.new.database ≡ handle.old.database }
 {
     if let Ok(text) = str::from_utf8(text) {
-        return bind(alloc, handle, statement, place, Cell::Text(text));
+        return bind(alloc, handle, statement, place, LentValue::Text(text));
     }
     let Some(database) = handle.take(alloc) else {
         return NOT_OPEN;

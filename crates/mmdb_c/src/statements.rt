@@ -8,10 +8,10 @@ ghost use Rattle.mm_statements.specs.declared.faults.QueryFault.TheVariants as q
 ghost use Rattle.mmdb_c.specs.declared.statements.Unprepared.TheVariants as unprepared;
 ghost use Rattle.mmdb_c.specs.declared.statements.Unexecuted.TheVariants as unexecuted;
 
-use crate::database::Database;
+use crate::database::OpenDatabase;
 use crate::rows::Rows;
 use mm_cells::Cells;
-use mm_statements::{Cell, Declined, ExecuteFault, PrepareFault, QueryFault};
+use mm_statements::{Declined, ExecuteFault, LentValue, PrepareFault, QueryFault};
 use no_memory::NoMemory;
 use plain_tables::Refusal;
 use std::alloc::Global;
@@ -56,7 +56,7 @@ fn make_room(shown: &mut Vec<Cells>, number: usize) -> Result<(), NoMemory>
     Ok(())
 }
 
-impl Database {
+impl OpenDatabase {
     ghost use Rattle.mmdb_c.specs.StatementCalls.{Prepares, IsUnprepared, KeepsAll, KeepsEach, KeepsOthers, KeepsShown, KeepsStatements, IsMissing, IsPast, IsUnbound, Binds, Finalizes, HasTold, Executes, IsUnexecuted, IsUntold, KeepsColumns, Queries, IsUnqueried, shown_by};
     ghost use Rattle.mm_cells.specs.Reading.{AreFull};
     ghost use Rattle.mm_cells.specs.Values.{values_of};
@@ -92,7 +92,7 @@ impl Database {
     }
 
     /// Binds a value to a place of a statement. Only a text of more than 14 bytes needs memory.
-    pub fn bind(&mut self, number: u32, place: u32, cell: Cell<'_>) -> Result<(), Declined>
+    pub fn bind(&mut self, number: u32, place: u32, cell: LentValue<'_>) -> Result<(), Declined>
         ensures bound { OnOk result (Binds number place (cell_value cell.entry) self.old self.new) }
         ensures missing { IsMissing number self.old → result ≡ Err declined.NoSuchStatement }
         ensures past { IsPast number place self.old → result ≡ Err declined.NoSuchPlace }

@@ -1,9 +1,9 @@
 //! Transactions of a database.
 
-use crate::database::Database;
+use crate::database::OpenDatabase;
 use mm_statements::{BeginFault, NoTransaction};
 
-impl Database {
+impl OpenDatabase {
     ghost use Rattle.std.specs.Prelude.{◌≡◌, IsErrOf, length, OnErr, OnOk};
     ghost use Rattle.plain_tables.specs.Transactions.{begun, committed, rolled_back};
     ghost use Rattle.mm_statements.specs.declared.faults.BeginFault.TheVariants as begin_fault;

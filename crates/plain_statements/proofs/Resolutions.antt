@@ -31,7 +31,7 @@ use Rattle.plain_tables.specs.declared.resolved.Resolved.TheVariants as resolved
 use Rattle.std.proofs.lemmas.Simd.{map-map}
 use Rattle.common_lemmas.proofs.Filters.{filter-map}
 use Rattle.common_lemmas.proofs.Tests.{or_false, or_true}
-use Rattle.plain_tables.proofs.ColumnLemmas.{meant_where_one}
+use Rattle.plain_tables.proofs.Columns.{meant_where_one}
 use Rattle.plain_statements.specs.declared.statement.Slot.{Slot}
 use Rattle.plain_statements.specs.declared.statement.Slot.TheVariants.{Given, Hole}
 use Rattle.plain_statements.specs.declared.statement.SlotSetting.{SlotSetting}

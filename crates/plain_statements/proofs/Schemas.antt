@@ -2,7 +2,7 @@
 use Rattle.std.proofs.Common.{◌≡◌, false, List, [], refl, sym, ◌∙◌}
 use Rattle.plain_tables.specs.ResolvedLaws.{is_on_indexes}
 use Rattle.plain_tables.specs.declared.value.Value.{Value}
-use Rattle.plain_tables.proofs.SchemaLemmas.{resolved_by_schemas}
+use Rattle.plain_tables.proofs.Schemas.{resolved_by_schemas}
 use Rattle.plain_statements.specs.declared.statement.Statement.{Statement}
 use Rattle.plain_statements.specs.declared.statement.Statement.TheVariants as statement
 use Rattle.plain_statements.specs.Filling.{filled}

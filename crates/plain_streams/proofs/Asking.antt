@@ -16,7 +16,7 @@ use Rattle.plain_tables.specs.Reading.{lexeme, after_lexeme}
 use Rattle.plain_tables.specs.Spelling.{Keyword, Name, Count, Spells}
 use Rattle.plain_tables.specs.declared.command.Command.TheVariants.{Load}
 use Rattle.plain_tables.proofs.Lexemes.{lexeme-of_made, made-from_lexeme, blanks-no_lexeme, no_lexeme-blanks}
-use Rattle.mm_csv.proofs.FieldLemmas.{numeral-is, is-numeral}
+use Rattle.mm_csv.proofs.FieldParts.{numeral-is, is-numeral}
 use Rattle.plain_streams.specs.Division.{IsUnbroken}
 use Rattle.plain_streams.specs.Requests.{IsReadable, Asks, Takes, asked, unasked, without_return}
 

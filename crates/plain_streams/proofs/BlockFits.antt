@@ -11,7 +11,7 @@ use Rattle.std.specs.declared.cmp.Ordering.TheVariants.{Less, Equal, Greater}
 use Rattle.std.proofs.lemmas.Bool.{cases_Bool, false≢true, le-ltb}
 use Rattle.std.proofs.lemmas.List.Elements.{All-nil, All-cons, All-head, All-tail}
 use Rattle.std.proofs.lemmas.Option.{none-some, same_Some}
-use Rattle.plain_tables.proofs.BlockLemmas.{all_parts}
+use Rattle.plain_tables.proofs.Blocks.{all_parts}
 use Rattle.plain_tables.specs.Names.{IsName}
 use Rattle.plain_tables.specs.Tables.{Table, Row, key_cmp, has_key_of}
 use Rattle.plain_tables.specs.Databases.{Database, is_named, table_named}
@@ -26,10 +26,10 @@ use Rattle.plain_tables.specs.declared.schema.ColKind.{ColKind}
 use Rattle.plain_tables.specs.declared.schema.ColKind.TheVariants as kind
 use Rattle.plain_tables.specs.declared.schema.Column.{Column}
 use Rattle.plain_tables.specs.declared.command.Limits.{Limits}
-use Rattle.plain_tables.proofs.HeldLemmas.{RowsFit}
+use Rattle.plain_tables.proofs.Held.{RowsFit}
 use Rattle.common_lemmas.proofs.Tests.{find_satisfies}
 use Rattle.common_lemmas.proofs.Options.{option_map_some}
-use Rattle.plain_tables.proofs.ValueLemmas.{value_cmp-exact}
+use Rattle.plain_tables.proofs.Values.{value_cmp-exact}
 use Rattle.plain_streams.specs.Dumps.{IsReadBack}
 
 -- ---- lists

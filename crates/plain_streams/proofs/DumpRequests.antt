@@ -31,8 +31,8 @@ use Rattle.plain_streams.specs.Division.{IsWhole, Divides, request_bytes, last_r
 use Rattle.plain_streams.specs.Runs.{Answers, AnswersAll, IsEffect, HasBlock, command, effect}
 use Rattle.plain_streams.specs.Dumps.{DumpsAreRequests, DumpsRunAgain, load_request}
 use Rattle.plain_streams.proofs.Asking.{asks_one}
-use Rattle.plain_streams.proofs.DivisionLemmas.{Divides-behind, Divides-nil}
-use Rattle.plain_streams.proofs.DumpLemmas.{dumped, dumps_load_again}
+use Rattle.plain_streams.proofs.Division.{Divides-behind, Divides-nil}
+use Rattle.plain_streams.proofs.Dumps.{dumped, dumps_load_again}
 
 -- ---- characters that are shown
 

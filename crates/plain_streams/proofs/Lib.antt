@@ -1,10 +1,10 @@
 pub mod Asking
 pub mod BlockFits
-pub mod DivisionLemmas
-pub mod DumpLemmas
+pub mod Division
+pub mod Dumps
 pub mod DumpRequests
 pub mod LoadRows
-pub mod RunLemmas
+pub mod Runs
 pub mod RunSteps
 pub mod SpelledTexts
-pub mod TextLemmas
+pub mod Texts

@@ -24,7 +24,7 @@ use Rattle.common_lemmas.proofs.Pairs.{AllPairs-behind}
 use Rattle.common_lemmas.proofs.Filters.{filter_all, filter_none}
 use Rattle.common_lemmas.proofs.Places.{slice_get_set}
 use Rattle.std.proofs.lemmas.List.{set-set}
-use Rattle.plain_tables.proofs.RowLemmas.{key_cmp_total}
+use Rattle.plain_tables.proofs.Rows.{key_cmp_total}
 
 -- ---- a row above all others
 

@@ -18,7 +18,7 @@ use Rattle.plain_tables.specs.declared.numbers.TableNumber.{TableNumber}
 use Rattle.plain_tables.specs.declared.resolved.Resolved.{Resolved}
 use Rattle.plain_tables.specs.declared.resolved.Resolved.TheVariants as resolved
 use Rattle.common_lemmas.proofs.Options.{option_map_or_satisfies}
-use Rattle.plain_tables.proofs.ColumnLemmas.{column_within}
+use Rattle.plain_tables.proofs.Columns.{column_within}
 
 -- what it is resolved to satisfies P
 pub satisfies : (P : Resolved → Type 0) (found : Result Resolved Refusal) (r : Resolved) → found ≡ Ok r → IfOk found P → P r

@@ -3,7 +3,7 @@ use Rattle.std.proofs.Common.{◌≡◌, Bool, ℕ, ◌<◌, length, List, Optio
 use Rattle.std.specs.Prelude.{IfSome}
 use Rattle.std.specs.List.{position, HoldsAt}
 use Rattle.std.proofs.lemmas.List.Quantifiers.{position-Some}
-use Rattle.plain_tables.proofs.ListLemmas.{position_found}
+use Rattle.plain_tables.proofs.Elements.{position_found}
 use Rattle.plain_tables.specs.declared.resolved.Test.{Test}
 
 pub leftmost_passes : (passes : Test → Bool) (tests : List Test) (first : Option ℕ) → first ≡ position passes tests

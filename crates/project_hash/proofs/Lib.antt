@@ -1,8 +1,8 @@
 pub mod Comparing
-pub mod KnownLemmas
+pub mod KnownRows
 pub mod Once
 pub mod Picked
 pub mod Reading
 pub mod Same
-pub mod ScanLemmas
-pub mod TableLemmas
+pub mod Scans
+pub mod Tables

@@ -7,7 +7,7 @@ use Rattle.std.specs.declared.cmp.Ordering.TheVariants.{Equal}
 use Rattle.std.specs.FinMap.{slice_cmp-IsAntisymmetric}
 use Rattle.std.proofs.lemmas.Map.Views.{tells_apart}
 use Rattle.plain_tables.specs.declared.value.Value.{Value}
-use Rattle.plain_tables.proofs.ValueLemmas.{value_cmp-exact}
+use Rattle.plain_tables.proofs.Values.{value_cmp-exact}
 use Rattle.project_hash.specs.Distinct.{values_cmp}
 use Rattle.project_hash.specs.Hashes.{hash_of_values}
 use Rattle.project_hash.specs.Shown.{ShownState}

@@ -1,1 +1,1 @@
-pub mod LinkLemmas
+pub mod Links

@@ -20,7 +20,7 @@ use Rattle.temp_list.specs.Lists.{key_cmp}
 use Rattle.temp_list.specs.Reading.{row_passes, passing}
 use Rattle.temp_list.specs.Selecting.{AreSelected}
 use Rattle.temp_list.proofs.OneOrder.{one_order}
-use Rattle.temp_list.proofs.SelectLemmas.{passing_held}
+use Rattle.temp_list.proofs.Selects.{passing_held}
 
 -- what is below by a comparison made twice is not above by it
 not_above : (o r : Ordering) → r ≡ ordering_reverse o → ordering_then o o ≡ Less → is_lt r ≡ false

@@ -26,8 +26,8 @@ use Rattle.mm_relation.specs.State.{RelationState}
 use Rattle.temp_list.specs.Reading.{AreSound}
 use Rattle.temp_list.specs.Lists.{IsRowOver, HasPlace, keys_cmp, row_keys, key_in}
 use Rattle.temp_list.specs.ListLaws.{SortedAreOne, SameAreOver}
-use Rattle.temp_list.proofs.ReadingLemmas.{sound_at}
-use Rattle.temp_list.proofs.SortLemmas.{keys_total}
+use Rattle.temp_list.proofs.Reading.{sound_at}
+use Rattle.temp_list.proofs.Sorts.{keys_total}
 
 -- ---- lists that rise by an order
 

@@ -138,7 +138,7 @@ fn asks_for_key(test: &Test) -> bool
 }
 
 // The leftmost test that asks for the row of one key.
-#[tactic(auto, using(crate::proofs::OnlyRowLemmas::leftmost_asks))]
+#[tactic(auto, using(crate::proofs::OnlyRow::leftmost_asks))]
 fn key_test(tests: &[Test]) -> Option<usize>
     ensures first { result ≡ position is_for_key tests.now }
     ensures asks { IfSome result (AsksForKey tests.now) }

@@ -22,7 +22,6 @@ use ttree_node::{LinkedTree, Look, Walk};
 const SEARCHES: u8 = 15;
 
 /// References in order, in nodes of at most `MAX`. A node with two children holds at least `MIN`.
-#[derive(Drop)]
 pub struct TTree<const MIN: usize, const MAX: usize> {
     pub(crate) tree: LinkedTree<MAX>,
     // How many references it holds.
@@ -31,6 +30,17 @@ pub struct TTree<const MIN: usize, const MAX: usize> {
     pub(crate) nodes: usize,
     // How many inserts are made by a search before the next one is tried at the end.
     searches: u8,
+}
+
+impl<const MIN: usize, const MAX: usize> Drop for TTree<MIN, MAX> {
+    fn drop(self) {
+        let TTree {
+            tree: _,
+            len: _,
+            nodes: _,
+            searches: _,
+        } = self;
+    }
 }
 
 impl<const MIN: usize, const MAX: usize> Model for TTree<MIN, MAX> {

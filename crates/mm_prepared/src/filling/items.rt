@@ -4,7 +4,7 @@ ghost use Rattle.plain_statements.specs.Filling.{slot_value};
 ghost use Rattle.plain_statements.specs.Finishing.{filled_assignment, filled_join, filled_source, filled_test};
 ghost use Rattle.mm_prepared.specs.Cells.{cell_value};
 
-use crate::cell::Cell;
+use crate::lent_value::LentValue;
 use no_memory::NoMemory;
 use plain_statements::{Slot, SlotAssignment, SlotJoined, SlotSource, SlotTest};
 use plain_tables::{Assignment, Joined, Place, Sequence, Source, Test, Value};
@@ -78,14 +78,14 @@ pub fn fill_each<S: Fill>(
 
 // The value of a slot, lent. Behind the values there are nulls.
 #[inline]
-fn value_of<'a>(values: &'a [Value], slot: &'a Slot) -> Cell<'a>
+fn value_of<'a>(values: &'a [Value], slot: &'a Slot) -> LentValue<'a>
     ensures { cell_value result ≡ slot_value values.now slot.now }
 {
     match slot {
-        Slot::Given(value) => Cell::of(value),
+        Slot::Given(value) => LentValue::of(value),
         Slot::Hole(hole) => match values.get(*hole) {
-            Some(value) => Cell::of(value),
-            None => Cell::Null,
+            Some(value) => LentValue::of(value),
+            None => LentValue::Null,
         },
     }
 }
@@ -103,7 +103,7 @@ impl Fill for Slot {
     #[inline]
     fn fill(&self, alloc: Global, values: &[Value], kept: &mut Value) -> Result<(), NoMemory> {
         match value_of(values, self) {
-            Cell::Integer(number) => *kept = Value::Int(number),
+            LentValue::Integer(number) => *kept = Value::Int(number),
             cell => *kept = cell.to_value(alloc)?,
         }
         Ok(())

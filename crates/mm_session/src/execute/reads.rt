@@ -7,7 +7,7 @@ use super::ReadExecutor;
 use crate::answer::Answer;
 use crate::stream::lines::Judged;
 use mm_catalog::Catalog;
-use mm_lang::{Line, ParseRefusal, parse};
+use mm_lang::{Line, parse};
 use plain_tables::{Refusal, Resolved};
 
 const LINE_TOO_LONG: &[u8] = b"error 10 line too long\n";
@@ -43,11 +43,7 @@ impl ReadExecutor {
         ensures meant { IfOk result (IsMeant catalog.now.limits (database_of catalog.now)) }
         ensures refused { IfErr result (Declines (block_records block.now) catalog.now.limits (database_of catalog.now) line.now) }
     {
-        let command = match parse(self.alloc, line) {
-            Ok(command) => command,
-            Err(ParseRefusal::Syntax) => return Err(Refusal::NotACommand),
-            Err(ParseRefusal::NoMemory) => return Err(Refusal::NoMemory),
-        };
+        let command = parse(self.alloc, line)?;
         catalog.resolve(command, block)
     }
 

@@ -87,19 +87,19 @@ impl LineBuffer {
 
 /// What is kept of a request that has not come whole: of its line, and once the line has ended, of its block too.
 #[derive(Drop)]
-pub struct Kept {
+pub struct KeptInput {
     pub line: LineBuffer,
     pub block: Option<PendingBlock>,
 }
 
-impl Kept {
+impl KeptInput {
     ghost use Rattle.mm_session.specs.Kept.{nothing, is_nothing};
 
     /// Nothing, with room for the longest line.
-    pub fn new(alloc: Global) -> Result<Kept, NoMemory>
+    pub fn new(alloc: Global) -> Result<KeptInput, NoMemory>
         ensures { IfOk result (λ kept. kept ≡ nothing) }
     {
-        Ok(Kept {
+        Ok(KeptInput {
             line: LineBuffer::new(alloc)?,
             block: None,
         })

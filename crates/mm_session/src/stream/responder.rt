@@ -3,7 +3,7 @@
 use crate::answer::Answer;
 use crate::execute::Executor;
 use crate::fault::{NotOneRequest, ReadFault};
-use crate::stream::kept::Kept;
+use crate::stream::kept::KeptInput;
 use crate::stream::lines::{judge, judge_whole, split_line};
 use crate::stream::pending_block::{PendingBlock, Unkept};
 use mm_catalog::Catalog;
@@ -22,7 +22,7 @@ const NO_MEMORY: &[u8] = b"error 90 no memory\n";
 pub struct Responder {
     alloc: Global,
     pub executor: Executor,
-    pub kept: Kept,
+    pub kept: KeptInput,
     pub answer: Answer,
 }
 
@@ -50,7 +50,7 @@ impl Responder {
         Ok(Responder {
             alloc,
             executor: Executor::new(alloc, policy, catalog),
-            kept: Kept::new(alloc)?,
+            kept: KeptInput::new(alloc)?,
             answer: Answer::new(alloc)?,
         })
     }

@@ -3,7 +3,7 @@ use Rattle.std.specs.List.{Contains}
 use Rattle.std.proofs.lemmas.List.{append_assoc}
 use Rattle.lin_hash.specs.Nodes.{leads_to, next_at, entry_at}
 use Rattle.lin_hash.specs.Chains.{Placed, place_of, placed_at, IsChain, Visits}
-use Rattle.lin_hash.proofs.ChainLemmas.{IsChain-unique}
+use Rattle.lin_hash.proofs.Chaining.{IsChain-unique}
 use Rattle.lin_hash.proofs.Hung.{IsChain-first}
 use Rattle.lin_hash.proofs.Linking.{last_place-push, Contains-behind}
 use Rattle.lin_hash.proofs.Walks.{EndsWithin-from_chain, walk-smaller}

@@ -3,7 +3,7 @@ use Rattle.std.proofs.lemmas.List.{length-set}
 use Rattle.lin_hash.specs.Nodes.{leads_to, node_at, entries_of}
 use Rattle.lin_hash.specs.Chains.{Placed, AreHung}
 use Rattle.lin_hash.proofs.Placed.{entries-relinked}
-use Rattle.lin_hash.proofs.ChainLemmas.{IsChain-unique}
+use Rattle.lin_hash.proofs.Chaining.{IsChain-unique}
 use Rattle.lin_hash.proofs.Hung.{AreHung-inside}
 use Rattle.lin_hash.proofs.Linking.{Stands-loose, AreHung-step, walk-smaller}
 use Rattle.lin_hash.proofs.chains.link_from.Goals as goal

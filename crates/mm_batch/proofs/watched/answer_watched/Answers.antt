@@ -2,12 +2,12 @@ use Rattle.std.proofs.Common.{◌++◌, ℕ, List, [], false, true, ◌∙◌, a
 use Rattle.std.specs.Io.KnownBytes.{Consumes}
 use Rattle.plain_tables.specs.declared.command.TheConstants.Limits.{STANDARD}
 use Rattle.mm_session.specs.WholeRuns.{IsFrontOfRun}
-use Rattle.mm_session.proofs.ResultLemmas.{on_err}
-use Rattle.mm_session.proofs.TurnLemmas.{come_more, come_none, prompt_kept, prompt_more, prompt_none}
-use Rattle.mm_session.proofs.WritingLemmas.{Appends-append, Appends-nothing, Consumes-append, Consumes-nothing, Consumes-keeps}
+use Rattle.mm_session.proofs.Results.{on_err}
+use Rattle.mm_session.proofs.Turns.{come_more, come_none, prompt_kept, prompt_more, prompt_none}
+use Rattle.mm_session.proofs.Writing.{Appends-append, Appends-nothing, Consumes-append, Consumes-nothing, Consumes-keeps}
 use Rattle.mm_batch.specs.Watching.{EndsStream, LosesStream, Stands, TakesPiece}
 use Rattle.mm_batch.specs.declared.watched.Ending.TheVariants.{Whole, Stopped}
-use Rattle.mm_batch.proofs.WatchLemmas.{IfOk-map, answered_so_far, passes, stands_new}
+use Rattle.mm_batch.proofs.Watches.{IfOk-map, answered_so_far, passes, stands_new}
 use Rattle.mm_batch.proofs.watched.answer_watched.Goals as goal
 
 pub loop-init : goal.loop-init

@@ -1,7 +1,7 @@
 use Rattle.std.proofs.Common.{◌≡◌, ℕ, List}
 use Rattle.std.specs.Io.KnownBytes.{Appends, Consumes}
 use Rattle.mm_session.specs.Turns.{IsPrompt}
-use Rattle.mm_session.proofs.TurnLemmas.{HasCome}
+use Rattle.mm_session.proofs.Turns.{HasCome}
 use Rattle.mm_batch.specs.Watching.{Stands}
 use Rattle.mm_batch.proofs.watched.answer_watched.Given as goal
 

@@ -3,7 +3,7 @@ use Rattle.std.specs.Prelude.{◌==◌}
 use Rattle.std.proofs.lemmas.List.{length-map, take_all}
 use Rattle.std.proofs.lemmas.Result.{on_ok_weaker}
 use Rattle.plain_tables.specs.Csv.{value_field}
-use Rattle.mm_csv.proofs.OutputLemmas.{record-ended}
+use Rattle.mm_csv.proofs.Outputs.{record-ended}
 use Rattle.mm_csv.proofs.fields.write_each.Goals as goal
 
 pub returns : goal.returns

@@ -2,7 +2,7 @@ use Rattle.std.proofs.Common.{◌≤◌, refl, length, rules}
 use Rattle.std.specs.Prelude.{◌==◌}
 use Rattle.std.proofs.lemmas.List.{take_all}
 use Rattle.std.proofs.lemmas.Result.{on_ok_weaker}
-use Rattle.mm_csv.proofs.OutputLemmas.{record-ended}
+use Rattle.mm_csv.proofs.Outputs.{record-ended}
 use Rattle.mm_csv.proofs.fields.write_names.Goals as goal
 
 pub returns : goal.returns

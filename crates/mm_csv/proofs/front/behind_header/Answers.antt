@@ -2,8 +2,8 @@ use Rattle.std.proofs.Common.{◌≡◌, ◌∙◌, ◌+◌, ◌++◌, ◌∷◌
 use Rattle.std.proofs.lemmas.List.{map-append, take_all, take_more}
 use Rattle.mm_csv.specs.BlockReading.{column_of, columns_of}
 use Rattle.mm_csv.specs.declared.field.Field.{Field}
-use Rattle.mm_csv.proofs.FrontLemmas.{HasFields, all-names, names_of, no-fields, one-name-more}
-use Rattle.mm_csv.proofs.ReadingLemmas.{text-same}
+use Rattle.mm_csv.proofs.Fronts.{HasFields, all-names, names_of, no-fields, one-name-more}
+use Rattle.mm_csv.proofs.Reading.{text-same}
 use Rattle.mm_csv.proofs.front.behind_header.Goals as goal
 
 pub loop-column-init : goal.loop-column-init

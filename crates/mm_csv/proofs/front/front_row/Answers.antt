@@ -2,7 +2,7 @@ use Rattle.std.proofs.Common.{◌≡◌, ◌∙◌, ◌+◌, ◌++◌, ◌∷◌
 use Rattle.std.proofs.lemmas.List.{map-append, take_all, take_more}
 use Rattle.mm_csv.specs.BlockReading.{column_of, columns_of}
 use Rattle.mm_csv.specs.declared.field.Field.{Field}
-use Rattle.mm_csv.proofs.FrontLemmas.{HasValues, all-values, no-values, one-value-more}
+use Rattle.mm_csv.proofs.Fronts.{HasValues, all-values, no-values, one-value-more}
 use Rattle.mm_csv.proofs.front.front_row.Goals as goal
 
 pub loop-column-init : goal.loop-column-init

@@ -1,5 +1,5 @@
 use Rattle.mm_csv.specs.BlockReading.{columns_of}
-use Rattle.mm_csv.proofs.FrontLemmas.{one-row-more, shorter}
+use Rattle.mm_csv.proofs.Fronts.{one-row-more, shorter}
 use Rattle.mm_csv.proofs.front.front_rows.Goals as goal
 
 pub loop-rows-smaller : goal.loop-rows-smaller

@@ -1,5 +1,5 @@
 use Rattle.std.proofs.lemmas.Bool.{and_parts}
-use Rattle.mm_csv.proofs.EndsLemmas.{ends-plain}
+use Rattle.mm_csv.proofs.LineEnds.{ends-plain}
 use Rattle.mm_csv.proofs.plain.lies_above_commas.Goals as goal
 
 pub returns-in-Some : goal.returns-in-Some

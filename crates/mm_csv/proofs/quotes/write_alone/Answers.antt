@@ -1,7 +1,7 @@
 use Rattle.std.proofs.Common.{◌∙◌, [], ◌∷◌, Some, true, ap, subst, arith}
 use Rattle.std.specs.Io.KnownBytes.{Appends}
 use Rattle.csv.specs.Writing as Csv
-use Rattle.mm_csv.proofs.CsvLemmas.{record-same, text-added}
+use Rattle.mm_csv.proofs.Csv.{record-same, text-added}
 use Rattle.mm_csv.proofs.quotes.write_alone.Goals.{in-Ok, in-Err-flush}
 use Rattle.mm_csv.proofs.quotes.write_alone.Goals as goal
 

@@ -1,5 +1,5 @@
 use Rattle.csv.specs.Records.{fields_of}
-use Rattle.mm_csv.proofs.ReaderLemmas.{next-read}
+use Rattle.mm_csv.proofs.Readers.{next-read}
 use Rattle.mm_csv.proofs.rows.next_record.Goals.{in-Ok, in-Err}
 use Rattle.mm_csv.proofs.rows.next_record.Goals as goal
 

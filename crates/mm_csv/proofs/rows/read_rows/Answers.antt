@@ -3,7 +3,7 @@ use Rattle.csv.specs.Reading.{default_config, records}
 use Rattle.csv.specs.Records.{fields_of}
 use Rattle.plain_tables.specs.CsvReading.{records_reading}
 use Rattle.mm_csv.specs.BlockReading.{columns_of, records_left}
-use Rattle.mm_csv.proofs.FrontLemmas.{err-behind, ok-behind, read-header}
+use Rattle.mm_csv.proofs.Fronts.{err-behind, ok-behind, read-header}
 use Rattle.mm_csv.proofs.rows.read_rows.Goals as goal
 
 pub returns-clause-rows : goal.returns-clause-rows

@@ -1,4 +1,4 @@
-use Rattle.mm_csv.proofs.ReaderLemmas.{begun}
+use Rattle.mm_csv.proofs.Readers.{begun}
 use Rattle.mm_csv.proofs.rows.reader_of.Goals as goal
 
 pub returns-clause-records : goal.returns-clause-records

@@ -2,7 +2,7 @@ use Rattle.std.proofs.Common.{◌∙◌, ◌++◌, sym, ap, vec_items}
 use Rattle.csv.specs.Reading.{default_config, records}
 use Rattle.plain_tables.specs.CsvReading.{records_reading, rows_reading}
 use Rattle.mm_csv.specs.BlockReading.{columns_of, records_left}
-use Rattle.mm_csv.proofs.FrontLemmas.{err-behind, ok-behind, read-behind, read-whole}
+use Rattle.mm_csv.proofs.Fronts.{err-behind, ok-behind, read-behind, read-whole}
 use Rattle.mm_csv.proofs.rows.rows_behind.Goals as goal
 
 pub returns-then-is_empty-clause-rows : goal.returns-then-is_empty-clause-rows

@@ -1,7 +1,7 @@
 use Rattle.std.proofs.Common.{◌≡◌, ◌∙◌, ◌++◌, ◌∷◌, [], sym, ap, append_assoc, length, rules}
 use Rattle.csv.specs.Records.{fields_of}
 use Rattle.mm_csv.specs.BlockReading.{columns_of}
-use Rattle.mm_csv.proofs.ReadingLemmas.{rows-bad, rows-more}
+use Rattle.mm_csv.proofs.Reading.{rows-bad, rows-more}
 use Rattle.mm_csv.proofs.rows.rows_left.Goals as goal
 
 pub loop-rows-preserved : goal.loop-rows-preserved

@@ -1,7 +1,7 @@
 use Rattle.std.proofs.Common.{◌≡◌, ◌≤◌, ◌<◌, ◌∙◌, sym, ap, length, rules}
 use Rattle.csv.specs.Records.{fields_of}
 use Rattle.csv.proofs.RecordFacts.{field-get, field-there}
-use Rattle.mm_csv.proofs.ReadingLemmas.{header-differs, header-done, header-more, text-differs, text-same}
+use Rattle.mm_csv.proofs.Reading.{header-differs, header-done, header-more, text-differs, text-same}
 use Rattle.mm_csv.proofs.values.is_header.Goals as goal
 
 pub returns-in_default : goal.returns-in_default

@@ -1,7 +1,7 @@
 use Rattle.std.proofs.Common.{◌≡◌, ◌≤◌, ◌<◌, ◌∙◌, sym, length, rules}
 use Rattle.csv.specs.Records.{fields_of}
 use Rattle.csv.proofs.RecordFacts.{field-get, field-there}
-use Rattle.mm_csv.proofs.ReadingLemmas.{row-done, row-misses, row-more}
+use Rattle.mm_csv.proofs.Reading.{row-done, row-misses, row-more}
 use Rattle.mm_csv.proofs.values.row_of.Goals as goal
 
 pub returns-in_default : goal.returns-in_default

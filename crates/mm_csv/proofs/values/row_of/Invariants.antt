@@ -2,7 +2,7 @@ use Rattle.std.proofs.Common.{◌≡◌, Some, take}
 use Rattle.csv.specs.Records.{fields_of}
 use Rattle.plain_tables.specs.CsvReading.{all_of}
 use Rattle.mm_csv.specs.BlockReading.{columns_of}
-use Rattle.mm_csv.proofs.ReadingLemmas.{cells}
+use Rattle.mm_csv.proofs.Reading.{cells}
 use Rattle.mm_csv.proofs.values.row_of.Given as goal
 
 -- the values so far

@@ -1,5 +1,5 @@
 use Rattle.std.proofs.Common.{◌≤◌, sym, length, rules}
-use Rattle.mm_csv.proofs.FieldLemmas.{text-there, text-wild}
+use Rattle.mm_csv.proofs.FieldParts.{text-there, text-wild}
 use Rattle.mm_csv.proofs.values.text_of.Goals as goal
 
 pub returns-in_ok-from_str-in-Ok : goal.returns-in_ok-from_str-in-Ok

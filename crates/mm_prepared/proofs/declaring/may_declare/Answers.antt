@@ -1,7 +1,7 @@
 use Rattle.std.proofs.Common.{◌≡◌, ◌∙◌, ap, sym, false}
 use lib.Chars.{codes}
 use Rattle.mm_prepared.specs.Declaring.{behind_blanks}
-use Rattle.mm_prepared.proofs.DeclareLemmas.{begins, last-begins, tables-begin}
+use Rattle.mm_prepared.proofs.Declarations.{begins, last-begins, tables-begin}
 use Rattle.mm_prepared.proofs.declaring.may_declare.Goals as goal
 
 pub returns-else-starts_with : goal.returns-else-starts_with

@@ -1,6 +1,6 @@
 use Rattle.std.proofs.Common.{[]}
 use Rattle.plain_tables.specs.declared.command.Command.TheVariants as command
-use Rattle.plain_tables.proofs.ResolvedLemmas.{resolved_are_meant}
+use Rattle.plain_tables.proofs.ResolvedCommands.{resolved_are_meant}
 use Rattle.mm_catalog.specs.Seen.{database_of}
 use Rattle.mm_reason.proofs.referrers.named_rows.Goals as goal
 

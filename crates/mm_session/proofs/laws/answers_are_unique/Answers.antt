@@ -1,4 +1,4 @@
-use Rattle.mm_session.proofs.StreamLemmas.{answers_are_unique}
+use Rattle.mm_session.proofs.Streams.{answers_are_unique}
 use Rattle.mm_session.proofs.laws.answers_are_unique.Goals as goal
 
 pub returns : goal.returns

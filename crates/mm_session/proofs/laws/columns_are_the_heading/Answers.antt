@@ -1,4 +1,4 @@
-use Rattle.mm_session.proofs.ColumnLawLemmas.{columns_are_the_heading}
+use Rattle.mm_session.proofs.ColumnLaws.{columns_are_the_heading}
 use Rattle.mm_session.proofs.laws.columns_are_the_heading.Goals as goal
 
 pub returns : goal.returns

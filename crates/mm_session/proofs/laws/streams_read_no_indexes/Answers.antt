@@ -1,4 +1,4 @@
-use Rattle.mm_session.proofs.StreamLemmas.{streams_read_no_indexes}
+use Rattle.mm_session.proofs.Streams.{streams_read_no_indexes}
 use Rattle.mm_session.proofs.laws.streams_read_no_indexes.Goals as goal
 
 pub returns : goal.returns

@@ -1,4 +1,4 @@
-use Rattle.mm_statements.proofs.LineLemmas.{statements_answer_as_their_lines}
+use Rattle.mm_statements.proofs.Lines.{statements_answer_as_their_lines}
 use Rattle.mm_statements.proofs.laws.statements_answer_as_their_lines.Goals as goal
 
 pub returns : goal.returns

@@ -4,7 +4,7 @@ use Rattle.plain_tables.specs.ResolvedLaws.{emptied}
 use Rattle.plain_tables.specs.Tables.{Table}
 use Rattle.mm_statements.specs.Noted.{noted_table}
 use Rattle.mm_catalog.specs.Seen.{database_of}
-use Rattle.mm_statements.proofs.NotedLemmas.{next-taken}
+use Rattle.mm_statements.proofs.NotedMeanings.{next-taken}
 use Rattle.mm_statements.proofs.noted.note_tables.Goals as goal
 
 pub loop-number-preserved : goal.loop-number-preserved

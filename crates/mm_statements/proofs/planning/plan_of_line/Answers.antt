@@ -6,7 +6,7 @@ use Rattle.mm_session.specs.Sessions.{State}
 use Rattle.mm_statements.specs.Planning as planning
 use Rattle.mm_statements.specs.Querying as querying
 use Rattle.mm_statements.specs.Querying.{IsMeaningOfLine}
-use Rattle.mm_statements.proofs.FinishedLemmas.{rows-change}
+use Rattle.mm_statements.proofs.Finished.{rows-change}
 use Rattle.mm_statements.proofs.planning.plan_of_line.Goals as goal
 
 pub returns-in_err-command-clause-refused : goal.returns-in_err-command-clause-refused

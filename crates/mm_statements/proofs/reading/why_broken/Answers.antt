@@ -2,7 +2,7 @@
 use Rattle.std.proofs.Common.{subst}
 use Rattle.plain_streams.specs.Division.{IsUnbroken}
 use Rattle.mm_statements.specs.Querying as querying
-use Rattle.mm_statements.proofs.MarkLemmas.{return-unbroken}
+use Rattle.mm_statements.proofs.Marks.{return-unbroken}
 use Rattle.mm_statements.proofs.reading.why_broken.Goals as goal
 
 pub returns-then-text-gt-LONGEST_LINE : goal.returns-then-text-gt-LONGEST_LINE

@@ -2,8 +2,8 @@ use Rattle.std.proofs.Common.{◌≡◌, sym, Some, Ok, Err}
 use Rattle.std.proofs.lemmas.Result.{IfErr-weaker, IfOk-weaker}
 use Rattle.mm_prepared.specs.Kept.{named}
 use Rattle.mm_prepared.specs.Lent.{lent_command}
-use Rattle.mm_statements.proofs.ExecuteLemmas.{is-finished, is-meant, known-resolves}
-use Rattle.mm_statements.proofs.FinishedLemmas.{finished-rows}
+use Rattle.mm_statements.proofs.Executing.{is-finished, is-meant, known-resolves}
+use Rattle.mm_statements.proofs.Finished.{finished-rows}
 use Rattle.mm_statements.proofs.resolving.command_of.Goals as goal
 
 pub returns-clause-finished : goal.returns-clause-finished

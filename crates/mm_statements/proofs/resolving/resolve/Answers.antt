@@ -1,5 +1,5 @@
 use Rattle.std.proofs.Common.{◌∙◌, sym}
-use Rattle.mm_statements.proofs.NotedLemmas.{right-now}
+use Rattle.mm_statements.proofs.NotedMeanings.{right-now}
 use Rattle.mm_statements.proofs.resolving.resolve.Goals as goal
 
 pub returns-then-is_some-clause-right : goal.returns-then-is_some-clause-right

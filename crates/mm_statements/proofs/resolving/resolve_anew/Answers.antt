@@ -4,9 +4,9 @@ use Rattle.std.specs.List.{Contains}
 use Rattle.mm_prepared.specs.Kept.{named}
 use Rattle.mm_statements.specs.Resolving.{LineMeans}
 use Rattle.mm_statements.specs.Right.{IsRight}
-use Rattle.mm_statements.proofs.ExecuteLemmas.{set-known, unmeant-refusing}
-use Rattle.mm_statements.proofs.MarkLemmas.{spelled-unbroken}
-use Rattle.mm_statements.proofs.RightLemmas.{resolve-right}
+use Rattle.mm_statements.proofs.Executing.{set-known, unmeant-refusing}
+use Rattle.mm_statements.proofs.Marks.{spelled-unbroken}
+use Rattle.mm_statements.proofs.Right.{resolve-right}
 use Rattle.mm_statements.proofs.resolving.resolve_anew.Goals as goal
 
 pub new-line-requires : goal.new-line-requires

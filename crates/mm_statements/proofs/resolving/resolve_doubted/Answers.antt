@@ -2,8 +2,8 @@ use Rattle.std.proofs.Common.{◌∙◌, refl, sym}
 use Rattle.std.proofs.lemmas.Result.{IfErr-weaker, err_from_is_err_and}
 use Rattle.mm_prepared.specs.Kept.{named}
 use Rattle.mm_statements.specs.Right.{AreNoted}
-use Rattle.mm_statements.proofs.ExecuteLemmas.{none-seen-before, on-ok, same-unresolved}
-use Rattle.mm_statements.proofs.NotedLemmas.{are-noted}
+use Rattle.mm_statements.proofs.Executing.{none-seen-before, on-ok, same-unresolved}
+use Rattle.mm_statements.proofs.NotedMeanings.{are-noted}
 use Rattle.mm_statements.proofs.resolving.resolve_doubted.Goals as goal
 
 pub settle-requires : goal.settle-requires

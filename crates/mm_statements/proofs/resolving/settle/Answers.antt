@@ -1,8 +1,8 @@
 use Rattle.std.proofs.Common.{◌∙◌, Ok, ap, sym}
 use Rattle.mm_catalog.specs.Seen.{database_of}
 use Rattle.mm_statements.specs.Noted.{noted_tables}
-use Rattle.mm_statements.proofs.NotedLemmas.{right-now}
-use Rattle.mm_statements.proofs.RightLemmas.{forgotten-right}
+use Rattle.mm_statements.proofs.NotedMeanings.{right-now}
+use Rattle.mm_statements.proofs.Right.{forgotten-right}
 use Rattle.mm_statements.proofs.resolving.settle.Goals as goal
 
 pub returns-then-are_current-clause-right : goal.returns-then-are_current-clause-right

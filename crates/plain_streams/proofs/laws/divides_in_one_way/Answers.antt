@@ -1,4 +1,4 @@
-use Rattle.plain_streams.proofs.DivisionLemmas.{divides_in_one_way}
+use Rattle.plain_streams.proofs.Division.{divides_in_one_way}
 use Rattle.plain_streams.proofs.laws.divides_in_one_way.Goals as goal
 
 pub returns : goal.returns

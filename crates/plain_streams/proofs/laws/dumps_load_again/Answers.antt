@@ -1,4 +1,4 @@
-use Rattle.plain_streams.proofs.DumpLemmas.{dumps_load_again, dumps_restore}
+use Rattle.plain_streams.proofs.Dumps.{dumps_load_again, dumps_restore}
 use Rattle.plain_streams.proofs.laws.dumps_load_again.Goals as goal
 
 pub returns-clause-copy : goal.returns-clause-copy

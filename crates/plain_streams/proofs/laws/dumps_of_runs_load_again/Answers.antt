@@ -1,4 +1,4 @@
-use Rattle.plain_streams.proofs.TextLemmas.{dumps_of_runs_load_again, reached_are_read_back}
+use Rattle.plain_streams.proofs.Texts.{dumps_of_runs_load_again, reached_are_read_back}
 use Rattle.plain_streams.proofs.laws.dumps_of_runs_load_again.Goals as goal
 
 pub returns-clause-read_back : goal.returns-clause-read_back

@@ -1,4 +1,4 @@
-use Rattle.plain_streams.proofs.RunLemmas.{errors_change_nothing}
+use Rattle.plain_streams.proofs.Runs.{errors_change_nothing}
 use Rattle.plain_streams.proofs.laws.errors_change_nothing.Goals as goal
 
 pub returns : goal.returns

@@ -1,4 +1,4 @@
-use Rattle.plain_streams.proofs.DivisionLemmas.{every_stream_divides}
+use Rattle.plain_streams.proofs.Division.{every_stream_divides}
 use Rattle.plain_streams.proofs.laws.every_stream_divides.Goals as goal
 
 pub returns : goal.returns

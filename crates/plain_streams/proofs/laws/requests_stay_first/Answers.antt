@@ -1,4 +1,4 @@
-use Rattle.plain_streams.proofs.DivisionLemmas.{requests_stay_first}
+use Rattle.plain_streams.proofs.Division.{requests_stay_first}
 use Rattle.plain_streams.proofs.laws.requests_stay_first.Goals as goal
 
 pub returns : goal.returns

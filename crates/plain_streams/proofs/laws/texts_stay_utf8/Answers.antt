@@ -1,4 +1,4 @@
-use Rattle.plain_streams.proofs.TextLemmas.{no_texts, texts_stay_utf8}
+use Rattle.plain_streams.proofs.Texts.{no_texts, texts_stay_utf8}
 use Rattle.plain_streams.proofs.laws.texts_stay_utf8.Goals as goal
 
 pub returns-clause-none : goal.returns-clause-none

@@ -1,4 +1,4 @@
-use Rattle.plain_tables.proofs.AlikeLemmas.{indexes_are_not_read}
+use Rattle.plain_tables.proofs.Alike.{indexes_are_not_read}
 use Rattle.plain_tables.proofs.command_laws.indexes_are_not_read.Goals as goal
 
 pub returns : goal.returns

@@ -1,4 +1,4 @@
-use Rattle.plain_tables.proofs.HeadingLemmas.{names_have_headings}
+use Rattle.plain_tables.proofs.Headings.{names_have_headings}
 use Rattle.plain_tables.proofs.command_laws.named_columns_have_headings.Goals as goal
 
 pub returns : goal.returns

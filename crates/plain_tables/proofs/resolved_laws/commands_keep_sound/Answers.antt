@@ -1,4 +1,4 @@
-use Rattle.plain_tables.proofs.ResolvedLemmas.{commands_keep_sound}
+use Rattle.plain_tables.proofs.ResolvedCommands.{commands_keep_sound}
 use Rattle.plain_tables.proofs.resolved_laws.commands_keep_sound.Goals as goal
 
 pub returns : goal.returns

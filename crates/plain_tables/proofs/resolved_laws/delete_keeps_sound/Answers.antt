@@ -1,4 +1,4 @@
-use Rattle.plain_tables.proofs.SoundLemmas.{delete_keeps_sound}
+use Rattle.plain_tables.proofs.Sound.{delete_keeps_sound}
 use Rattle.plain_tables.proofs.resolved_laws.delete_keeps_sound.Goals as goal
 
 pub returns : goal.returns

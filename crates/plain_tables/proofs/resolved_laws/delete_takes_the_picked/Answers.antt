@@ -1,4 +1,4 @@
-use Rattle.plain_tables.proofs.ChangeLemmas.{deletes_the_picked}
+use Rattle.plain_tables.proofs.Changes.{deletes_the_picked}
 use Rattle.plain_tables.proofs.resolved_laws.delete_takes_the_picked.Goals as goal
 
 pub returns : goal.returns

@@ -1,4 +1,4 @@
-use Rattle.plain_tables.proofs.SoundLemmas.{done_keeps_sound}
+use Rattle.plain_tables.proofs.Sound.{done_keeps_sound}
 use Rattle.plain_tables.proofs.resolved_laws.done_keeps_sound.Goals as goal
 
 pub returns : goal.returns

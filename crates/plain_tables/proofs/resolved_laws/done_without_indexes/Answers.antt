@@ -1,4 +1,4 @@
-use Rattle.plain_tables.proofs.AlikeLemmas.{done_alike}
+use Rattle.plain_tables.proofs.Alike.{done_alike}
 use Rattle.plain_tables.proofs.resolved_laws.done_without_indexes.Goals as goal
 
 pub returns : goal.returns

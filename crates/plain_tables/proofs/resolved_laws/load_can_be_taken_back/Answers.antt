@@ -1,4 +1,4 @@
-use Rattle.plain_tables.proofs.TakenLemmas.{load_can_be_taken_back}
+use Rattle.plain_tables.proofs.Taken.{load_can_be_taken_back}
 use Rattle.plain_tables.proofs.resolved_laws.load_can_be_taken_back.Goals as goal
 
 pub returns : goal.returns

@@ -1,4 +1,4 @@
-use Rattle.plain_tables.proofs.LoadLemmas.{load_goes_on}
+use Rattle.plain_tables.proofs.Loads.{load_goes_on}
 use Rattle.plain_tables.proofs.resolved_laws.load_goes_on.Goals as goal
 
 pub returns : goal.returns

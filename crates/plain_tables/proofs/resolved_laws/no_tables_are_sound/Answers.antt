@@ -1,4 +1,4 @@
-use Rattle.plain_tables.proofs.SoundLemmas.{no_tables_are_sound}
+use Rattle.plain_tables.proofs.Sound.{no_tables_are_sound}
 use Rattle.plain_tables.proofs.resolved_laws.no_tables_are_sound.Goals as goal
 
 pub returns : goal.returns

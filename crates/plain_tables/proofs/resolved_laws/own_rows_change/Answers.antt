@@ -1,4 +1,4 @@
-use Rattle.plain_tables.proofs.ChangeLemmas.{own_rows_change}
+use Rattle.plain_tables.proofs.Changes.{own_rows_change}
 use Rattle.plain_tables.proofs.resolved_laws.own_rows_change.Goals as goal
 
 pub returns : goal.returns

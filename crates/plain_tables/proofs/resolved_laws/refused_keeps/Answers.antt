@@ -1,4 +1,4 @@
-use Rattle.plain_tables.proofs.ChangeLemmas.{refused_keeps, refused_update_keeps, refused_delete_keeps}
+use Rattle.plain_tables.proofs.Changes.{refused_keeps, refused_update_keeps, refused_delete_keeps}
 use Rattle.plain_tables.proofs.resolved_laws.refused_keeps.Goals as goal
 
 pub returns : goal.returns

@@ -1,4 +1,4 @@
-use Rattle.plain_tables.proofs.ResolvedLemmas.{resolved_are_meant}
+use Rattle.plain_tables.proofs.ResolvedCommands.{resolved_are_meant}
 use Rattle.plain_tables.proofs.resolved_laws.resolved_are_meant.Goals as goal
 
 pub returns : goal.returns

@@ -1,4 +1,4 @@
-use Rattle.plain_tables.proofs.HeadingLemmas.{selects_rows}
+use Rattle.plain_tables.proofs.Headings.{selects_rows}
 use Rattle.plain_tables.proofs.resolved_laws.select_shows_rows.Goals as goal
 
 pub returns : goal.returns

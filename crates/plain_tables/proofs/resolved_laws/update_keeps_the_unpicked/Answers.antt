@@ -1,4 +1,4 @@
-use Rattle.plain_tables.proofs.ChangeLemmas.{update_keeps_unpicked}
+use Rattle.plain_tables.proofs.Changes.{update_keeps_unpicked}
 use Rattle.plain_tables.proofs.resolved_laws.update_keeps_the_unpicked.Goals as goal
 
 pub returns : goal.returns

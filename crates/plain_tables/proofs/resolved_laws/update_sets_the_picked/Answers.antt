@@ -1,4 +1,4 @@
-use Rattle.plain_tables.proofs.ChangeLemmas.{update_sets_picked}
+use Rattle.plain_tables.proofs.Changes.{update_sets_picked}
 use Rattle.plain_tables.proofs.resolved_laws.update_sets_the_picked.Goals as goal
 
 pub returns : goal.returns

@@ -1,4 +1,4 @@
-use Rattle.plain_tables.proofs.TransactionLemmas.{restored}
+use Rattle.plain_tables.proofs.Transactions.{restored}
 use Rattle.plain_tables.proofs.transaction_laws.rollbacks_restore.Goals as goal
 
 pub returns : goal.returns

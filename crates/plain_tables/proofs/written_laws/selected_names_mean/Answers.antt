@@ -1,4 +1,4 @@
-use Rattle.plain_tables.proofs.WrittenLemmas.{selected_names_mean}
+use Rattle.plain_tables.proofs.Written.{selected_names_mean}
 use Rattle.plain_tables.proofs.written_laws.selected_names_mean.Goals as goal
 
 pub returns : goal.returns

@@ -1,4 +1,4 @@
-use Rattle.plain_tables.proofs.SettingLemmas.{updates_set_the_written}
+use Rattle.plain_tables.proofs.Settings.{updates_set_the_written}
 use Rattle.plain_tables.proofs.written_laws.updates_set_the_written.Goals as goal
 
 pub returns : goal.returns

@@ -1,6 +1,6 @@
 use Rattle.std.specs.List.{Contains}
 use Rattle.std.proofs.lemmas.List.Elements.{All-contains}
-use Rattle.plain_tables.proofs.DistinctLemmas.{rising_are_one}
+use Rattle.plain_tables.proofs.Distinct.{rising_are_one}
 use Rattle.project_hash.proofs.laws.rising_lists_are_one.Goals as goal
 
 pub returns : goal.returns

@@ -5,14 +5,14 @@ use Rattle.plain_tables.specs.declared.numbers.Place.{Place}
 use Rattle.mm_relation.specs.State.{RelationState}
 use Rattle.temp_list.specs.Lists.{ListState, IsOver, HasPlace}
 use Rattle.temp_list.specs.Reading.{passing}
-use Rattle.temp_list.proofs.ListLemmas.{same_at}
-use Rattle.temp_list.proofs.ReadingLemmas.{sound_at}
+use Rattle.temp_list.proofs.Lists.{same_at}
+use Rattle.temp_list.proofs.Reading.{sound_at}
 use Rattle.project_hash.specs.Distinct.{IsDistinctOf}
 use Rattle.project_hash.specs.Known.{AreEnough, AreInOrder}
 use Rattle.project_hash.specs.Shown.{references_of}
 use Rattle.project_hash.specs.Table.{TableState, list_of_table}
-use Rattle.project_hash.proofs.ScanLemmas.{scanned_distinct, scanned_over}
-use Rattle.project_hash.proofs.TableLemmas.{can_be_read}
+use Rattle.project_hash.proofs.Scans.{scanned_distinct, scanned_over}
+use Rattle.project_hash.proofs.Tables.{can_be_read}
 use Rattle.project_hash.proofs.scanning.distinct_of_table.Goals as goal
 
 pub known_rows-requires-clause-can_read : goal.known_rows-requires-clause-can_read

@@ -8,8 +8,8 @@ use Rattle.temp_list.specs.Reading.{passing, row_passes}
 use Rattle.project_hash.specs.Known.{AreKnown, AreEnough, row_states}
 use Rattle.project_hash.specs.Shown.{IsShown}
 use Rattle.project_hash.specs.Table.{TableState, list_of_table}
-use Rattle.project_hash.proofs.KnownLemmas.{none_known}
-use Rattle.project_hash.proofs.ScanLemmas.{IsShownBy, found_below, nothing_below, slot_without, all_more, some_more, found_there, all_shown}
+use Rattle.project_hash.proofs.KnownRows.{none_known}
+use Rattle.project_hash.proofs.Scans.{IsShownBy, found_below, nothing_below, slot_without, all_more, some_more, found_there, all_shown}
 use Rattle.project_hash.proofs.scanning.known_rows.Goals as goal
 use Rattle.project_hash.proofs.scanning.known_rows.Goals.{then-not-holds-via-then-not-holds, then-not-holds-via-else-not-holds+then-not-passes_all}
 

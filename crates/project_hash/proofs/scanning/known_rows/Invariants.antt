@@ -4,7 +4,7 @@ use Rattle.temp_list.specs.Reading.{passing}
 use Rattle.project_hash.specs.Known.{AreKnown, row_states}
 use Rattle.project_hash.specs.Shown.{IsShown}
 use Rattle.project_hash.specs.Table.{list_of_table}
-use Rattle.project_hash.proofs.ScanLemmas.{IsShownBy, found_below}
+use Rattle.project_hash.proofs.Scans.{IsShownBy, found_below}
 use Rattle.project_hash.proofs.scanning.known_rows.Given as goal
 
 -- what those of the slots so far show is shown by the rows that are known

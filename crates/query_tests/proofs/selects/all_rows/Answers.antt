@@ -2,7 +2,7 @@ use Rattle.std.proofs.Common.{◌<◌, arith, length}
 use Rattle.std.proofs.lemmas.List.Elements.{All-nil}
 use Rattle.plain_tables.specs.declared.resolved.Test.{Test}
 use Rattle.mm_catalog.proofs.Tables.{database-length}
-use Rattle.query_tests.proofs.LinkLemmas.{sound}
+use Rattle.query_tests.proofs.Links.{sound}
 use Rattle.query_tests.proofs.selects.all_rows.Goals as goal
 
 pub select-requires-clause-sound : goal.select-requires-clause-sound

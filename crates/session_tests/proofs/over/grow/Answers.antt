@@ -2,7 +2,7 @@ use Rattle.std.proofs.Common.{ap, ◌∙◌, subst, sym}
 use Rattle.std.specs.Prelude.{Ok}
 use Rattle.plain_tables.specs.ResolvedLaws.{IsMeant}
 use Rattle.plain_tables.specs.declared.resolved.Resolved.TheVariants as resolved
-use Rattle.plain_tables.proofs.ResolvedLemmas.{resolved_are_meant}
+use Rattle.plain_tables.proofs.ResolvedCommands.{resolved_are_meant}
 use Rattle.mm_catalog.specs.Seen.{database_of}
 use Rattle.session_tests.proofs.over.grow.Goals as goal
 

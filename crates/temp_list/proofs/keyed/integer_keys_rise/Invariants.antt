@@ -1,5 +1,5 @@
 use Rattle.temp_list.specs.Leading.{HasIntegerKey}
-use Rattle.temp_list.proofs.LeadingLemmas.{RiseBelow, IsLastOf}
+use Rattle.temp_list.proofs.Leading.{RiseBelow, IsLastOf}
 use Rattle.temp_list.proofs.keyed.integer_keys_rise.Given as goal
 
 abbrev pub invariant-loop-r : goal.invariant-loop-r

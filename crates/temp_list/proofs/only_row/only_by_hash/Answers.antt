@@ -8,9 +8,9 @@ use Rattle.part_raw.specs.declared.tuple_ref.TupleRef.{TupleRef}
 use Rattle.plain_tables.specs.Hashes.{low_hash}
 use Rattle.plain_tables.specs.declared.resolved.Test.{Test}
 use Rattle.temp_list.specs.Reading.{row_passes}
-use Rattle.temp_list.proofs.SearchLemmas.{hash_held}
-use Rattle.temp_list.proofs.SelectLemmas.{passes_equality}
-use Rattle.temp_list.proofs.OnlyRowLemmas.{asked_column, asked_hash, now_only, only_in_chain, seen_more, still_only}
+use Rattle.temp_list.proofs.Searches.{hash_held}
+use Rattle.temp_list.proofs.Selects.{passes_equality}
+use Rattle.temp_list.proofs.OnlyRow.{asked_column, asked_hash, now_only, only_in_chain, seen_more, still_only}
 use Rattle.temp_list.proofs.only_row.only_by_hash.Goals as goal
 
 pub loop-r-init : goal.loop-r-init

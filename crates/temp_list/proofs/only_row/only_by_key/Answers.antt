@@ -4,7 +4,7 @@ use Rattle.plain_tables.specs.declared.resolved.Test.{Test}
 use Rattle.plain_tables.specs.declared.value.Value.{Value}
 use Rattle.mm_relation.specs.Reading.{key_at}
 use Rattle.temp_list.specs.Reading.{row_passes}
-use Rattle.temp_list.proofs.OnlyRowLemmas.{alone_passes, keyed_found, keyed_none}
+use Rattle.temp_list.proofs.OnlyRow.{alone_passes, keyed_found, keyed_none}
 use Rattle.temp_list.proofs.only_row.only_by_key.Goals as goal
 use Rattle.temp_list.proofs.only_row.only_by_key.Goals.{else-tests-gt1-via-then-tests-gt1+else-not-passes_all, else-tests-gt1-via-else-tests-gt1}
 

@@ -5,7 +5,7 @@ use Rattle.std.proofs.lemmas.List.Elements.{All-head}
 use Rattle.common_lemmas.proofs.Elements.{All-append_parts}
 use Rattle.part_raw.specs.declared.tuple_ref.TupleRef.{TupleRef}
 use Rattle.ttree.specs.Held.{rest_of}
-use Rattle.temp_list.proofs.OnlyRowLemmas.{one_passing}
+use Rattle.temp_list.proofs.OnlyRow.{one_passing}
 use Rattle.temp_list.proofs.only_row.only_by_scan.Goals as goal
 
 pub returns-then-passes_all : goal.returns-then-passes_all

@@ -9,8 +9,8 @@ use Rattle.plain_tables.specs.declared.condition.Op.TheVariants as op
 use Rattle.plain_tables.specs.declared.value.Value.{Value}
 use Rattle.temp_list.specs.Ranges.{place_of}
 use Rattle.temp_list.specs.Reading.{row_passes, value_in}
-use Rattle.temp_list.proofs.SearchLemmas.{tree_held, tree_in_order}
-use Rattle.temp_list.proofs.OnlyRowLemmas.{asked_column, asked_tree, asks_equal, equals_asked, now_only, only_before, only_in_tree, seen_more, still_only, walked_next}
+use Rattle.temp_list.proofs.Searches.{tree_held, tree_in_order}
+use Rattle.temp_list.proofs.OnlyRow.{asked_column, asked_tree, asks_equal, equals_asked, now_only, only_before, only_in_tree, seen_more, still_only, walked_next}
 use Rattle.temp_list.proofs.only_row.only_by_tree.Goals as goal
 
 pub walk_column-r-items-requires-clause-placed : goal.walk_column-r-items-requires-clause-placed

@@ -10,7 +10,7 @@ use Rattle.mm_index.specs.Range.{NeverFalls, from_range}
 use Rattle.mm_index.proofs.Asked.{IsOnlyAsked-trans}
 use Rattle.mm_relation.specs.Changes.{list_of}
 use Rattle.ttree.specs.Held.{rest_of}
-use Rattle.temp_list.proofs.NeighbourLemmas.{taken_all, taken_in_order, found_more, range_found, slice_taken, kept_taken, from_begun, from_in_order, in_range_from}
+use Rattle.temp_list.proofs.Neighbours.{taken_all, taken_in_order, found_more, range_found, slice_taken, kept_taken, from_begun, from_in_order, in_range_from}
 use Rattle.temp_list.proofs.range.append_range.Goals as goal
 
 on_ok : {T E P : Type 0} (r : Result T E) → is_err r ≡ false → OnOk r P → P

@@ -3,7 +3,7 @@ use Rattle.std.specs.Ordering.{is_eq}
 use Rattle.common_lemmas.proofs.Orders.{is_eq-Equal, not_Equal, Greater-from_neither}
 use Rattle.part_raw.specs.declared.tuple_ref.TupleRef.{TupleRef}
 use Rattle.mm_index.proofs.Asked.{IsOnlyAsked-trans, IsOnlyAsked-once}
-use Rattle.temp_list.proofs.NeighbourLemmas.{equal_until, above_from}
+use Rattle.temp_list.proofs.Neighbours.{equal_until, above_from}
 use Rattle.temp_list.proofs.range.count_in_range.Goals as goal
 use Rattle.temp_list.proofs.range.count_in_range.Goals.{then-is_eq, else-is_eq}
 

@@ -4,7 +4,7 @@ use Rattle.std.proofs.lemmas.List.{take_rest}
 use Rattle.std.proofs.lemmas.List.Elements.{All-filter}
 use Rattle.plain_tables.specs.declared.resolved.Test.{Test}
 use Rattle.temp_list.specs.Reading.{row_passes}
-use Rattle.temp_list.proofs.KeepingLemmas.{keep_both}
+use Rattle.temp_list.proofs.Keeping.{keep_both}
 use Rattle.temp_list.proofs.search.keep_passing_others.Goals as goal
 
 pub keep_passing-requires-2-clause-held : goal.keep_passing-requires-2-clause-held

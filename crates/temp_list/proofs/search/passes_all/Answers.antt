@@ -1,6 +1,6 @@
 use Rattle.std.proofs.Common.{◌∙◌, sym, length}
 use Rattle.std.proofs.lemmas.Bool.{eqb-true}
-use Rattle.temp_list.proofs.ReadingLemmas.{passes_none}
+use Rattle.temp_list.proofs.Reading.{passes_none}
 use Rattle.temp_list.proofs.search.passes_all.Goals as goal
 
 pub returns-then-is_empty : goal.returns-then-is_empty

@@ -1,7 +1,7 @@
 use Rattle.std.proofs.Common.{◌∙◌, ◌<◌, ◌+◌, sym, ap, subst, ◌&&◌, drop, length}
 use Rattle.plain_tables.specs.declared.resolved.Test.{Test}
 use Rattle.temp_list.specs.Reading.{row_passes}
-use Rattle.temp_list.proofs.ReadingLemmas.{can_read, passes_from}
+use Rattle.temp_list.proofs.Reading.{can_read, passes_from}
 use Rattle.temp_list.proofs.search.passes_each.Goals as goal
 
 pub value-requires : goal.value-requires

@@ -1,7 +1,7 @@
 use Rattle.std.proofs.Common.{◌≡◌, ◌&&◌, ◌∙◌, ℕ, true, false, refl, ap, filter, sym, arith, is_some}
 use Rattle.std.specs.FinMap as finite
 use Rattle.temp_list.specs.Reading.{row_passes}
-use Rattle.temp_list.proofs.SlotLemmas.{refs_below, none_below, slot_passes, slot_fails, slots_pass}
+use Rattle.temp_list.proofs.Slots.{refs_below, none_below, slot_passes, slot_fails, slots_pass}
 use Rattle.temp_list.proofs.search.passing_in_slots.Goals as goal
 use Rattle.temp_list.proofs.search.passing_in_slots.Goals.{then-not-holds_slot-via-then-not-holds_slot, then-not-holds_slot-via-else-not-holds_slot+then-not-passes_all}
 

@@ -2,7 +2,7 @@ use Rattle.std.proofs.Common.{◌≡◌, ◌&&◌, filter, is_some}
 use Rattle.std.specs.FinMap as finite
 use Rattle.temp_list.specs.Reading.{row_passes}
 use Rattle.temp_list.specs.Slots.{AreHeldFrom}
-use Rattle.temp_list.proofs.SlotLemmas.{refs_below}
+use Rattle.temp_list.proofs.Slots.{refs_below}
 use Rattle.temp_list.proofs.search.passing_in_slots.Given as goal
 
 -- those of the slots so far, and what is known of the next

@@ -1,4 +1,4 @@
-use Rattle.temp_list.proofs.ReadingLemmas.{can_read, lent_value}
+use Rattle.temp_list.proofs.Reading.{can_read, lent_value}
 use Rattle.temp_list.proofs.search.read.Goals as goal
 
 pub value-requires : goal.value-requires

@@ -1,7 +1,7 @@
 use Rattle.std.proofs.Common.{[], ◌∷◌, sym}
 use Rattle.std.proofs.lemmas.List.{append-nil}
 use Rattle.mm_index.proofs.Bags.{IsSameBag-from_same}
-use Rattle.temp_list.proofs.KeyLemmas.{standing_found, standing_none}
+use Rattle.temp_list.proofs.Keys.{standing_found, standing_none}
 use Rattle.temp_list.proofs.search.row_by_key.Goals as goal
 
 pub returns-in_ok-push-clause-ok : goal.returns-in_ok-push-clause-ok

@@ -1,5 +1,5 @@
 use Rattle.std.proofs.lemmas.Result.{on_ok_weaker}
-use Rattle.temp_list.proofs.SearchLemmas.{tree_held, between_in_order, between_range}
+use Rattle.temp_list.proofs.Searches.{tree_held, between_in_order, between_range}
 use Rattle.temp_list.proofs.search.rows_between.Goals as goal
 
 pub append_range-requires-clause-placed : goal.append_range-requires-clause-placed

@@ -6,7 +6,7 @@ use Rattle.plain_tables.specs.Hashes.{low_hash}
 use Rattle.mm_relation.specs.Changes.{entries_of}
 use Rattle.lin_hash.specs.RowRest.{row_chain_rest}
 use Rattle.mm_relation.proofs.Listings.{next_listed}
-use Rattle.temp_list.proofs.SearchLemmas.{hash_held, hash_range}
+use Rattle.temp_list.proofs.Searches.{hash_held, hash_range}
 use Rattle.temp_list.proofs.search.rows_by_hash.Goals as goal
 
 pub loop-r-init : goal.loop-r-init

@@ -1,5 +1,5 @@
 use Rattle.std.proofs.lemmas.Result.{on_ok_weaker}
-use Rattle.temp_list.proofs.SearchLemmas.{tree_held, tree_in_order, tree_range}
+use Rattle.temp_list.proofs.Searches.{tree_held, tree_in_order, tree_range}
 use Rattle.temp_list.proofs.search.rows_by_tree.Goals as goal
 
 pub append_range-requires-clause-placed : goal.append_range-requires-clause-placed

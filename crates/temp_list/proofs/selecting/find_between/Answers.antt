@@ -1,7 +1,7 @@
 use Rattle.temp_list.specs.Reading.{value_in, is_between, row_passes, unbounded}
-use Rattle.temp_list.proofs.ReadingLemmas.{sound_at}
-use Rattle.temp_list.proofs.KeepingLemmas.{passes_unbounded, selected_left}
-use Rattle.temp_list.proofs.SelectLemmas.{found_held, all_appended, selected_there}
+use Rattle.temp_list.proofs.Reading.{sound_at}
+use Rattle.temp_list.proofs.Keeping.{passes_unbounded, selected_left}
+use Rattle.temp_list.proofs.Selects.{found_held, all_appended, selected_there}
 use Rattle.temp_list.proofs.selecting.find_between.Goals as goal
 
 pub keep_passing_unbounded-requires-clause-held : goal.keep_passing_unbounded-requires-clause-held

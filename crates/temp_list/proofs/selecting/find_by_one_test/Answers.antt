@@ -1,8 +1,8 @@
 use Rattle.plain_tables.specs.Queries.{stands}
 use Rattle.temp_list.specs.Reading.{value_in, row_passes, all_but}
-use Rattle.temp_list.proofs.ReadingLemmas.{sound_at}
-use Rattle.temp_list.proofs.KeepingLemmas.{passes_others, selected_left}
-use Rattle.temp_list.proofs.SelectLemmas.{found_held, all_appended, selected_there}
+use Rattle.temp_list.proofs.Reading.{sound_at}
+use Rattle.temp_list.proofs.Keeping.{passes_others, selected_left}
+use Rattle.temp_list.proofs.Selects.{found_held, all_appended, selected_there}
 use Rattle.temp_list.proofs.selecting.find_by_one_test.Goals as goal
 
 pub keep_passing_others-requires-clause-held : goal.keep_passing_others-requires-clause-held

@@ -1,6 +1,6 @@
 use Rattle.std.proofs.lemmas.Result.{IfOk-weaker}
 use Rattle.mm_index.proofs.Bags.{IsSameBag-from_same}
-use Rattle.temp_list.proofs.SelectLemmas.{bag_selected}
+use Rattle.temp_list.proofs.Selects.{bag_selected}
 use Rattle.temp_list.proofs.selecting.find_by_scan.Goals as goal
 
 pub returns-in-Some : goal.returns-in-Some

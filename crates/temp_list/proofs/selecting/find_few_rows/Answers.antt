@@ -1,6 +1,6 @@
 use Rattle.std.proofs.lemmas.Result.{IfOk-weaker}
 use Rattle.std.proofs.lemmas.Option.{IfSome_then}
-use Rattle.temp_list.proofs.SelectLemmas.{bag_selected}
+use Rattle.temp_list.proofs.Selects.{bag_selected}
 use Rattle.temp_list.proofs.selecting.find_few_rows.Goals as goal
 
 pub returns : goal.returns

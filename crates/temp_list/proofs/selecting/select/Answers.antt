@@ -1,6 +1,6 @@
 use Rattle.std.proofs.Common.{◌∙◌, ap}
 use Rattle.std.proofs.lemmas.Result.{IfOk-weaker}
-use Rattle.temp_list.proofs.SelectedLemmas.{listing, listed}
+use Rattle.temp_list.proofs.Selected.{listing, listed}
 use Rattle.temp_list.proofs.selecting.select.Goals as goal
 
 pub returns : goal.returns

@@ -2,7 +2,7 @@ use Rattle.std.proofs.Common.{rules}
 use Rattle.std.specs.Ordering.{is_ge}
 use Rattle.std.proofs.lemmas.Fn.{always_returns_same}
 use Rattle.temp_list.specs.Seen.{listed_cmp}
-use Rattle.temp_list.proofs.SortLemmas.{rise_told}
+use Rattle.temp_list.proofs.Sorts.{rise_told}
 use Rattle.temp_list.proofs.sorting.all_keys_rise.Goals as goal
 
 pub returns : goal.returns

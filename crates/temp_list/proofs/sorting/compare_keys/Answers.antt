@@ -1,4 +1,4 @@
-use Rattle.temp_list.proofs.SortLemmas.{key_itself}
+use Rattle.temp_list.proofs.Sorts.{key_itself}
 use Rattle.temp_list.proofs.sorting.compare_keys.Goals as goal
 
 pub returns-then-q-r : goal.returns-then-q-r

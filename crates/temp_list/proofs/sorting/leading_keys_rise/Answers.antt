@@ -4,7 +4,7 @@ use Rattle.std.proofs.lemmas.Option.{same_Some}
 use Rattle.part_raw.specs.declared.tuple_ref.TupleRef.{TupleRef}
 use Rattle.smallvec.specs.SmallVec.{SmallVec}
 use Rattle.temp_list.specs.Leading.{LeadsWith}
-use Rattle.temp_list.proofs.LeadingLemmas.{rise_more}
+use Rattle.temp_list.proofs.Leading.{rise_more}
 use Rattle.temp_list.proofs.sorting.leading_keys_rise.Goals.{in-Some-last+else-key-before, in_default-last}
 use Rattle.temp_list.proofs.sorting.leading_keys_rise.Goals as goal
 

@@ -1,5 +1,5 @@
 use Rattle.temp_list.specs.Leading.{LeadsWith}
-use Rattle.temp_list.proofs.LeadingLemmas.{RiseBelow, IsLastOf}
+use Rattle.temp_list.proofs.Leading.{RiseBelow, IsLastOf}
 use Rattle.temp_list.proofs.sorting.leading_keys_rise.Given as goal
 
 abbrev pub invariant-loop-row : goal.invariant-loop-row

@@ -1,5 +1,5 @@
 use Rattle.std.proofs.Common.{rules, refl}
-use Rattle.temp_list.proofs.LeadingLemmas.{first_sorted}
+use Rattle.temp_list.proofs.Leading.{first_sorted}
 use Rattle.temp_list.proofs.sorting.rises.Goals as goal
 
 pub returns-then-leading_keys_rise : goal.returns-then-leading_keys_rise

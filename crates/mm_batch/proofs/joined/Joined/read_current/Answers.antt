@@ -1,7 +1,7 @@
 use Rattle.std.proofs.Common.{◌≡◌, ◌+◌, ◌<◌, ◌∷◌, ◌∙◌, [], length, drop, take, set, map, ap, sym, arith}
 use Rattle.std.specs.Io.KnownBytes.{Consumes}
 use Rattle.std.proofs.lemmas.List.{drop_more, drop-set, drop-set-lt}
-use Rattle.mm_batch.proofs.JoiningLemmas.{ends_inside-last, take-line_feed, gives, feeds_line}
+use Rattle.mm_batch.proofs.Joining.{ends_inside-last, take-line_feed, gives, feeds_line}
 use Rattle.mm_batch.proofs.joined.Joined.read_current.Goals as goal
 
 pub returns-then-n-gt0-clause-bytes : goal.returns-then-n-gt0-clause-bytes

@@ -1,6 +1,6 @@
 use Rattle.std.proofs.Common.{[], sym, append-nil}
-use Rattle.mm_session.proofs.WritingLemmas.{Appends-keeps}
-use Rattle.mm_batch.proofs.WatchLemmas.{OnErr-of, breaks_last, ends_stream}
+use Rattle.mm_session.proofs.Writing.{Appends-keeps}
+use Rattle.mm_batch.proofs.Watches.{OnErr-of, breaks_last, ends_stream}
 use Rattle.mm_batch.proofs.watched.Watched.finish.Goals as goal
 
 pub returns-in_err-ending-clause-fault : goal.returns-in_err-ending-clause-fault

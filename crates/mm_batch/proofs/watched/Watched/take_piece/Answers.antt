@@ -1,8 +1,8 @@
 use Rattle.std.proofs.Common.{◌≡◌, ◌++◌, [], refl, subst, ◌∙◌}
-use Rattle.mm_session.proofs.WritingLemmas.{Appends-append, Appends-keeps, Appends-nothing}
+use Rattle.mm_session.proofs.Writing.{Appends-append, Appends-keeps, Appends-nothing}
 use Rattle.mm_batch.specs.Watching.{EndsAt}
 use Rattle.mm_batch.specs.declared.watched.Ending.TheVariants.{Stopped, Whole}
-use Rattle.mm_batch.proofs.WatchLemmas.{OnErr-of, begun_breaks, begun_failed, begun_new, begun_on, begun_stopped, begun_whole}
+use Rattle.mm_batch.proofs.Watches.{OnErr-of, begun_breaks, begun_failed, begun_new, begun_on, begun_stopped, begun_whole}
 use Rattle.mm_batch.proofs.watched.Watched.take_piece.Goals as goal
 
 pub loop-others-init : goal.loop-others-init

@@ -1,7 +1,7 @@
 use Rattle.std.proofs.Common.{◌≡◌, ◌+◌, ℕ, List, false, length}
 use Rattle.std.specs.Io.KnownBytes.{Appends}
 use Rattle.mm_session.specs.Responding.{waits}
-use Rattle.mm_batch.proofs.WatchLemmas.{Begun}
+use Rattle.mm_batch.proofs.Watches.{Begun}
 use Rattle.mm_batch.proofs.watched.Watched.take_piece.Given as goal
 
 -- what was done of the piece stands behind the stream, and what is left follows it

@@ -1,7 +1,7 @@
 use Rattle.std.proofs.Common.{◌≡◌, ◌∙◌, map, arith}
 use Rattle.std.proofs.lemmas.List.{length-map}
 use Rattle.plain_tables.specs.Csv.{value_field}
-use Rattle.mm_csv.proofs.EndingLemmas.{record-behind}
+use Rattle.mm_csv.proofs.Endings.{record-behind}
 use Rattle.mm_csv.proofs.ending.Ending.record_of.Goals as goal
 
 pub returns : goal.returns

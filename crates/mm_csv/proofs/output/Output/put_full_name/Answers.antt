@@ -3,7 +3,7 @@ use Rattle.std.proofs.lemmas.Result.{on_ok_weaker}
 use Rattle.std.proofs.KnownBytes.{Appends-trans}
 use Rattle.plain_tables.specs.Csv.{needs_quotes}
 use Rattle.mm_csv.specs.FullNames.{full_name_text}
-use Rattle.mm_csv.proofs.OutputLemmas.{field-added, name-needs, name-some, some-plain}
+use Rattle.mm_csv.proofs.Outputs.{field-added, name-needs, name-some, some-plain}
 use Rattle.mm_csv.proofs.output.Output.put_full_name.Goals as goal
 
 pub returns : goal.returns

@@ -1,7 +1,7 @@
 use Rattle.std.proofs.Common.{◌≡◌, ◌∙◌, rules}
 use Rattle.std.proofs.lemmas.Result.{on_ok_weaker}
 use Rattle.std.specs.Fmt.{signed_decimal}
-use Rattle.mm_csv.proofs.OutputLemmas.{field-added, integer-shown}
+use Rattle.mm_csv.proofs.Outputs.{field-added, integer-shown}
 use Rattle.mm_csv.proofs.output.Output.put_integer.Goals as goal
 
 pub returns : goal.returns

@@ -1,7 +1,7 @@
 use Rattle.std.proofs.Common.{◌≡◌, ◌∙◌, arith, rules}
 use Rattle.std.proofs.lemmas.Result.{on_ok_weaker}
 use Rattle.std.specs.Fmt.{decimal}
-use Rattle.mm_csv.proofs.OutputLemmas.{field-added, large-shown}
+use Rattle.mm_csv.proofs.Outputs.{field-added, large-shown}
 use Rattle.mm_csv.proofs.output.Output.put_large.Goals as goal
 
 pub returns : goal.returns

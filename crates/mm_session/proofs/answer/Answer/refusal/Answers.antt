@@ -2,7 +2,7 @@ use Rattle.std.proofs.Common.{◌≡◌, ◌++◌, Some, sym, ◌∙◌}
 use Rattle.std.proofs.lemmas.Bool.Decides.{Decides-eqb}
 use Rattle.std.proofs.lemmas.Slice.Eq.{strip_prefix_is}
 use lib.Chars.{codes}
-use Rattle.mm_session.proofs.RefusedLemmas.{tells-error, number-of_digits}
+use Rattle.mm_session.proofs.Refused.{tells-error, number-of_digits}
 use Rattle.mm_session.proofs.answer.Answer.refusal.Goals as goal
 
 pub returns-in-len2-up : goal.returns-in-len2-up

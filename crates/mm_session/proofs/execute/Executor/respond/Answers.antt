@@ -6,8 +6,8 @@ use Rattle.mm_catalog.specs.Seen.{database_of}
 use Rattle.mm_catalog.specs.State.{CatalogState}
 use Rattle.mm_session.specs.Judging.{IsJudged}
 use Rattle.mm_session.specs.Reads.{Means}
-use Rattle.mm_session.proofs.AnswerLemmas.{answers-declined, answers-obeyed}
-use Rattle.mm_session.proofs.ReadLemmas.{declined-declines, performed-obeys}
+use Rattle.mm_session.proofs.AnswerTexts.{answers-declined, answers-obeyed}
+use Rattle.mm_session.proofs.ReadRequests.{declined-declines, performed-obeys}
 use Rattle.mm_session.proofs.execute.Executor.respond.Goals as goal
 
 pub returns-in_default-clause-answers : goal.returns-in_default-clause-answers

@@ -2,7 +2,7 @@ use Rattle.std.proofs.Common.{◌≤◌, ◌++◌, [], length, drop, refl, sym, 
 use Rattle.std.proofs.lemmas.List.{take-append-drop}
 use Rattle.std.proofs.Math.Nat.{min-le_left}
 use Rattle.plain_streams.specs.Requests.{asked, unasked}
-use Rattle.mm_session.proofs.AskLemmas.{has_block-asked, has_block-unasked}
+use Rattle.mm_session.proofs.Asks.{has_block-asked, has_block-unasked}
 use Rattle.mm_session.proofs.execute.Executor.respond_in.Goals as goal
 
 pub returns-in_default-clause-answered : goal.returns-in_default-clause-answered

@@ -3,7 +3,7 @@ use Rattle.std.proofs.lemmas.List.{drop_more, drop_all}
 use Rattle.plain_tables.specs.Queries.{JoinedColumn, source_columns}
 use Rattle.plain_tables.specs.declared.numbers.Place.{Place}
 use Rattle.plain_tables.specs.declared.numbers.TableNumber.{TableNumber}
-use Rattle.mm_session.proofs.PlaceLemmas.{places_behind, places_more, table_there}
+use Rattle.mm_session.proofs.Places.{places_behind, places_more, table_there}
 use Rattle.mm_session.proofs.execute.ReadExecutor.all_places.Goals as goal
 
 pub loop-source-preserved : goal.loop-source-preserved

@@ -1,5 +1,5 @@
 use Rattle.std.proofs.Common.{◌≡◌, ◌++◌, drop}
-use Rattle.mm_session.proofs.PlaceLemmas.{places_behind}
+use Rattle.mm_session.proofs.Places.{places_behind}
 use Rattle.mm_session.proofs.execute.ReadExecutor.all_places.Given as goal
 
 abbrev pub invariant-loop-source : goal.invariant-loop-source

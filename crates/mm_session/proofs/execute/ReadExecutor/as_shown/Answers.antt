@@ -6,7 +6,7 @@ use Rattle.plain_tables.specs.declared.numbers.TableNumber.{TableNumber}
 use Rattle.temp_list.specs.Lists.{ListState, IsOver}
 use Rattle.mm_session.specs.Members.{tables_at}
 use Rattle.mm_session.specs.Shown.{places_shown, IsOrderedOf}
-use Rattle.mm_session.proofs.SelectLemmas.{described_over, can_show, headed, rowed}
+use Rattle.mm_session.proofs.Selects.{described_over, can_show, headed, rowed}
 use Rattle.mm_session.proofs.execute.ReadExecutor.as_shown.Goals as goal
 
 pub places_of-requires : goal.places_of-requires

@@ -12,7 +12,7 @@ use Rattle.mm_session.specs.Batched.{source_numbers, ArePlacesOf}
 use Rattle.mm_session.specs.Columns.{column_told}
 use Rattle.mm_session.specs.Members.{tables_at}
 use Rattle.mm_session.specs.Shown.{places_shown}
-use Rattle.mm_session.proofs.PlacedLemmas.{numbers_there, places_there, are_tables}
+use Rattle.mm_session.proofs.Placed.{numbers_there, places_there, are_tables}
 use Rattle.mm_session.proofs.execute.ReadExecutor.columns.Goals as goal
 
 abbrev numbers : List TableNumber → List ℕ

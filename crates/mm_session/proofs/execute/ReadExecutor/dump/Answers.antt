@@ -2,7 +2,7 @@ use Rattle.std.proofs.Common.{◌≡◌, ◌++◌, length, sym, ap, ◌∙◌, a
 use Rattle.common_lemmas.proofs.Places.{slice_get-inside}
 use Rattle.plain_tables.specs.Doing.{dump_block}
 use Rattle.mm_catalog.specs.Seen.{database_of}
-use Rattle.mm_session.proofs.DumpLemmas.{dump_answered}
+use Rattle.mm_session.proofs.Dumps.{dump_answered}
 use Rattle.mm_session.proofs.execute.ReadExecutor.dump.Goals as goal
 
 pub insert_load_line-requires : goal.insert_load_line-requires

@@ -2,7 +2,7 @@ use Rattle.std.proofs.Common.{◌∙◌, ◌++◌, ◌<◌, ◌∷◌, [], appen
 use Rattle.common_lemmas.proofs.Places.{slice_get-inside}
 use Rattle.plain_tables.specs.AnswerText.{declaration_lines}
 use Rattle.mm_catalog.specs.Seen.{database_of}
-use Rattle.mm_session.proofs.ListingLemmas.{tables_more}
+use Rattle.mm_session.proofs.Listings.{tables_more}
 use Rattle.mm_session.proofs.execute.ReadExecutor.list_tables.Goals as goal
 
 pub loop-number-preserved : goal.loop-number-preserved

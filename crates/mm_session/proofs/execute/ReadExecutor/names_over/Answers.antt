@@ -8,7 +8,7 @@ use Rattle.temp_list.specs.Lists.{HasPlace}
 use Rattle.mm_session.specs.Batched.{source_numbers, ArePlacesOf}
 use Rattle.mm_session.specs.Members.{tables_at}
 use Rattle.mm_session.specs.Shown.{heading, places_shown}
-use Rattle.mm_session.proofs.PlacedLemmas.{numbers_there, places_there, names_there}
+use Rattle.mm_session.proofs.Placed.{numbers_there, places_there, names_there}
 use Rattle.mm_session.proofs.execute.ReadExecutor.names_over.Goals as goal
 
 abbrev numbers : List TableNumber → List ℕ

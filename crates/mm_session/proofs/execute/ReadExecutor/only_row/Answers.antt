@@ -7,8 +7,8 @@ use Rattle.plain_tables.specs.declared.resolved.Test.{Test}
 use Rattle.plan_chooser.specs.Plans.{Fits}
 use Rattle.mm_catalog.proofs.Among.{among_at, there_at}
 use Rattle.temp_list.specs.Reading.{HasColumns, passing}
-use Rattle.temp_list.proofs.ListLemmas.{same_at}
-use Rattle.mm_session.proofs.PickLemmas.{test_columns}
+use Rattle.temp_list.proofs.Lists.{same_at}
+use Rattle.mm_session.proofs.Picking.{test_columns}
 use Rattle.mm_session.proofs.execute.ReadExecutor.only_row.Goals as goal
 
 pub at-relation-requires : goal.at-relation-requires

@@ -1,8 +1,8 @@
 use Rattle.std.proofs.Common.{◌∙◌, arith, subst, refl}
 use Rattle.mm_catalog.proofs.Among.{there_at}
 use Rattle.mm_session.specs.Sinks.{PutsRows}
-use Rattle.mm_session.proofs.OnlyRowLemmas.{columns_there, none_shown, one_shown, only_held, width_shown, width_some}
-use Rattle.mm_session.proofs.SinkLemmas.{rows_none}
+use Rattle.mm_session.proofs.OnlyRow.{columns_there, none_shown, one_shown, only_held, width_shown, width_some}
+use Rattle.mm_session.proofs.Sinks.{rows_none}
 use Rattle.mm_session.proofs.execute.ReadExecutor.push_only.Goals as goal
 
 pub at-relation-requires : goal.at-relation-requires

@@ -4,8 +4,8 @@ use Rattle.part_raw.specs.declared.tuple_ref.TupleRef.{TupleRef}
 use Rattle.mm_catalog.proofs.Among.{there_at}
 use Rattle.mm_session.specs.OnlyRow.{values_shown}
 use Rattle.mm_session.specs.Sinks.{PutsRows}
-use Rattle.mm_session.proofs.OnlyRowLemmas.{columns_there, found_held, found_shown, width_shown, width_some}
-use Rattle.mm_session.proofs.SinkLemmas.{rows_more}
+use Rattle.mm_session.proofs.OnlyRow.{columns_there, found_held, found_shown, width_shown, width_some}
+use Rattle.mm_session.proofs.Sinks.{rows_more}
 use Rattle.mm_session.proofs.execute.ReadExecutor.push_rows_found.Goals as goal
 
 pub at-relation-requires : goal.at-relation-requires

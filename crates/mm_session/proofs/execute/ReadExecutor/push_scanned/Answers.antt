@@ -13,8 +13,8 @@ use Rattle.temp_list.specs.Reading.{HasColumns}
 use Rattle.mm_session.specs.Members.{tables_at}
 use Rattle.mm_session.specs.Shown.{heading, placed_values}
 use Rattle.mm_session.specs.Sinks.{PutsRows}
-use Rattle.mm_session.proofs.WalkedLemmas.{tests_there}
-use Rattle.mm_session.proofs.ScannedLemmas.{scanned_places, scanned_shows, scanned_heads, scanned_rows}
+use Rattle.mm_session.proofs.Walked.{tests_there}
+use Rattle.mm_session.proofs.Scanned.{scanned_places, scanned_shows, scanned_heads, scanned_rows}
 use Rattle.mm_session.proofs.execute.ReadExecutor.push_scanned.Goals as goal
 
 pub places_of-requires : goal.places_of-requires

@@ -1,6 +1,6 @@
 use Rattle.plain_streams.specs.Requests.{Request}
 use Rattle.mm_catalog.specs.Seen.{database_of}
-use Rattle.mm_session.proofs.AnswerLemmas.{answers-not_utf8, answers-silent, answers-told, answers-too_long}
+use Rattle.mm_session.proofs.AnswerTexts.{answers-not_utf8, answers-silent, answers-told, answers-too_long}
 use Rattle.mm_session.proofs.execute.ReadExecutor.respond.Goals.{in-TooLong, in-NotUtf8, in-Silent, in-Text+in_ok-tell-in-Text}
 use Rattle.mm_session.proofs.execute.ReadExecutor.respond.Goals as goal
 

@@ -6,8 +6,8 @@ use Rattle.mm_cells.specs.Reading.{AreFull}
 use Rattle.mm_cells.specs.Values.{values_of}
 use Rattle.mm_cells.specs.declared.fault.CellFault.TheVariants as fault
 use Rattle.mm_session.specs.Walked.{rows_shown}
-use Rattle.mm_session.proofs.PlacedLemmas.{heads_some}
-use Rattle.mm_session.proofs.SinkLemmas.{cells_shown, declined_so}
+use Rattle.mm_session.proofs.Placed.{heads_some}
+use Rattle.mm_session.proofs.Sinks.{cells_shown, declined_so}
 use Rattle.mm_session.proofs.execute.ReadExecutor.select_values.Goals as goal
 
 pub returns-clause-shown : goal.returns-clause-shown

@@ -3,7 +3,7 @@ use Rattle.std.proofs.lemmas.Result.{err_from_is_err_and}
 use Rattle.plain_tables.specs.Databases.{is_named}
 use Rattle.mm_catalog.specs.Seen.{database_of}
 use Rattle.mm_session.specs.IndexAnswers.{not_utf8, no_memory, no_such_table}
-use Rattle.mm_session.proofs.IndexLemmas.{no_place}
+use Rattle.mm_session.proofs.Indexes.{no_place}
 use Rattle.mm_session.proofs.execute.ReadExecutor.table_named.Goals as goal
 
 pub returns-in_default-clause-refused : goal.returns-in_default-clause-refused

@@ -1,6 +1,6 @@
 use Rattle.std.proofs.Common.{inl, inr}
 use Rattle.mm_csv.specs.BlockReading.{block_records}
-use Rattle.mm_session.proofs.ReadLemmas.{declined-declines, performed-obeys}
+use Rattle.mm_session.proofs.ReadRequests.{declined-declines, performed-obeys}
 use Rattle.mm_session.proofs.execute.ReadExecutor.tell.Goals.{in-Err-show, in_default}
 use Rattle.mm_session.proofs.execute.ReadExecutor.tell.Goals as goal
 

@@ -1,6 +1,6 @@
 use Rattle.std.proofs.Common.{map}
 use Rattle.plain_tables.specs.declared.numbers.TableNumber.{TableNumber}
-use Rattle.mm_session.proofs.QueryLemmas.{outer_fits}
+use Rattle.mm_session.proofs.Queries.{outer_fits}
 use Rattle.mm_session.proofs.execute.ReadExecutor.tell_join.Goals as goal
 
 pub next_join-requires : goal.next_join-requires

@@ -6,9 +6,9 @@ use Rattle.plain_tables.specs.declared.resolved.Joined.{Joined}
 use Rattle.mm_session.specs.Batched.{source_numbers}
 use Rattle.mm_session.specs.Members.{IsSourceOf, tables_at}
 use Rattle.mm_session.specs.Told.{AreNextJoins, IsNextJoin}
-use Rattle.mm_session.proofs.PlacedLemmas.{numbers_there}
-use Rattle.mm_session.proofs.PlannedLemmas.{IsPlaced, joins_placed}
-use Rattle.mm_session.proofs.ToldLemmas.{next_more}
+use Rattle.mm_session.proofs.Placed.{numbers_there}
+use Rattle.mm_session.proofs.Planned.{IsPlaced, joins_placed}
+use Rattle.mm_session.proofs.Told.{next_more}
 use Rattle.mm_session.proofs.execute.ReadExecutor.tell_joins.Goals as goal
 
 pub tell_join-requires-clause-sources : goal.tell_join-requires-clause-sources

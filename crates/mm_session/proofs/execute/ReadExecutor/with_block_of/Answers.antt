@@ -21,8 +21,8 @@ use Rattle.mm_catalog.proofs.Tables.{database-length}
 use Rattle.mm_relation.specs.State.{RelationState, tree_list}
 use Rattle.mm_session.specs.Dumps.{IsWithin, IsPast, IsGivenUp}
 use Rattle.mm_session.specs.Sinks.{Written}
-use Rattle.mm_session.proofs.DumpLemmas.{columns_same, names_begin, block_whole, within_kept, past_front, past_whole, handed_on}
-use Rattle.mm_session.proofs.MemberLemmas.{rows_same}
+use Rattle.mm_session.proofs.Dumps.{columns_same, names_begin, block_whole, within_kept, past_front, past_whole, handed_on}
+use Rattle.mm_session.proofs.Members.{rows_same}
 use Rattle.mm_session.proofs.execute.ReadExecutor.with_block_of.Goals as goal
 
 -- the names and the records of a relation's rows are the block of its table

@@ -3,7 +3,7 @@ use Rattle.std.proofs.lemmas.Result.{on_ok_weaker}
 use Rattle.plain_tables.specs.AnswerText.{text_line}
 use Rattle.plain_tables.specs.Spelling.{canonical_spelling}
 use Rattle.plain_tables.specs.declared.command.Command.TheVariants as command
-use Rattle.mm_session.proofs.DumpLemmas.{line_before}
+use Rattle.mm_session.proofs.Dumps.{line_before}
 use Rattle.mm_session.proofs.execute.blocks.insert_load_line.Goals as goal
 
 pub returns : goal.returns

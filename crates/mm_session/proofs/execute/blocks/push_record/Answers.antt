@@ -5,8 +5,8 @@ use Rattle.std.proofs.lemmas.Result.{on_ok_weaker}
 use Rattle.plain_tables.specs.Csv.{row_record}
 use Rattle.mm_catalog.specs.Picked.{seen_values}
 use Rattle.mm_session.specs.Sinks.{IsBehind, EndsRow}
-use Rattle.mm_session.proofs.DumpLemmas.{seen_long}
-use Rattle.mm_session.proofs.SinkLemmas.{row_put, rows_written}
+use Rattle.mm_session.proofs.Dumps.{seen_long}
+use Rattle.mm_session.proofs.Sinks.{row_put, rows_written}
 use Rattle.mm_session.proofs.execute.blocks.push_record.Goals as goal
 
 behind : (c : goal.After-end_row) → EndsRow IsBehind c.push_whole.new.sink c.end_row.new.self

@@ -10,7 +10,7 @@ use Rattle.mm_catalog.specs.Changes.{HasEffect}
 use Rattle.mm_catalog.specs.Seen.{database_of}
 use Rattle.mm_catalog.specs.State.{CatalogState}
 use Rattle.mm_session.specs.Passing.{ArePassing}
-use Rattle.mm_session.proofs.MemoryLemmas.{delete_finds_memory}
+use Rattle.mm_session.proofs.Memory.{delete_finds_memory}
 use Rattle.mm_session.proofs.execute.changing.delete_rows.Goals as goal
 
 passing : (c : goal.After-deref) → ArePassing c.args.tables.now.catalog c.args.table.0 c.args.tests.now c.deref.result.now

@@ -17,7 +17,7 @@ use Rattle.mm_catalog.proofs.Among.{named_at}
 use Rattle.mm_catalog.proofs.Tables.{database-get}
 use Rattle.mm_session.specs.Columns.{column_at}
 use Rattle.mm_session.specs.Members.{tables_at}
-use Rattle.mm_session.proofs.PlaceLemmas.{source_at, source_inside, tables_get}
+use Rattle.mm_session.proofs.Places.{source_at, source_inside, tables_get}
 use Rattle.mm_session.proofs.execute.columns.kind.Goals as goal
 
 abbrev none : TableNumber

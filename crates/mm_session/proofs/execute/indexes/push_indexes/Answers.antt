@@ -2,7 +2,7 @@ use Rattle.std.proofs.Common.{◌∷◌, ◌++◌, [], sym, subst, arith}
 use Rattle.std.proofs.lemmas.List.{length-append}
 use Rattle.mm_catalog.specs.Indexes.{TellsIndex}
 use Rattle.mm_session.specs.IndexAnswers.{index_line}
-use Rattle.mm_session.proofs.IndexLemmas.{told_more, records_more}
+use Rattle.mm_session.proofs.Indexes.{told_more, records_more}
 use Rattle.mm_session.proofs.execute.indexes.push_indexes.Goals as goal
 
 pub loop-number-preserved : goal.loop-number-preserved

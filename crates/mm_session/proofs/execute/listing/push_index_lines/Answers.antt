@@ -5,7 +5,7 @@ use Rattle.plain_tables.specs.declared.schema.Column.{Column}
 use Rattle.plain_tables.specs.declared.schema.Schema.{Schema}
 use Rattle.mm_relation.specs.declared.numbers.DeclaredIndex.{DeclaredIndex}
 use Rattle.mm_session.specs.Listing.{command_lines, index_commands}
-use Rattle.mm_session.proofs.ListingLemmas.{index_step}
+use Rattle.mm_session.proofs.Listings.{index_step}
 use Rattle.mm_session.proofs.execute.listing.push_index_lines.Goals as goal
 
 pub loop-index-preserved : goal.loop-index-preserved

@@ -6,7 +6,7 @@ use Rattle.plain_tables.specs.Tables.{Table}
 use Rattle.mm_catalog.specs.Seen.{table_of}
 use Rattle.mm_catalog.proofs.Among.{among_at, named_at, table_at}
 use Rattle.mm_catalog.proofs.Tables.{database-length, database-name}
-use Rattle.mm_session.proofs.ListingLemmas.{table_step}
+use Rattle.mm_session.proofs.Listings.{table_step}
 use Rattle.mm_session.proofs.execute.listing.push_table_lines.Goals as goal
 
 pub at-relation-requires : goal.at-relation-requires

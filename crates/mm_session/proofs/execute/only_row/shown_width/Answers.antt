@@ -1,6 +1,6 @@
 use Rattle.std.proofs.Common.{◌∙◌, ap, length, sym}
 use Rattle.plain_tables.specs.declared.schema.Schema.{Schema}
-use Rattle.mm_session.proofs.OnlyRowLemmas.{all_wide}
+use Rattle.mm_session.proofs.OnlyRow.{all_wide}
 use Rattle.mm_session.proofs.execute.only_row.shown_width.Goals as goal
 
 pub returns-in-All : goal.returns-in-All

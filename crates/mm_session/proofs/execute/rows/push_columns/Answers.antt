@@ -5,7 +5,7 @@ use Rattle.plain_tables.specs.declared.numbers.ColumnNumber.{ColumnNumber}
 use Rattle.plain_tables.specs.declared.numbers.Place.{Place}
 use Rattle.mm_session.specs.Sinks.{PutsValues}
 use Rattle.mm_session.specs.Walked.{AreColumns, shown_row}
-use Rattle.mm_session.proofs.OnlyRowLemmas.{placed_shown, whole_shown}
+use Rattle.mm_session.proofs.OnlyRow.{placed_shown, whole_shown}
 use Rattle.mm_session.proofs.execute.rows.push_columns.Goals as goal
 
 pub push_placed-requires : goal.push_placed-requires

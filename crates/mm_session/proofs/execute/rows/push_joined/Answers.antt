@@ -9,7 +9,7 @@ use Rattle.plain_tables.specs.declared.value.Value.{Value}
 use Rattle.temp_list.specs.Lists.{value_of}
 use Rattle.mm_session.specs.Sinks.{PutsValues}
 use Rattle.mm_session.proofs.StorableValues.{placed_storable}
-use Rattle.mm_session.proofs.SinkLemmas.{values_more, row_put}
+use Rattle.mm_session.proofs.Sinks.{values_more, row_put}
 use Rattle.mm_session.proofs.execute.rows.push_joined.Goals as goal
 
 abbrev none : Place

@@ -2,7 +2,7 @@ use Rattle.std.proofs.Common.{◌<◌, ◌∷◌, [], sym, subst, get_or, map, t
 use Rattle.std.proofs.lemmas.List.{map_more}
 use Rattle.mm_session.specs.Shown.{placed_values}
 use Rattle.mm_session.specs.Sinks.{PutsRows}
-use Rattle.mm_session.proofs.SinkLemmas.{rows_more}
+use Rattle.mm_session.proofs.Sinks.{rows_more}
 use Rattle.mm_session.proofs.execute.rows.push_list.Goals as goal
 
 pub loop-row-preserved : goal.loop-row-preserved

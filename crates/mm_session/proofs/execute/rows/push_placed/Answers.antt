@@ -5,10 +5,10 @@ use Rattle.plain_tables.specs.declared.numbers.Place.{Place}
 use Rattle.plain_tables.specs.declared.value.Value.{Value}
 use Rattle.mm_catalog.proofs.Among.{among_at}
 use Rattle.temp_list.specs.Reading.{value_in}
-use Rattle.temp_list.proofs.ReadingLemmas.{can_read, lent_value}
+use Rattle.temp_list.proofs.Reading.{can_read, lent_value}
 use Rattle.mm_session.specs.Sinks.{PutsValues}
 use Rattle.mm_session.proofs.StorableValues.{column_storable}
-use Rattle.mm_session.proofs.SinkLemmas.{values_more}
+use Rattle.mm_session.proofs.Sinks.{values_more}
 use Rattle.mm_session.proofs.execute.rows.push_placed.Goals as goal
 
 abbrev none : Place

@@ -4,7 +4,7 @@ use Rattle.std.proofs.lemmas.Result.{on_ok_weaker}
 use Rattle.plain_tables.specs.declared.numbers.ColumnNumber.{ColumnNumber}
 use Rattle.temp_list.specs.Reading.{value_in}
 use Rattle.mm_session.specs.OnlyRow.{columns_shown, values_shown}
-use Rattle.mm_session.proofs.SinkLemmas.{row_put}
+use Rattle.mm_session.proofs.Sinks.{row_put}
 use Rattle.mm_session.proofs.execute.rows.push_shown.Goals as goal
 
 pub returns-clause-put : goal.returns-clause-put

@@ -3,12 +3,12 @@ use Rattle.std.proofs.lemmas.List.{length-map}
 use Rattle.std.proofs.lemmas.Result.{on_ok_weaker}
 use Rattle.plain_tables.specs.declared.numbers.Place.{Place}
 use Rattle.plain_tables.specs.Tables.{Row}
-use Rattle.project_hash.proofs.TableLemmas.{place_alone}
+use Rattle.project_hash.proofs.Tables.{place_alone}
 use Rattle.mm_session.specs.Sinks.{PutsRows}
 use Rattle.mm_session.specs.Walked.{shown_row}
 use Rattle.temp_list.specs.Reading.{value_in}
-use Rattle.mm_session.proofs.SinkLemmas.{row_put}
-use Rattle.mm_session.proofs.WalkedLemmas.{row_alone}
+use Rattle.mm_session.proofs.Sinks.{row_put}
+use Rattle.mm_session.proofs.Walked.{row_alone}
 use Rattle.mm_session.proofs.execute.rows.push_single.Goals as goal
 
 pub at-requires : goal.at-requires

@@ -8,12 +8,12 @@ use Rattle.plain_tables.specs.declared.value.Value.TheVariants as value
 use Rattle.mm_catalog.proofs.Among.{among_at}
 use Rattle.mm_catalog.specs.Picked.{seen_values}
 use Rattle.temp_list.specs.Reading.{value_in}
-use Rattle.temp_list.proofs.ReadingLemmas.{can_read, lent_value}
+use Rattle.temp_list.proofs.Reading.{can_read, lent_value}
 use Rattle.mm_session.specs.Sinks.{PutsValues}
-use Rattle.mm_session.proofs.DumpLemmas.{seen_long}
-use Rattle.mm_session.proofs.MemberLemmas.{value_seen}
+use Rattle.mm_session.proofs.Dumps.{seen_long}
+use Rattle.mm_session.proofs.Members.{value_seen}
 use Rattle.mm_session.proofs.StorableValues.{column_storable}
-use Rattle.mm_session.proofs.SinkLemmas.{values_more}
+use Rattle.mm_session.proofs.Sinks.{values_more}
 use Rattle.mm_session.proofs.execute.rows.push_whole.Goals as goal
 
 pub value-requires : goal.value-requires

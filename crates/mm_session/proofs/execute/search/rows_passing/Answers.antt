@@ -5,7 +5,7 @@ use Rattle.mm_index.specs.Bag.{IsSameBag}
 use Rattle.mm_index.proofs.Bags.{IsSameBag-from_same}
 use Rattle.mm_catalog.proofs.Among.{among_at, there_at}
 use Rattle.temp_list.specs.Reading.{passing}
-use Rattle.mm_session.proofs.PickLemmas.{test_columns, are_passing}
+use Rattle.mm_session.proofs.Picking.{test_columns, are_passing}
 use Rattle.mm_session.proofs.execute.search.rows_passing.Goals as goal
 
 pub at-relation-requires : goal.at-relation-requires

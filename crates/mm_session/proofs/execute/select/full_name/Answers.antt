@@ -8,7 +8,7 @@ use Rattle.plain_tables.specs.declared.schema.Schema.{Schema}
 use Rattle.mm_relation.specs.State.{RelationState}
 use Rattle.mm_catalog.proofs.Among.{named_at}
 use Rattle.mm_catalog.proofs.Tables.{database-length, database-name}
-use Rattle.mm_session.proofs.PlaceLemmas.{source_at, source_inside, heading_at}
+use Rattle.mm_session.proofs.Places.{source_at, source_inside, heading_at}
 use Rattle.mm_session.proofs.execute.select.full_name.Goals as goal
 
 abbrev none : TableNumber

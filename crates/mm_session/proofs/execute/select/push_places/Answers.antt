@@ -3,8 +3,8 @@ use Rattle.std.specs.List.{range_with_len}
 use Rattle.std.proofs.lemmas.List.FromFn.{map-range_with_len_more}
 use Rattle.plain_tables.specs.declared.numbers.Place.{Place}
 use Rattle.plain_tables.specs.declared.schema.Schema.{Schema}
-use Rattle.mm_session.proofs.MemberLemmas.{width_same}
-use Rattle.mm_session.proofs.PlaceLemmas.{place_at, places_from}
+use Rattle.mm_session.proofs.Members.{width_same}
+use Rattle.mm_session.proofs.Places.{place_at, places_from}
 use Rattle.mm_session.proofs.execute.select.push_places.Goals as goal
 
 pub loop-column-preserved : goal.loop-column-preserved

@@ -1,5 +1,5 @@
 use Rattle.std.proofs.Common.{◌∙◌, arith, sym}
-use Rattle.mm_session.proofs.ToldLemmas.{few_alike, many_alike}
+use Rattle.mm_session.proofs.Told.{few_alike, many_alike}
 use Rattle.mm_session.proofs.execute.told.next_join.Goals as goal
 
 pub returns : goal.returns

@@ -5,7 +5,7 @@ use Rattle.mm_catalog.specs.Seen.{database_of}
 use Rattle.mm_transactions.specs.State.{saved_of}
 use Rattle.mm_session.specs.OneRequest.{GoesBetween}
 use Rattle.mm_session.specs.Sessions.{State}
-use Rattle.mm_session.proofs.BesideLemmas.{goes_between-if_ok}
+use Rattle.mm_session.proofs.Beside.{goes_between-if_ok}
 use Rattle.mm_session.proofs.session.Session.answer_request.Goals as goal
 
 pub returns-clause-run : goal.returns-clause-run

@@ -7,7 +7,7 @@ use Rattle.mm_catalog.specs.Seen.{database_of}
 use Rattle.mm_transactions.specs.State.{saved_of}
 use Rattle.mm_session.specs.Changing.{HasDeclined}
 use Rattle.mm_session.specs.Sessions.{State}
-use Rattle.mm_session.proofs.PerformLemmas.{declined_unchanged}
+use Rattle.mm_session.proofs.Performing.{declined_unchanged}
 use Rattle.mm_session.proofs.session.Session.change.Goals as goal
 
 pub change-requires-clause-meant : goal.change-requires-clause-meant

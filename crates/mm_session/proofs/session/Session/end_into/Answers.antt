@@ -3,9 +3,9 @@ use Rattle.mm_catalog.specs.Seen.{database_of}
 use Rattle.mm_transactions.specs.State.{saved_of}
 use Rattle.mm_session.specs.Sessions.{State, Finishes, BreaksOff}
 use Rattle.mm_session.specs.declared.stream.responder.Responder.{Responder}
-use Rattle.mm_session.proofs.ResultLemmas.{on_ok, on_error}
-use Rattle.mm_session.proofs.RunLemmas.{finishes_nothing, finishes_last, breaks_off_last}
-use Rattle.mm_session.proofs.WritingLemmas.{Appends-nothing}
+use Rattle.mm_session.proofs.Results.{on_ok, on_error}
+use Rattle.mm_session.proofs.Runs.{finishes_nothing, finishes_last, breaks_off_last}
+use Rattle.mm_session.proofs.Writing.{Appends-nothing}
 use Rattle.mm_session.proofs.session.Session.end_into.Goals as goal
 
 -- what a session that has ended is seen as

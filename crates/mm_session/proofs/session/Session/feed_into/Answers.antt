@@ -3,9 +3,9 @@ use Rattle.mm_session.specs.Sessions.{State, Feeds}
 use Rattle.mm_session.specs.declared.stream.responder.Responder.{Responder}
 use Rattle.mm_catalog.specs.Seen.{database_of}
 use Rattle.mm_transactions.specs.State.{saved_of}
-use Rattle.mm_session.proofs.ResultLemmas.{on_ok, on_error}
-use Rattle.mm_session.proofs.RunLemmas.{feeds_nothing, Feeds-append, feeds_request, feeds_rest, breaks_off_request, breaks_off_later}
-use Rattle.mm_session.proofs.WritingLemmas.{Appends-append, Appends-nothing}
+use Rattle.mm_session.proofs.Results.{on_ok, on_error}
+use Rattle.mm_session.proofs.Runs.{feeds_nothing, Feeds-append, feeds_request, feeds_rest, breaks_off_request, breaks_off_later}
+use Rattle.mm_session.proofs.Writing.{Appends-append, Appends-nothing}
 use Rattle.mm_session.proofs.session.Session.feed_into.Goals as goal
 
 -- what a session is seen as

@@ -1,4 +1,4 @@
-use Rattle.mm_session.proofs.ResultLemmas.{OnOk-map}
+use Rattle.mm_session.proofs.Results.{OnOk-map}
 use Rattle.mm_session.proofs.session.Session.finish.Goals as goal
 
 pub returns-clause-ok : goal.returns-clause-ok

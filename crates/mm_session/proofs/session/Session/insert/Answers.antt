@@ -8,7 +8,7 @@ use Rattle.mm_catalog.specs.Seen.{database_of}
 use Rattle.mm_transactions.specs.State.{saved_of}
 use Rattle.mm_session.specs.Changing.{HasDeclined}
 use Rattle.mm_session.specs.Sessions.{State}
-use Rattle.mm_session.proofs.PerformLemmas.{declined_unchanged}
+use Rattle.mm_session.proofs.Performing.{declined_unchanged}
 use Rattle.mm_session.proofs.session.Session.insert.Goals as goal
 
 pub insert-requires : goal.insert-requires

@@ -1,6 +1,6 @@
 use Rattle.std.proofs.Common.{subst, ◌∙◌}
 use Rattle.std.specs.List.{Contains}
-use Rattle.mm_session.proofs.LineLemmas.{without_return-unbroken}
+use Rattle.mm_session.proofs.Lines.{without_return-unbroken}
 use Rattle.mm_session.proofs.stream.lines.judge.Goals as goal
 
 pub new-requires : goal.new-requires

@@ -1,5 +1,5 @@
 use Rattle.std.proofs.Common.{sym, ◌∙◌}
-use Rattle.mm_session.proofs.WholeLemmas.{unsplit, split-broken}
+use Rattle.mm_session.proofs.Whole.{unsplit, split-broken}
 use Rattle.mm_session.proofs.stream.lines.judge_line.Goals as goal
 
 pub returns-then-is_some : goal.returns-then-is_some

@@ -1,5 +1,5 @@
 use Rattle.std.proofs.Common.{sym, ◌∙◌}
-use Rattle.mm_session.proofs.WholeLemmas.{takes-asked, whole-with, not_whole-with}
+use Rattle.mm_session.proofs.Whole.{takes-asked, whole-with, not_whole-with}
 use Rattle.mm_session.proofs.stream.lines.judge_whole.Goals as goal
 
 pub returns-then-unwrap_or-block : goal.returns-then-unwrap_or-block

@@ -1,6 +1,6 @@
-use Rattle.mm_session.proofs.ResultLemmas.{on_ok}
-use Rattle.mm_session.proofs.RunLemmas.{breaks_off_at_end}
-use Rattle.mm_session.proofs.WritingLemmas.{Appends-keeps}
+use Rattle.mm_session.proofs.Results.{on_ok}
+use Rattle.mm_session.proofs.Runs.{breaks_off_at_end}
+use Rattle.mm_session.proofs.Writing.{Appends-keeps}
 use Rattle.mm_session.proofs.stream.whole_run.finish_and_flush.Goals as goal
 
 pub returns-in-Ok-clause-ok : goal.returns-in-Ok-clause-ok

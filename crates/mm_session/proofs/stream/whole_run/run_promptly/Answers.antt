@@ -2,10 +2,10 @@ use Rattle.std.proofs.Common.{◌++◌, ◌<◌, [], true, false, refl, sym, ap,
 use Rattle.std.specs.Io.KnownBytes.{Consumes}
 use Rattle.plain_tables.specs.declared.command.TheConstants.Limits.{STANDARD}
 use Rattle.mm_session.specs.Sessions.{State, StandsIn}
-use Rattle.mm_session.proofs.ResultLemmas.{on_err, OnOk-map}
-use Rattle.mm_session.proofs.RunLemmas.{stands_new, front_in_stream, front_at_end}
-use Rattle.mm_session.proofs.TurnLemmas.{come_more, come_none, prompt_kept, prompt_more, prompt_none}
-use Rattle.mm_session.proofs.WritingLemmas.{Appends-append, Appends-nothing, Consumes-append, Consumes-nothing, Consumes-keeps}
+use Rattle.mm_session.proofs.Results.{on_err, OnOk-map}
+use Rattle.mm_session.proofs.Runs.{stands_new, front_in_stream, front_at_end}
+use Rattle.mm_session.proofs.Turns.{come_more, come_none, prompt_kept, prompt_more, prompt_none}
+use Rattle.mm_session.proofs.Writing.{Appends-append, Appends-nothing, Consumes-append, Consumes-nothing, Consumes-keeps}
 use Rattle.mm_session.proofs.stream.whole_run.run_promptly.Goals as goal
 
 pub loop-init : goal.loop-init

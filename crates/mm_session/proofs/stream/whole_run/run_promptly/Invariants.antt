@@ -3,7 +3,7 @@ use Rattle.std.specs.Io.KnownBytes.{Appends, Consumes}
 use Rattle.plain_tables.specs.declared.command.TheConstants.Limits.{STANDARD}
 use Rattle.mm_session.specs.Sessions.{StandsIn}
 use Rattle.mm_session.specs.Turns.{IsPrompt}
-use Rattle.mm_session.proofs.TurnLemmas.{HasCome}
+use Rattle.mm_session.proofs.Turns.{HasCome}
 use Rattle.mm_session.proofs.stream.whole_run.run_promptly.Given as goal
 
 -- what was read so far has what was written so far as its answers

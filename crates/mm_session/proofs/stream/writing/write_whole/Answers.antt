@@ -1,6 +1,6 @@
 use Rattle.std.proofs.Common.{◌++◌, ◌∙◌, ap, sym, take, append_assoc}
 use Rattle.std.proofs.lemmas.List.{take-append-drop}
-use Rattle.mm_session.proofs.WritingLemmas.{Appends-append}
+use Rattle.mm_session.proofs.Writing.{Appends-append}
 use Rattle.mm_session.proofs.stream.writing.write_whole.Goals as goal
 
 pub loop-rest-preserved : goal.loop-rest-preserved

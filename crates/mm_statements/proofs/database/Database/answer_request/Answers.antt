@@ -1,5 +1,5 @@
-use Rattle.mm_statements.proofs.NotedLemmas.{doubted-noted}
-use Rattle.mm_statements.proofs.RequestLemmas.{answered-noted, declares-none}
+use Rattle.mm_statements.proofs.NotedMeanings.{doubted-noted}
+use Rattle.mm_statements.proofs.Requests.{answered-noted, declares-none}
 use Rattle.mm_statements.proofs.database.Database.answer_request.Goals as goal
 
 pub invariant_of-self-then-may_declare : goal.invariant_of-self-then-may_declare

@@ -3,9 +3,9 @@ use Rattle.std.proofs.Common.{refl}
 use Rattle.mm_prepared.specs.Cells.{cell_value}
 use Rattle.mm_prepared.specs.declared.declined.Declined.TheVariants as declined
 use Rattle.mm_statements.specs.Noted.{noted_tables}
-use Rattle.mm_statements.proofs.ExecuteLemmas.{unchanged}
-use Rattle.mm_statements.proofs.RightLemmas.{bind-right}
-use Rattle.mm_statements.proofs.SeenLemmas.{bound-seen, named-seen, past-seen}
+use Rattle.mm_statements.proofs.Executing.{unchanged}
+use Rattle.mm_statements.proofs.Right.{bind-right}
+use Rattle.mm_statements.proofs.Seen.{bound-seen, named-seen, past-seen}
 use Rattle.mm_statements.proofs.database.Database.bind.Goals as goal
 
 pub invariant_of-self : goal.invariant_of-self

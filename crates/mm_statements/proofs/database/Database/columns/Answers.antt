@@ -6,9 +6,9 @@ use Rattle.mm_catalog.specs.Seen.{database_of}
 use Rattle.mm_cells.specs.Values.{values_of}
 use Rattle.mm_statements.specs.Columns.{columns_of_query, columns_of_template}
 use Rattle.mm_statements.specs.declared.faults.ExecuteFault.TheVariants as fault
-use Rattle.mm_statements.proofs.ColumnLemmas.{known-told, none-told, unresolved-untold}
-use Rattle.mm_statements.proofs.ExecuteLemmas.{unchanged}
-use Rattle.mm_statements.proofs.SeenLemmas.{statement-none}
+use Rattle.mm_statements.proofs.ColumnsTold.{known-told, none-told, unresolved-untold}
+use Rattle.mm_statements.proofs.Executing.{unchanged}
+use Rattle.mm_statements.proofs.Seen.{statement-none}
 use Rattle.mm_statements.proofs.database.Database.columns.Goals as goal
 
 pub returns-in_err-resolve-clause-missing : goal.returns-in_err-resolve-clause-missing

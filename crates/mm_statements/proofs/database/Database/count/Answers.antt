@@ -5,10 +5,10 @@ use Rattle.plain_tables.specs.declared.resolved.Resolved.TheVariants as resolved
 use Rattle.mm_prepared.specs.Lent.{lent_command}
 use Rattle.mm_statements.specs.Resolving.{IsFinished}
 use Rattle.mm_statements.specs.declared.faults.ExecuteFault.TheVariants as fault
-use Rattle.mm_statements.proofs.CountingLemmas.{change-uncounted, count-declined, rows-counted, unfinished-uncounted}
-use Rattle.mm_statements.proofs.ExecuteLemmas.{same-finished, same-unfinished, unchanged, unresolved-unfinished}
-use Rattle.mm_statements.proofs.FinishedLemmas.{rows-change}
-use Rattle.mm_statements.proofs.SeenLemmas.{statement-none}
+use Rattle.mm_statements.proofs.Counts.{change-uncounted, count-declined, rows-counted, unfinished-uncounted}
+use Rattle.mm_statements.proofs.Executing.{same-finished, same-unfinished, unchanged, unresolved-unfinished}
+use Rattle.mm_statements.proofs.Finished.{rows-change}
+use Rattle.mm_statements.proofs.Seen.{statement-none}
 use Rattle.mm_statements.proofs.database.Database.count.Goals as goal
 
 pub returns-in_err-resolve-clause-missing : goal.returns-in_err-resolve-clause-missing

@@ -8,9 +8,9 @@ use Rattle.mm_cells.specs.Values.{values_of}
 use Rattle.mm_statements.specs.Faults.{execute_fault_of}
 use Rattle.mm_statements.specs.Resolving.{IsFinished, IsOfRows}
 use Rattle.mm_statements.specs.declared.faults.ExecuteFault.TheVariants as fault
-use Rattle.mm_statements.proofs.ExecuteLemmas.{cells-declined, change-undone, changed-noted, effect-of, full-cells, on-err, same-finished, same-unfinished, unchanged, unfinished-declined, unresolved-apart, unresolved-unfinished}
-use Rattle.mm_statements.proofs.FinishedLemmas.{rows-change}
-use Rattle.mm_statements.proofs.SeenLemmas.{same-seen, statement-none}
+use Rattle.mm_statements.proofs.Executing.{cells-declined, change-undone, changed-noted, effect-of, full-cells, on-err, same-finished, same-unfinished, unchanged, unfinished-declined, unresolved-apart, unresolved-unfinished}
+use Rattle.mm_statements.proofs.Finished.{rows-change}
+use Rattle.mm_statements.proofs.Seen.{same-seen, statement-none}
 use Rattle.mm_statements.proofs.database.Database.execute.Goals as goal
 
 pub returns-in_err-resolve-clause-missing : goal.returns-in_err-resolve-clause-missing

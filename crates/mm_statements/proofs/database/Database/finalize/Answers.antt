@@ -1,7 +1,7 @@
 use Rattle.std.proofs.lemmas.Result.{on_ok_weaker, on_err_weaker}
 use Rattle.std.proofs.Common.{None, refl}
-use Rattle.mm_statements.proofs.ExecuteLemmas.{unchanged}
-use Rattle.mm_statements.proofs.SeenLemmas.{named-seen, names-seen}
+use Rattle.mm_statements.proofs.Executing.{unchanged}
+use Rattle.mm_statements.proofs.Seen.{named-seen, names-seen}
 use Rattle.mm_statements.proofs.database.Database.finalize.Goals as goal
 
 pub returns-clause-freed : goal.returns-clause-freed

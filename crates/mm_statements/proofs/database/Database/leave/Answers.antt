@@ -1,4 +1,4 @@
-use Rattle.mm_statements.proofs.NotedLemmas.{doubted-noted}
+use Rattle.mm_statements.proofs.NotedMeanings.{doubted-noted}
 use Rattle.mm_statements.proofs.database.Database.leave.Goals as goal
 
 pub invariant_of-self-2 : goal.invariant_of-self-2

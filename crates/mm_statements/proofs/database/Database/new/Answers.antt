@@ -1,7 +1,7 @@
 use Rattle.std.proofs.Common.{ap, ◌∙◌}
 use Rattle.std.specs.Option.{option_map}
 use Rattle.mm_prepared.specs.Kept.{seen}
-use Rattle.mm_statements.proofs.SeenLemmas.{statement-seen}
+use Rattle.mm_statements.proofs.Seen.{statement-seen}
 use Rattle.mm_statements.proofs.database.Database.new.Goals as goal
 
 pub returns-clause-none : goal.returns-clause-none

@@ -7,11 +7,11 @@ use Rattle.mm_statements.specs.Databases.{NowNames}
 use Rattle.mm_statements.specs.Noted.{noted_tables}
 use Rattle.mm_statements.specs.Resolving.{LineMeans}
 use Rattle.mm_statements.specs.Right.{AreNoted, AreRight}
-use Rattle.mm_statements.proofs.ExecuteLemmas.{on-err, unchanged}
-use Rattle.mm_statements.proofs.NotedLemmas.{are-noted}
-use Rattle.mm_statements.proofs.PrepareLemmas.{is-prepared, prepared-right, unmeant-unprepared, unprepared-for, unread-unprepared}
-use Rattle.mm_statements.proofs.RightLemmas.{names-right, same-right}
-use Rattle.mm_statements.proofs.SeenLemmas.{named-seen, names-before, names-seen, state_of}
+use Rattle.mm_statements.proofs.Executing.{on-err, unchanged}
+use Rattle.mm_statements.proofs.NotedMeanings.{are-noted}
+use Rattle.mm_statements.proofs.Preparing.{is-prepared, prepared-right, unmeant-unprepared, unprepared-for, unread-unprepared}
+use Rattle.mm_statements.proofs.Right.{names-right, same-right}
+use Rattle.mm_statements.proofs.Seen.{named-seen, names-before, names-seen, state_of}
 use Rattle.mm_statements.proofs.database.Database.prepare.Goals as goal
 
 pub returns-in_err-line-clause-refused : goal.returns-in_err-line-clause-refused

@@ -7,9 +7,9 @@ use Rattle.mm_cells.specs.Values.{values_of}
 use Rattle.mm_statements.specs.Faults.{query_fault_of}
 use Rattle.mm_statements.specs.Querying.{IsMeaningOfLine}
 use Rattle.mm_statements.specs.declared.faults.QueryFault.TheVariants as fault
-use Rattle.mm_statements.proofs.ExecuteLemmas.{changed-noted, on-err, unchanged}
-use Rattle.mm_statements.proofs.FinishedLemmas.{rows-change}
-use Rattle.mm_statements.proofs.QueryLemmas.{cells-unanswered, change-unanswered, effect-of-line, full-cells}
+use Rattle.mm_statements.proofs.Executing.{changed-noted, on-err, unchanged}
+use Rattle.mm_statements.proofs.Finished.{rows-change}
+use Rattle.mm_statements.proofs.Queries.{cells-unanswered, change-unanswered, effect-of-line, full-cells}
 use Rattle.mm_statements.proofs.database.Database.query.Goals as goal
 
 pub returns-in_err-command-clause-refused : goal.returns-in_err-command-clause-refused

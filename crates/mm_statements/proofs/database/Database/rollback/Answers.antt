@@ -1,5 +1,5 @@
 use Rattle.std.proofs.Common.{Ok, ap, sym}
-use Rattle.mm_statements.proofs.NotedLemmas.{doubted-noted, noted-stays}
+use Rattle.mm_statements.proofs.NotedMeanings.{doubted-noted, noted-stays}
 use Rattle.mm_statements.proofs.database.Database.rollback.Goals as goal
 
 pub invariant_of-self-then-not-kept : goal.invariant_of-self-then-not-kept

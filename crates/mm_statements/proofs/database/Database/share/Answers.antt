@@ -1,4 +1,4 @@
-use Rattle.mm_statements.proofs.NotedLemmas.{doubted-noted}
+use Rattle.mm_statements.proofs.NotedMeanings.{doubted-noted}
 use Rattle.mm_statements.proofs.database.Database.share.Goals as goal
 
 pub invariant_of-other : goal.invariant_of-other

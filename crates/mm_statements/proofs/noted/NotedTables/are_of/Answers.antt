@@ -7,7 +7,7 @@ use Rattle.plain_tables.specs.Tables.{Table}
 use Rattle.mm_statements.specs.declared.noted.NotedTable.{NotedTable}
 use Rattle.mm_statements.specs.Noted.{noted_table, noted_tables}
 use Rattle.mm_catalog.specs.Seen.{database_of}
-use Rattle.mm_statements.proofs.NotedLemmas.{next-taken}
+use Rattle.mm_statements.proofs.NotedMeanings.{next-taken}
 use Rattle.mm_statements.proofs.noted.NotedTables.are_of.Goals as goal
 
 pub loop-number-preserved : goal.loop-number-preserved

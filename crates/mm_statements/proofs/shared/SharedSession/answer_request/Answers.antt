@@ -2,7 +2,7 @@ use Rattle.std.proofs.Common.{◌∙◌, ap, sym, Err}
 use Rattle.std.proofs.lemmas.Result.{err_from_is_err_and}
 use Rattle.std.specs.Arc.{arc_value}
 use Rattle.std.specs.Option.{option_map_or}
-use Rattle.mm_statements.proofs.SharedLemmas.{change-fault, goes-as, own-goes}
+use Rattle.mm_statements.proofs.Sharing.{change-fault, goes-as, own-goes}
 use Rattle.mm_statements.proofs.shared.SharedSession.answer_request.Goals as goal
 
 pub returns-in_default-clause-run : goal.returns-in_default-clause-run

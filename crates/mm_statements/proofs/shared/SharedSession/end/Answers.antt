@@ -2,7 +2,7 @@ use Rattle.std.proofs.Common.{◌∙◌, [], ap, sym, true, Err}
 use Rattle.std.proofs.lemmas.Result.{err_from_is_err_and}
 use Rattle.std.specs.Arc.{arc_value}
 use Rattle.std.specs.Option.{option_map_or}
-use Rattle.mm_statements.proofs.SharedLemmas.{breaks-off-as, finishes-as, own-breaks-off, own-finishes, write-fault}
+use Rattle.mm_statements.proofs.Sharing.{breaks-off-as, finishes-as, own-breaks-off, own-finishes, write-fault}
 use Rattle.mm_statements.proofs.shared.SharedSession.end.Goals as goal
 
 pub returns-in_err-end-clause-write : goal.returns-in_err-end-clause-write

@@ -6,7 +6,7 @@ use Rattle.lin_hash.specs.Rest.{chain_rest}
 use Rattle.mm_relation.proofs.Listings.{next_listed}
 use Rattle.project_hash.specs.Shown.{ShownState}
 use Rattle.project_hash.specs.Table.{row_state}
-use Rattle.project_hash.proofs.KnownLemmas.{chain_held, some_alike, none_alike}
+use Rattle.project_hash.proofs.KnownRows.{chain_held, some_alike, none_alike}
 use Rattle.project_hash.proofs.known.Known.has_alike.Goals as goal
 
 pub loop-r-init : goal.loop-r-init

@@ -8,7 +8,7 @@ use Rattle.project_hash.specs.Hashes.{hash_of_values}
 use Rattle.project_hash.specs.Known.{AreKnown, hashed, row_states}
 use Rattle.project_hash.specs.Shown.{ShownState, alike}
 use Rattle.project_hash.specs.Table.{row_state}
-use Rattle.project_hash.proofs.KnownLemmas.{key_more, key_there, known_more}
+use Rattle.project_hash.proofs.KnownRows.{key_more, key_there, known_more}
 use Rattle.project_hash.proofs.known.Known.keep.Goals as goal
 
 pub reserve-requires : goal.reserve-requires

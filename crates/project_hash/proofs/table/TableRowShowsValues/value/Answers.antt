@@ -6,7 +6,7 @@ use Rattle.temp_list.specs.Lists.{value_of}
 use Rattle.temp_list.specs.Reading.{value_in}
 use Rattle.project_hash.specs.Shown.{ShownState}
 use Rattle.project_hash.specs.Table.{TableState}
-use Rattle.project_hash.proofs.TableLemmas.{column_there, value_there}
+use Rattle.project_hash.proofs.Tables.{column_there, value_there}
 use Rattle.project_hash.proofs.table.TableRowShowsValues.value.Goals as goal
 
 pub read-requires-clause-within : goal.read-requires-clause-within

@@ -1,4 +1,4 @@
-use Rattle.mm_session.proofs.SinkLemmas.{full_after}
+use Rattle.mm_session.proofs.Sinks.{full_after}
 use Rattle.mm_session.proofs.StorableValues.{storable_unlinked}
 use Rattle.mm_session.proofs.execute.sink.CellsRowSink.push_value.Goals as goal
 

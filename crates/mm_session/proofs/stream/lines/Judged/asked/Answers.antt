@@ -1,4 +1,4 @@
-use Rattle.mm_session.proofs.AskLemmas.{asks-judged, unasked-too_long, unasked-not_utf8, unasked-silent}
+use Rattle.mm_session.proofs.Asks.{asks-judged, unasked-too_long, unasked-not_utf8, unasked-silent}
 use Rattle.mm_session.proofs.stream.lines.Judged.asked.Goals as goal
 
 pub returns-in-Text : goal.returns-in-Text

@@ -2,7 +2,7 @@ use Rattle.std.proofs.Common.{◌<◌, ◌≤◌, length, arith}
 use Rattle.plain_streams.specs.Requests.{Request}
 use Rattle.plain_streams.specs.Division.{IsWhole}
 use Rattle.mm_catalog.specs.Seen.{database_of}
-use Rattle.mm_session.proofs.BesideLemmas.{has_block-whole, answers-whole_too_long}
+use Rattle.mm_session.proofs.Beside.{has_block-whole, answers-whole_too_long}
 use Rattle.mm_session.proofs.stream.responder.Responder.answer_request.Goals as goal
 
 pub returns-then-block-block_limit-clause-ok : goal.returns-then-block-block_limit-clause-ok

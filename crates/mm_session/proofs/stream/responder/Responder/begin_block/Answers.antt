@@ -1,8 +1,8 @@
 use Rattle.std.proofs.Common.{[], ◌++◌, refl, ◌∙◌, append-nil, subst}
 use Rattle.mm_session.specs.Kept.{KeepsBlock}
 use Rattle.mm_session.specs.Responding.{IsLoadLine, IsRestWith}
-use Rattle.mm_session.proofs.KeptLemmas.{keeps_request-begun}
-use Rattle.mm_session.proofs.TakeLemmas.{takes-behind}
+use Rattle.mm_session.proofs.Kept.{keeps_request-begun}
+use Rattle.mm_session.proofs.Taking.{takes-behind}
 use Rattle.mm_session.proofs.stream.responder.Responder.begin_block.Goals as goal
 
 pub returns-clause-takes : goal.returns-clause-takes

@@ -2,8 +2,8 @@ use Rattle.std.proofs.Common.{◌≡◌, ℕ, List, ap, Bor, refl, subst, ◌∙
 use Rattle.mm_catalog.specs.Seen.{database_of}
 use Rattle.plain_streams.specs.Requests.{Request}
 use Rattle.mm_session.specs.Kept.{KeepsBlock}
-use Rattle.mm_session.proofs.AskLemmas.{has_block-asked}
-use Rattle.mm_session.proofs.RequestLemmas.{answers-block_too_long, answers-no_memory}
+use Rattle.mm_session.proofs.Asks.{has_block-asked}
+use Rattle.mm_session.proofs.Requests.{answers-block_too_long, answers-no_memory}
 use Rattle.mm_session.proofs.stream.responder.Responder.end_block.Goals as goal
 use Rattle.mm_session.proofs.stream.responder.Responder.end_block.Goals.{in-TooLong, in-NoMemory}
 

@@ -3,9 +3,9 @@ use Rattle.plain_streams.specs.Requests.{Request, Asks}
 use Rattle.mm_session.specs.Buffers.{is_start, kept_of}
 use Rattle.mm_session.specs.Responding.{IsLineWith, IsLoadLine}
 use Rattle.mm_session.specs.declared.stream.responder.Responder.{Responder}
-use Rattle.mm_session.proofs.KeptLemmas.{nothing-is, keeps_line-grown}
-use Rattle.mm_session.proofs.LineLemmas.{start, start-nothing}
-use Rattle.mm_session.proofs.TakeLemmas.{takes-behind}
+use Rattle.mm_session.proofs.Kept.{nothing-is, keeps_line-grown}
+use Rattle.mm_session.proofs.Lines.{start, start-nothing}
+use Rattle.mm_session.proofs.Taking.{takes-behind}
 use Rattle.mm_session.proofs.stream.responder.Responder.end_line.Goals as goal
 
 -- a line, its line feed and its block, of which a front is kept

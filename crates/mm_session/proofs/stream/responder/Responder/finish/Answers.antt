@@ -1,11 +1,11 @@
 use Rattle.std.proofs.Common.{◌≡◌, sym, ap, subst, ◌∙◌}
 use Rattle.plain_streams.specs.Division.{request_of}
 use Rattle.plain_streams.specs.Runs.{Answers}
-use Rattle.plain_streams.proofs.DivisionLemmas.{request_of-line, request_of-bytes}
+use Rattle.plain_streams.proofs.Division.{request_of-line, request_of-bytes}
 use Rattle.mm_catalog.specs.Seen.{database_of}
 use Rattle.mm_session.specs.declared.stream.responder.Responder.{Responder}
-use Rattle.mm_session.proofs.KeptLemmas.{keeps-no_block, keeps-block, keeps_block-long, keeps_block-within}
-use Rattle.mm_session.proofs.RequestLemmas.{answers-refused_block}
+use Rattle.mm_session.proofs.Kept.{keeps-no_block, keeps-block, keeps_block-long, keeps_block-within}
+use Rattle.mm_session.proofs.Requests.{answers-refused_block}
 use Rattle.mm_session.proofs.stream.responder.Responder.finish.Goals as goal
 
 pub returns-in-None-clause-answers : goal.returns-in-None-clause-answers

@@ -4,8 +4,8 @@ use Rattle.plain_streams.specs.Requests.{Request, Asks}
 use Rattle.plain_streams.specs.Runs.{Answers}
 use Rattle.mm_catalog.specs.Seen.{database_of}
 use Rattle.mm_session.specs.declared.stream.responder.Responder.{Responder}
-use Rattle.mm_session.proofs.AskLemmas.{has_block-empty, asks-some}
-use Rattle.mm_session.proofs.RequestLemmas.{answers-refused_block}
+use Rattle.mm_session.proofs.Asks.{has_block-empty, asks-some}
+use Rattle.mm_session.proofs.Requests.{answers-refused_block}
 use Rattle.mm_session.proofs.stream.responder.Responder.finish_line.Goals as goal
 
 pub returns-then-length-eq0-clause-answers : goal.returns-then-length-eq0-clause-answers

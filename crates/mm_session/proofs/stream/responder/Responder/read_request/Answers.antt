@@ -8,8 +8,8 @@ use Rattle.mm_catalog.specs.State.{CatalogState}
 use Rattle.mm_session.specs.Judging.{IsJudged}
 use Rattle.mm_session.specs.OneRequest.{AnswersOne}
 use Rattle.mm_session.specs.Reads.{WouldChange}
-use Rattle.mm_session.proofs.BesideLemmas.{has_block-whole, answers-whole_too_long}
-use Rattle.mm_session.proofs.ReadLemmas.{would-change}
+use Rattle.mm_session.proofs.Beside.{has_block-whole, answers-whole_too_long}
+use Rattle.mm_session.proofs.ReadRequests.{would-change}
 use Rattle.mm_session.proofs.stream.responder.Responder.read_request.Goals.{in-Err, in-Ok}
 use Rattle.mm_session.proofs.stream.responder.Responder.read_request.Goals as goal
 

@@ -1,7 +1,7 @@
 use Rattle.std.proofs.Common.{[], ◌∷◌, ◌++◌, refl, sym, ◌∙◌, append_assoc}
 use Rattle.mm_session.specs.Responding.{IsRest, IsLineWith}
-use Rattle.mm_session.proofs.KeptLemmas.{keeps-no_block}
-use Rattle.mm_session.proofs.TakeLemmas.{takes-behind}
+use Rattle.mm_session.proofs.Kept.{keeps-no_block}
+use Rattle.mm_session.proofs.Taking.{takes-behind}
 use Rattle.mm_session.proofs.stream.responder.Responder.take.Goals as goal
 
 pub returns-in-Some-split_line-clause-takes : goal.returns-in-Some-split_line-clause-takes

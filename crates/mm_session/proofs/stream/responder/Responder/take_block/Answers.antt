@@ -1,7 +1,7 @@
 use Rattle.std.proofs.Common.{◌≡◌, ◌++◌, length, drop, refl, sym, ap, ◌∙◌, arith}
 use Rattle.std.proofs.lemmas.List.{take-append-drop}
 use Rattle.mm_session.specs.Kept.{to_come}
-use Rattle.mm_session.proofs.KeptLemmas.{keeps_request-more, request-whole}
+use Rattle.mm_session.proofs.Kept.{keeps_request-more, request-whole}
 use Rattle.mm_session.proofs.stream.responder.Responder.take_block.Goals as goal
 
 pub returns-then-bytes-to_come-clause-takes : goal.returns-then-bytes-to_come-clause-takes
