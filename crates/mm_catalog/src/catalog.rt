@@ -319,7 +319,7 @@ impl Catalog {
         ensures { outline_of self.new ≡ without_rows table.0 rows.old (outline_of self.old) }
     {
         a_catalog_is_consistent(self);
-        self.at(table).put_in_key_order(rows, set);
+        self.at(table).put_in_removal_order(rows, set);
         self.take_back(table, rows)
     }
 

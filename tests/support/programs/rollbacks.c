@@ -6,7 +6,7 @@
 #include <stdlib.h>
 #include <unistd.h>
 
-enum { ROUNDS = 100, ROWS = 1000, BLOCK = 65536 };
+enum { ROUNDS = 100, ROUNDS_OF_MANY = 10, ROWS = 1000, BLOCKS = 5, BLOCK = 65536 };
 
 static void mark(const char *word)
 {
@@ -123,6 +123,20 @@ static void rounds(void)
     mmdb_close(&db);
 }
 
+/* So many rows at once that a rollback takes them out in the order of their keys. */
+static void rounds_of_many(void)
+{
+    mmdb db = opened();
+    for (int round = 0; round < ROUNDS_OF_MANY; round++) {
+        GIVES(mmdb_begin(&db), MMDB_DONE);
+        for (int block = 1; block <= BLOCKS; block++)
+            load_rows(&db, block * ROWS, ROWS);
+        GIVES(mmdb_rollback(&db), MMDB_DONE);
+        mark("many rolled back\n");
+    }
+    mmdb_close(&db);
+}
+
 /* Makes the changes, and takes all rows out where that is wanted, in a transaction that is committed or in none. */
 static void change_once(int in_transaction, int takes_all, const char *word)
 {
@@ -146,6 +160,8 @@ static void change_once(int in_transaction, int takes_all, const char *word)
 int main(void)
 {
     rounds();
+    mark("closed\n");
+    rounds_of_many();
     mark("closed\n");
     change_once(1, 0, "committed\n");
     change_once(0, 0, "plain\n");

@@ -7,17 +7,17 @@ use Rattle.mm_catalog.proofs.catalog.Catalog.take_many_back.Goals as goal
 pub at-requires : goal.at-requires
 at-requires c = omega (arith, c.requires.there, database-length c.args.self.now c.a_catalog_is_consistent.ensures.named)
 
-pub put_in_key_order-requires-clause-held : goal.put_in_key_order-requires-clause-held
-put_in_key_order-requires-clause-held c = c.requires.held c.at.result.now c.at.ensures
+pub put_in_removal_order-requires-clause-held : goal.put_in_removal_order-requires-clause-held
+put_in_removal_order-requires-clause-held c = c.requires.held c.at.result.now c.at.ensures
 
 pub take_back-requires-clause-held : goal.take_back-requires-clause-held
-take_back-requires-clause-held c = held_now c.put_in_key_order.new.rows c.args.rows.now c.put_in_key_order.ensures c.args.self.now c.args.table.0 c.requires.held
+take_back-requires-clause-held c = held_now c.put_in_removal_order.new.rows c.args.rows.now c.put_in_removal_order.ensures c.args.self.now c.args.table.0 c.requires.held
 
 pub take_back-requires-clause-once : goal.take_back-requires-clause-once
-take_back-requires-clause-once c = once_now c.put_in_key_order.new.rows c.args.rows.now c.put_in_key_order.ensures c.requires.once
+take_back-requires-clause-once c = once_now c.put_in_removal_order.new.rows c.args.rows.now c.put_in_removal_order.ensures c.requires.once
 
 pub take_back-requires-clause-free : goal.take_back-requires-clause-free
-take_back-requires-clause-free c = free_now c.put_in_key_order.new.rows c.args.rows.now c.put_in_key_order.ensures c.args.self.now c.args.table.0 c.requires.free
+take_back-requires-clause-free c = free_now c.put_in_removal_order.new.rows c.args.rows.now c.put_in_removal_order.ensures c.args.self.now c.args.table.0 c.requires.free
 
 pub returns : goal.returns
-returns c = c.take_back.ensures.outline ∙ without_now c.put_in_key_order.new.rows c.args.rows.now c.put_in_key_order.ensures c.args.table.0 (outline_of c.args.self.now)
+returns c = c.take_back.ensures.outline ∙ without_now c.put_in_removal_order.new.rows c.args.rows.now c.put_in_removal_order.ensures c.args.table.0 (outline_of c.args.self.now)
