@@ -311,6 +311,45 @@ class Calls(binding.WithDatabase):
         self.assertEqual(why.line, "insert t (1, 'it''s')")
         self.assertEqual(self.db.dump("t"), [[1, "a"], [2, "b"]])
 
+    def test_executemany_of_many_rows(self):
+        self.db.execute("table dept (id text)")
+        self.db.execute("table t (id int, s text, dept ref dept null)")
+        texts = ("", "plain", "it's", "two\nlines\r", 'a "quoted", one', "\u20ac", "\0")
+        depts = [f"dept {number}, {text}" for number, text in enumerate(texts)]
+        rows = [(number * 7919 % 3000, texts[number % 7], depts[number % 5] if number % 3 else None) for number in range(3000)]
+        self.assertEqual(self.db.executemany("insert dept (?)", [(dept,) for dept in depts] + [(f"{n}",) for n in range(300)]), 307)
+        self.assertEqual(self.db.executemany(" insert\tt(? ,?, ?) ", rows[:1000]), 1000)
+        self.assertEqual(self.db.executemany("insert t (:id, :s, :dept)", [dict(zip(("id", "s", "dept"), row)) for row in rows[1000:2000]]), 1000)
+        self.assertEqual(self.db.prepare("insert t (?, ?, ?)").executemany(rows[2000:]), 1000)
+        self.assertEqual(self.db.dump("t"), sorted(map(list, rows)))
+
+    def test_executemany_of_many_rows_of_which_one_is_refused(self):
+        self.db.execute("table dept (id text)")
+        self.db.executemany("insert dept (?)", [("",), ("d",)])
+        self.db.execute("table t (id int, s text, dept ref dept null)")
+        for number, row, line in (
+            (41, (7, "b", None), "insert t (7, 'b', null)"),
+            (42, (500, "b", "x"), "insert t (500, 'b', 'x')"),
+            (46, (500, "x" * 1025, None), f"insert t (500, '{'x' * 1025}', null)"),
+            (35, (500, 1, None), "insert t (500, 1, null)"),
+        ):
+            with self.subTest(number=number):
+                rows = [(id, "a", "d" if id % 2 else None) for id in range(500)] + [row, (501, "c", None)]
+                why = self.refused(number, self.db.executemany, "insert t (?, ?, ?)", rows)
+                self.assertEqual(why.line, line)
+                self.assertEqual(self.db.dump("t"), [list(row) for row in rows[:500]])
+                self.db.execute("delete t")
+        for wrong, row in ((TypeError, (500, 2.5, None)), (ValueError, (500, "b")), (ValueError, (2**63, "b", None))):
+            with self.subTest(row=row), self.assertRaisesRegex(wrong, ".row 501."):
+                self.db.executemany("insert t (?, ?, ?)", [(id, "a", None) for id in range(500)] + [row])
+        self.refused(30, self.db.executemany, "insert u (?)", [(id,) for id in range(500)])
+        self.refused(45, self.db.executemany, "insert t (?)", [(id,) for id in range(500)])
+        self.assertEqual(self.db.dump("t"), [])
+        self.assertEqual(self.db.executemany("insert t (?, '', ?)", [(id, "d") for id in range(500)]), 500)
+        # (a load would read this text as null)
+        self.assertEqual(self.db.executemany("insert t (?, ?, ?)", [(id, "a", "") for id in range(500, 1000)]), 500)
+        self.assertEqual(self.db.count("select id from t where dept = ''"), 500)
+
     def test_limits(self):
         with mmdb.Database(rows=2, block=6) as db:
             db.execute("table t (id int)")

@@ -33,8 +33,8 @@ from .errors import InTransaction, NoMemory, NoTransaction, OperationalError, Re
 from .files import written
 from .handles import Handle
 from .indexes import Index, indexes_of
-from .lines import CHANGES, CHANGING, Placed, check_kind, check_line, one_line, placed
-from .loads import CHUNK, Arrange, blocks_of_rows, by_name, by_order, chunked, header_of, in_whole, kept_names
+from .lines import CHANGES, CHANGING, Placed, check_kind, check_line, filled_table, one_line, placed
+from .loads import CHUNK, MANY, Arrange, blocks_of_rows, by_name, by_order, chunked, header_of, in_whole, kept_names, plain_blocks
 from .quotes import Form, form_of
 from .rows import Rows, Shape, shape_of
 from .statement import Statement
@@ -165,11 +165,32 @@ class Database(Handle):
         at = placed(line)
         given = at.fitting_rows(rows)
         if at.is_statement and given:
-            count: int = self._done_many(str.__str__(line), at, given)
-            return count
+            return self._execute_each(at, given, functools.partial(self._done_many, str.__str__(line), at))
         lines = [encoded(at.filled(values)) for values in stored_rows(given)]
         with self._turn:
             return sum(map(self._counted, lines))
+
+    def _execute_each(self, at: Placed, rows: List[Tuple[Any, ...]], do: Callable[[List[Tuple[Any, ...]]], int]) -> int:
+        """Executes a line with each of these rows of values, by a function or, where it puts many rows in, by loads as far as
+        these go."""
+        table = filled_table(at) if len(rows) >= MANY else None
+        if table is None:
+            return do(rows)
+        with self._alone():
+            count = self._put_in(table, rows)
+            return count + do(rows[count:]) if count < len(rows) else count
+
+    def _put_in(self, table: str, rows: List[Tuple[Any, ...]]) -> int:
+        """Puts rows in by loads, up to one that is refused, and gives how many went in. None do if a load can't have them."""
+        count = 0
+        for block, size in plain_blocks(self._known(table), rows, self._block):
+            try:
+                with self._turn:
+                    self._loaded(table, block)
+            except (Refused, Shared):
+                break
+            count += size
+        return count
 
     def begin(self) -> None:
         """Begins a transaction, which `commit` or `rollback` ends. In another it is a savepoint of that.

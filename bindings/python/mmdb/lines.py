@@ -24,6 +24,9 @@ _COLUMN = re.compile(r"column (\d+): ")
 _BEGINNING = re.compile(r"[ \t]*(?:([A-Za-z_]\w*)|(#|\r?\Z))", re.ASCII)
 _COMMANDS = frozenset(("table", "drop", "index", "insert", "update", "delete", "select", "load", "dump", "tables"))
 
+# An insert whose values all have places.
+_FILLED_INSERT = re.compile(rb"[ \t]*insert[ \t]+([a-z_]\w*)[ \t]*\([ \t]*\?(?:[ \t]*,[ \t]*\?)*[ \t]*\)[ \t]*", re.ASCII)
+
 # How many bytes a line has at most, with the return that it may end in. Longer ones are refused, and not kept.
 _LONGEST = 8192 + 1
 
@@ -141,6 +144,12 @@ def placed(line: str) -> Placed:
         word in STATEMENTS and len(marked) <= _LONGEST,
         given,
     )
+
+
+def filled_table(at: Placed) -> Optional[str]:
+    """The table of an insert whose values all have places. None for another line."""
+    found = _FILLED_INSERT.fullmatch(at.prepared)
+    return found[1].decode() if found else None
 
 
 def one_line(line: str) -> str:

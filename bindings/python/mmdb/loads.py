@@ -9,14 +9,19 @@ import operator
 import re
 from typing import Any, Callable, Iterable, Iterator, List, Mapping, NamedTuple, Optional, Sequence, Tuple
 
-from .errors import Refused, WrongType, WrongUse
-from .values import Column, encoded, letters_of, plain_records, records_of, rows_of
+from .chosen import extension
+from .errors import Refused, WrongType, WrongUse, WrongValue
+from .values import PLAIN, Column, encoded, letters_of, plain_records, records_of, rows_of
 
 #: Puts given rows, before which there are some others, into the order of a table's columns.
 Arrange = Callable[[List[Any], int], List[Tuple[Any, ...]]]
 
 #: How many rows are put into records at once.
 CHUNK = 1_000
+
+#: So many inserts by one call are made as loads, and so many rows are in each of these.
+MANY = 200
+_ROWS_OF_A_LOAD = 1 << 16
 
 # Where the words of a refusal tell of a record, and its reason of another one.
 _OF_A_RECORD = re.compile(r"record \d+\)?\Z")
@@ -156,6 +161,30 @@ def blocks_of_rows(columns: List[Column], arrange: Arrange, chunks: Iterable[Lis
             before += len(rows)
 
     return blocks(encoded(header_of(columns)), records(), limit)
+
+
+def plain_blocks(columns: List[Column], rows: List[Tuple[Any, ...]], limit: int) -> List[Tuple[bytes, int]]:
+    """The blocks of loads of these rows, each with the number of its rows. None if a value isn't stored as it is, or a block would have
+    more bytes than so many."""
+    header, letters = encoded(header_of(columns)) + b"\n", letters_of(columns)
+    made = []
+    for first in range(0, len(rows), _ROWS_OF_A_LOAD):
+        some = rows[first : first + _ROWS_OF_A_LOAD]
+        content = plain_records(letters, some) if extension else _plain_by_python(columns, some)
+        if content is None or len(header) + len(content) > limit:
+            return []
+        made.append((header + content, len(some)))
+    return made
+
+
+def _plain_by_python(columns: List[Column], rows: List[Tuple[Any, ...]]) -> Optional[bytes]:
+    """The records of these rows. None if a value isn't stored as it is."""
+    if not all(type(value) in PLAIN for row in rows for value in row):
+        return None
+    try:
+        return encoded("\n".join(records_of(columns, rows, 0)))
+    except (WrongType, WrongUse, WrongValue):
+        return None
 
 
 def _records(columns: List[Column], letters: bytes, rows: List[Tuple[Any, ...]], before: int) -> Records:

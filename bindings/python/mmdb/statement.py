@@ -5,11 +5,11 @@ from __future__ import annotations
 from typing import TYPE_CHECKING, Any, Iterable, Mapping, Tuple
 
 from .errors import WrongUse
-from .handles import Handle, Prepared
+from .handles import Prepared
 from .lines import CHANGES, STATEMENTS, check_kind, placed
 
 if TYPE_CHECKING:
-    from .database import Parameters
+    from .database import Database, Parameters
 
 
 class Statement(Prepared):
@@ -19,11 +19,12 @@ class Statement(Prepared):
     Each call of a closed one but `close` raises ValueError.
     """
 
-    def __init__(self, database: Handle, line: str) -> None:
+    def __init__(self, database: Database, line: str) -> None:
         check_kind("prepare", line, *STATEMENTS)
         #: Its line.
         self.line = line
         self._placed = placed(line)
+        self._database = database
         super().__init__(database, self._placed)
 
     if TYPE_CHECKING:
@@ -52,8 +53,8 @@ class Statement(Prepared):
         """
         check_kind("executemany", self.line, *CHANGES)
         self._check()
-        count: int = self._done_many(self._placed.fitting_rows(rows))
-        return count
+        given = self._placed.fitting_rows(rows)
+        return self._database._execute_each(self._placed, given, self._done_many)
 
     @property
     def names(self) -> Tuple[str, ...]:
