@@ -436,6 +436,17 @@ class Named(binding.WithDatabase):
                 self.assertEqual(self.db.dump("w"), [("",), ("x",), ("y",)])
                 self.db.execute("delete w")
 
+    def test_quoted_fields_in_small_blocks(self):
+        """No record is cut, though it has line feeds."""
+        texts = ('"two\nlines, ""quoted"""', '5", not quoted', '""', '"\n\n"')
+        rows = [(id, ('two\nlines, "quoted"', '5", not quoted', "", "\n\n")[id % 4]) for id in range(60)]
+        block = "s;more;id\n" + "".join(f'{texts[id % 4]};"a;b";{id}\n' for id, _ in rows)
+        for limit in (40, 64, 1_000):
+            with self.subTest(limit=limit), mmdb.Database(block=limit) as db:
+                db.execute("table v (id int, s text)")
+                self.assertEqual(db.load_csv("v", block, columns=("id", "s"), separator=";"), len(rows))
+                self.assertEqual(db.select("select * from v"), rows)
+
     def test_random_files_are_read_as_a_load_reads_them(self):
         draw = random.Random(SEED)
         self.db.execute("table w (a text, b text)")

@@ -1,5 +1,5 @@
-/* The records of a load: of rows whose values are all stored as they are, as values.py has them for any rows, and of the lines of a CSV
-   without quote marks, as csvs.py has them for any CSV. */
+/* The records of a load. They are made of rows whose values are all stored as they are, as values.py makes them of any rows; and of a CSV
+   without odd quote marks, as csvs.py makes them of any CSV. */
 #include "_mmdb.h"
 
 #include <string.h>
@@ -147,28 +147,58 @@ PyObject *plain_records(PyObject *Py_UNUSED(module), PyObject *given)
     return made;
 }
 
-/* Finds where the fields of a line begin, and one byte behind its end. Gives its end, or null if the fields are not as many. */
-static const char *find_fields(const char *at, const char *end, char separator, const char **fields, Py_ssize_t width)
-{
-    Py_ssize_t count = 1;
-    fields[0] = at;
-    for (; at < end && *at != '\n' && *at != '\r'; at++) {
-        if (*at != separator)
-            continue;
-        if (count == width)
-            return NULL;
-        fields[count++] = at + 1;
-    }
-    fields[width] = at + 1;
-    return count == width ? at : NULL;
-}
-
 /* The fields that the columns take: their places, where one below 0 has none. */
 typedef struct {
     Py_ssize_t *places, count, width;
     char separator;
-    int is_checked;
+    int is_checked, has_quotes;
 } Picks;
+
+/* Finds the end of a quoted field. Gives null if its quote marks are odd. */
+static const char *behind_quotes(const char *at, const char *end, char separator)
+{
+    for (at++; (at = memchr(at, '"', (size_t)(end - at))) != NULL; at += 2) {
+        if (at + 1 == end || at[1] == separator || at[1] == '\n' || at[1] == '\r')
+            return at + 1;
+        if (at[1] != '"')
+            return NULL;
+    }
+    return NULL;
+}
+
+/* Finds the end of the field that begins here. Gives null if its quote marks are odd. */
+static const char *behind_field(const char *at, const char *end, const Picks *picks)
+{
+    if (picks->has_quotes && at < end && *at == '"')
+        return behind_quotes(at, end, picks->separator);
+    while (at < end && *at != picks->separator && *at != '\n' && *at != '\r')
+        at++;
+    return at;
+}
+
+/* Finds where the fields of a record begin, and one byte behind its end. Gives its end, or null if the fields are not as many, or the
+   quote marks of one are odd. */
+static const char *find_fields(const char *at, const char *end, const Picks *picks, const char **fields)
+{
+    for (Py_ssize_t count = 0; count < picks->width; at++) {
+        fields[count++] = at;
+        at = behind_field(at, end, picks);
+        if (at == NULL)
+            return NULL;
+        if (at < end && *at == picks->separator)
+            continue;
+        fields[picks->width] = at + 1;
+        return count == picks->width ? at : NULL;
+    }
+    return NULL;
+}
+
+/* Puts a field of a line. One between quote marks is a field of a block as it is. */
+static Outcome put_field(Written *to, const char *field, size_t length, const Picks *picks)
+{
+    const int is_whole = picks->has_quotes && length > 0 && *field == '"';
+    return !is_whole && picks->is_checked && is_quoted(field, length) ? put_quoted(to, field, length) : put(to, field, length);
+}
 
 /* Puts the record of a line's fields. */
 static Outcome put_fields(Written *to, const char *const *fields, const Picks *picks)
@@ -181,14 +211,12 @@ static Outcome put_fields(Written *to, const char *const *fields, const Picks *p
             outcome = put(to, ",", 1);
         if (outcome == FAILED || place < 0)
             continue;
-        const size_t length = (size_t)(fields[place + 1] - 1 - fields[place]);
-        const int is_marked = picks->is_checked && is_quoted(fields[place], length);
-        outcome = is_marked ? put_quoted(to, fields[place], length) : put(to, fields[place], length);
+        outcome = put_field(to, fields[place], (size_t)(fields[place + 1] - 1 - fields[place]), picks);
     }
     return outcome == WRITTEN && to->length == before ? put(to, "\"\"", 2) : outcome;
 }
 
-/* Puts the records of all lines that have a byte, and counts them. */
+/* Puts all records, each of which begins in a line that has a byte, and counts them. */
 static Outcome put_lines(Written *to, const char *at, const char *end, const char **fields, const Picks *picks, Py_ssize_t *count)
 {
     Outcome outcome = WRITTEN;
@@ -197,7 +225,7 @@ static Outcome put_lines(Written *to, const char *at, const char *end, const cha
             at++;
             continue;
         }
-        at = find_fields(at, end, picks->separator, fields, picks->width);
+        at = find_fields(at, end, picks, fields);
         if (at == NULL)
             return NOT_PLAIN;
         if ((*count)++ > 0)
@@ -232,8 +260,9 @@ PyObject *picked_lines(PyObject *Py_UNUSED(module), PyObject *given)
     const char *content, **fields = NULL;
     Py_ssize_t length, count = 0;
     PyObject *listed, *made = NULL;
-    Picks picks = { NULL, 0, 0, ',', 0 };
-    if (!PyArg_ParseTuple(given, "y#cnO!p", &content, &length, &picks.separator, &picks.width, &PyTuple_Type, &listed, &picks.is_checked))
+    Picks picks = { NULL, 0, 0, ',', 0, 0 };
+    if (!PyArg_ParseTuple(given, "y#cnO!pp", &content, &length, &picks.separator, &picks.width, &PyTuple_Type, &listed, &picks.is_checked,
+                          &picks.has_quotes))
         return NULL;
     if (picks.width < 1)
         return none();

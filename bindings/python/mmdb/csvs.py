@@ -189,10 +189,12 @@ class Watch:
 # ---- records in the order of columns
 
 
-def _not_picked(content: bytes, separator: bytes, width: int, places: Tuple[int, ...], is_checked: bool) -> Optional[Tuple[bytes, int]]:
-    """The records of a load, with line feeds between them, that have fields of lines, and how many they are. Each line has so many
-    fields, and those of the columns are in these places, or -1 for none. They are checked for what needs quote marks in a block.
-    Gives None where a line has another number of fields. (Only the extension has them.)"""
+def _not_picked(
+    content: bytes, separator: bytes, width: int, places: Tuple[int, ...], is_checked: bool, has_quotes: bool
+) -> Optional[Tuple[bytes, int]]:
+    """The records of a load, with line feeds between them, that have fields of records, and how many they are. Each has so many
+    fields, which may stand between quote marks; those of the columns are in these places, or -1 for none. They are checked for what
+    needs quote marks in a block. Gives None where one has another number of fields, or odd marks. (Only the extension has them.)"""
     return None
 
 
@@ -233,10 +235,11 @@ class Picked:
             if len(chunk) > _LONGEST:
                 raise WrongValue(f"mmdb: record {before + 1} of the CSV has more than {_LONGEST} bytes")
             has_quotes = bool(self._form.quote) and self._form.quote in chunk
-            if before >= 0 and not has_quotes:
-                picked = picked_lines(chunk, self._form.separator, self._width, self._numbers, self._form != Form())
+            if before >= 0 and (not has_quotes or self._form.quote == Form().quote):
+                is_checked = has_quotes or self._form != Form()
+                picked = picked_lines(chunk, self._form.separator, self._width, self._numbers, is_checked, has_quotes)
                 if picked:
-                    yield Records(picked[0], functools.partial(bytes.split, picked[0], b"\n"))
+                    yield Records(picked[0], functools.partial(_records_in, picked[0]))
                     before += picked[1]
                     continue
             text = chunk[len(MARK) if before < 0 and chunk.startswith(MARK) else 0 :].decode("utf-8", "surrogateescape")
@@ -307,6 +310,17 @@ class Picked:
             at, count = next((at, count) for at, count in enumerate(counts) if count != wanted)
             count += self._width - wanted
             raise WrongValue(f"mmdb: record {before + 1 + at} of the CSV has {count} fields, and its names are {self._width}")
+
+
+def _records_in(content: bytes) -> Iterator[bytes]:
+    """The records of these, which have line feeds between them, and in them only between quote marks."""
+    lines = iter(content.split(b"\n"))
+    for line in lines:
+        record, is_open = [line], line.count(b'"') % 2
+        while is_open:
+            record.append(next(lines))
+            is_open ^= record[-1].count(b'"') % 2
+        yield b"\n".join(record)
 
 
 def _lines_of(text: str) -> List[str]:
