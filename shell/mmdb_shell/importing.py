@@ -119,7 +119,7 @@ class Import:
 
     def _parsed(self, file: BufferedReader, bar: Bar, is_looked_at: bool) -> Tuple[List[str], _Parsed]:
         """The names of the file's columns, and its records behind them."""
-        text = io.TextIOWrapper(_Raw(Read(file, bar)), "utf-8-sig", "surrogateescape", newline="")
+        text = io.TextIOWrapper(io.BufferedReader(_Raw(Read(file, bar))), "utf-8-sig", "surrogateescape", newline="")
         parsed = _Parsed(text, self._options.separator, is_looked_at)
         for _ in range(self._options.skip):
             next(parsed.records, None)

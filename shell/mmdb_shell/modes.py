@@ -38,7 +38,7 @@ def _cells_of(names: Names, rows: Rows) -> Cells:
         numbers = [any(isinstance(row[at], int) for row in first) for at in range(len(names))]
     else:
         numbers = [kind is int for kind in types]
-    last = rows.last() if isinstance(rows, RowsByRange) else []
+    last: Sequence[Sequence[mmdb.Value]] = rows.last() if isinstance(rows, RowsByRange) else ()
     return Cells(names, map(_cells, rows), numbers, list(map(_cells, last)))
 
 
@@ -111,7 +111,9 @@ def _tabs(names: Names, rows: Rows, _look: Look) -> Iterator[str]:
 
 def _json(names: Names, rows: Rows, _look: Look) -> Iterator[str]:
     """A list of objects, one a line."""
-    from json.encoder import encode_basestring as text
+    from json import JSONEncoder
+
+    text = JSONEncoder(ensure_ascii=False).encode
 
     def shown(value: mmdb.Value) -> str:
         return text(value) if isinstance(value, str) else "null" if value is None else str(value)

@@ -243,7 +243,7 @@ class Picked:
                     before += picked[1]
                     continue
             text = chunk[len(MARK) if before < 0 and chunk.startswith(MARK) else 0 :].decode("utf-8", "surrogateescape")
-            several: Iterable[List[Any]] = self._read(text, before) if has_quotes else [_lines_of(text)]
+            several: Iterable[Any] = self._read(text, before) if has_quotes else [_lines_of(text)]
             for found in several:
                 if before < 0 and found:
                     names = found.pop(0)

@@ -84,7 +84,7 @@ def by_name(table: str, columns: List[Column], names: Optional[Sequence[str]]) -
     if not columns:
         return rows_of
     known = [column.name for column in columns]
-    wanted = known if names is None else checked_names(table, columns, names)
+    wanted: List[Optional[str]] = [*known] if names is None else checked_names(table, columns, names)
     nulls, all_names, values = dict.fromkeys(known), set(known), _values_of(known)
 
     def has_them(given: Mapping[str, Any]) -> bool:

@@ -52,7 +52,7 @@ def _patterns(form: Form) -> _Patterns:
     # (a pattern that begins with a character is found sooner)
     opening = rb"%b(?<![^%b\r\n]%b)" % (mark, separator, mark)
     patterns = opening, field + rb"(?!%b)" % mark, before + field + behind, many
-    return _Patterns(*map(re.compile, patterns))
+    return _Patterns(*(re.compile(pattern) for pattern in patterns))
 
 
 def form_of(separator: Any, quote: Any) -> Form:
