@@ -1,13 +1,13 @@
-"""The trees of tables after a stream: the height, the number of nodes and of references of each.
+"""The trees of tables after a stream: the height, the number of nodes and of references of each, as the library tells them.
 
-What must hold: the crates' test whose name ends in `trees_of_standard_input` reads the stream and prints a line `tree:` for each tree.
+What must hold: the answer of `mmdb_indexes` has the fields that docs/c.md says.
 """
 
+import csv
 import random
-import subprocess
 import unittest
 
-from support import harness, model, random_streams, streams, tested
+from support import embedded, harness, model, random_streams, streams
 
 LEAST, MOST = 30, 32
 STREAMS = 40
@@ -29,27 +29,30 @@ def tables_after(stream):
     return tables.by_name.values()
 
 
-@tested.requires_toolchain
+def trees_after(stream, names):
+    """The height, the nodes and the references of each tree of these tables after a stream, by table and column."""
+    found = {}
+    with embedded.Handle() as handle:
+        handle.feed(stream)
+        for name in names:
+            told = handle.indexes(name.encode()).decode().splitlines()
+            for index in csv.DictReader(told[1:]):
+                if index["kind"] == "tree":
+                    found[name, index["column"]] = tuple(int(index[field]) for field in ("height", "nodes", "rows"))
+    return found
+
+
 class TreeShapes(unittest.TestCase):
     """Each tree has each row of its table once, in nodes and levels as few as those of a balanced tree of full nodes are."""
 
-    @classmethod
-    def setUpClass(cls):
-        [(cls.binary, cls.name)] = harness.crate_tests("trees_of_standard_input")
-
-    def trees_after(self, stream):
-        """The height, the nodes and the references of each tree, by table and column."""
-        ended = subprocess.run([self.binary, self.name], input=stream, capture_output=True, check=True)
-        told = (line.split() for line in ended.stdout.decode().splitlines())
-        return {(words[1], int(words[2])): tuple(map(int, words[3:])) for words in told if words[:1] == ["tree:"]}
-
     def check_trees(self, stream):
         stream = streams.whole_units_of(stream)
-        found = self.trees_after(stream)
         wanted = {}
-        for table in tables_after(stream):
-            for column in {0} | {place for place, kind in table.indexes if kind == "tree"}:
-                wanted[table.name, column] = len(table.rows)
+        tables = tables_after(stream)
+        for table in tables:
+            for place in {0} | {place for place, kind in table.indexes if kind == "tree"}:
+                wanted[table.name, table.columns[place].name] = len(table.rows)
+        found = trees_after(stream, [table.name for table in tables])
         self.assertEqual({tree: items for tree, (_, _, items) in found.items()}, wanted)
         for height, nodes, items in found.values():
             self.assertLessEqual(LEAST * nodes, 2 * items + LEAST)
@@ -85,4 +88,4 @@ class TreeShapes(unittest.TestCase):
         found = self.check_trees(stream)
         nodes = -(-len(keys) // MOST)
         packed = nodes.bit_length(), nodes, len(keys)
-        self.assertEqual((found["t", 1], found["t", 2]), (packed, packed))
+        self.assertEqual((found["t", "n"], found["t", "s"]), (packed, packed))

@@ -35,6 +35,6 @@ fn stop_of(alloc: Global, line: &str) -> Option<Stop> {
 fn statements_stop_where_they_are_told_to(rt: HostRuntime) {
     for (line, left, place) in STOPS {
         let stop = stop_of(rt.alloc(), *line).map(|stop| (stop.left, stop.place));
-        assert_eq!(rt; stop, Some((*left, *place)));
+        assert!(rt; stop == Some((*left, *place)), "{line}");
     }
 }

@@ -1,7 +1,7 @@
 //! How a hash stands.
 
 /// How many references a hash has, in how many buckets they stand, and how many of them stand in the fullest bucket.
-#[derive(Clone, Copy, Debug, PartialEq, Eq)]
+#[derive(Clone, Copy)]
 pub struct HashShape {
     /// The references.
     pub items: usize,

@@ -31,7 +31,7 @@ impl fmt::Display for OddQuotes {
 }
 
 // Where the reader of a CSV is.
-#[derive(Clone, Copy, PartialEq, Eq)]
+#[derive(Clone, Copy)]
 enum At {
     // At the front of a record, which has no byte so far.
     Record,

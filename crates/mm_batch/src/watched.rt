@@ -83,7 +83,7 @@ pub trait Watch {
 }
 
 /// How a stream ended that was watched.
-#[derive(Clone, Copy, Debug, PartialEq, Eq)]
+#[derive(Clone, Copy)]
 pub enum Ending {
     /// All of it was answered.
     Whole,

@@ -12,14 +12,14 @@ use mm_relation::{DeclaredIndex, HashShape, Relation, Relations, TreeShape};
 use plain_tables::{ColumnNumber, IndexKind, TableNumber};
 
 /// How an index stands, by its kind.
-#[derive(Clone, Copy, Debug, PartialEq, Eq)]
+#[derive(Clone, Copy)]
 pub enum IndexShape {
     Tree(TreeShape),
     Hash(HashShape),
 }
 
 /// An index of a table: its column, and how it stands.
-#[derive(Clone, Copy, Debug, PartialEq, Eq)]
+#[derive(Clone, Copy)]
 pub struct TableIndex {
     pub column: ColumnNumber,
     pub shape: IndexShape,

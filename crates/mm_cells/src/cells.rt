@@ -22,7 +22,7 @@ pub const TEXT: u16 = 2;
 
 /// A null; an integer; or a text, by its place and its length among the bytes of the texts.
 #[repr(C)]
-#[derive(Clone, Copy, Debug)]
+#[derive(Clone, Copy)]
 pub struct ResultCell {
     pub integer: i64,
     pub at: u32,

@@ -4,7 +4,7 @@ use no_memory::NoMemory;
 use std::alloc::{AllocError, AllocFailed};
 
 /// Why a value is not put among cells. They are unchanged.
-#[derive(Clone, Copy, Debug, PartialEq, Eq)]
+#[derive(Clone, Copy)]
 pub enum CellFault {
     /// A growth was refused.
     NoMemory(NoMemory),

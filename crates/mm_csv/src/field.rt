@@ -3,7 +3,7 @@
 use plain_tables::{BaseKind, Text};
 
 /// A column of a block: its name, the type of its values, and whether null may stand there.
-#[derive(Debug, Drop)]
+#[derive(Drop)]
 pub struct Field {
     pub name: Text,
     pub kind: BaseKind,

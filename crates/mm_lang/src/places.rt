@@ -19,7 +19,7 @@ pub enum Wanted {
 }
 
 /// A place of a line: what has been read before it, as far as it matters for what may follow.
-#[derive(Clone, Copy, Debug, PartialEq, Eq)]
+#[derive(Clone, Copy, PartialEq, Eq)]
 pub enum LinePlace {
     /// The first word of a command.
     Command,

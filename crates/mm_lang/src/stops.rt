@@ -9,7 +9,7 @@ use std::alloc::AllocFailed;
 use std::marker::Model;
 
 /// Where a line stops to spell a command or a statement: at the first symbol that may not stand where it stands.
-#[derive(Clone, Copy, Debug)]
+#[derive(Clone, Copy)]
 pub struct Stop {
     /// How many bytes of the line are left, those of the symbol and of the blanks before it among them.
     pub left: usize,

@@ -14,7 +14,7 @@ use std::alloc::Global;
 use std::marker::Model;
 
 /// The values of a statement's holes, by their places: null until one is bound, which stays until another is. Integers have 64 bits.
-#[derive(Debug, Drop)]
+#[derive(Drop)]
 pub struct Bound {
     values: Vec<Value>,
 }

@@ -3,7 +3,7 @@
 use no_memory::NoMemory;
 
 /// Why a call on statements is declined. It leaves them as they were.
-#[derive(Clone, Copy, Debug, PartialEq, Eq)]
+#[derive(Clone, Copy)]
 pub enum Declined {
     /// The number names no statement.
     NoSuchStatement,

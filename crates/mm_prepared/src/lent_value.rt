@@ -8,7 +8,7 @@ use plain_tables::{Text, Value};
 use std::alloc::Global;
 
 /// A null, an integer, or a text that is lent. A text may hold any characters, a line feed too.
-#[derive(Clone, Copy, Debug)]
+#[derive(Clone, Copy)]
 pub enum LentValue<'a> {
     Null,
     Integer(i64),

@@ -1,12 +1,12 @@
 //! Blocks that are too long or too short, and those that are no rows of their table.
 
 use crate::fault::ReasonFault;
-use crate::shown::Cut;
 use crate::tables::{Seen, table_named};
 use crate::told::{Reason, tell};
 use crate::values::takes_null;
 use csv::{ByteRecord, ErrorKind, Reader, ReaderBuilder};
 use mm_catalog::Catalog;
+use mm_syntax::Cut;
 use plain_tables::{BaseKind, Column, LONGEST_TEXT, Text};
 use std::alloc::Global;
 

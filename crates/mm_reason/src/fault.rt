@@ -4,7 +4,7 @@ use no_memory::NoMemory;
 use plain_tables::Refusal;
 
 /// Why it is not found out why a request was refused.
-#[derive(Clone, Copy, Debug, PartialEq, Eq)]
+#[derive(Clone, Copy)]
 pub enum ReasonFault {
     /// A growth was refused.
     NoMemory,

@@ -2,8 +2,7 @@
 //! value, row or limit it was of one that is. Also the plan of a select in words.
 //!
 //! ```text
-//!  line that is no command ──▶ syntax: the symbol where the parser stops, and what may stand there
-//!                          ──▶ advice: what may help, by hints, beside and nearest
+//!  line that is no command ──▶ mm_syntax: the symbol where the parser stops, and what may stand there
 //!  command                 ──▶ mm_resolver tells what is to blame ──▶ blamed, by declaring, joins, values and blocks
 //!  rows                    ──▶ rows: which key, which reference; referrers: who names the row
 //!  statement with values   ──▶ filled: the command that it is ──▶ as above ──▶ statements: the column of the value's question mark
@@ -18,29 +17,21 @@
 //! - Texts are cut where they are shown.
 #![tactic(auto)]
 
-mod advice;
 mod answered;
-mod beside;
 mod blamed;
 mod blocks;
-mod columns;
 mod declaring;
 mod fault;
 mod filled;
-mod hints;
 mod joins;
-mod nearest;
 mod parts;
 mod plans;
 mod reasons;
 mod referrers;
 mod rows;
-mod shown;
 mod statements;
-mod syntax;
 mod tables;
 mod told;
-mod unfit;
 mod values;
 
 pub use answered::refusal_of;

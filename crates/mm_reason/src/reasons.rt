@@ -5,12 +5,12 @@ use crate::blocks::{cut_short, too_long, too_long_dump};
 use crate::fault::{ReasonFault, unless_refused};
 use crate::parts::Parts;
 use crate::rows::refused_by_rows;
-use crate::syntax::why_stopped;
 use crate::told::{Reason, Told, tell};
 use mm_catalog::Catalog;
 use mm_lang::{Line, Stopped, parse_or_stop};
 use mm_resolver::{Culprit, command_culprit};
 use mm_session::{Judged, LONGEST_LINE, judge_line, split_line};
+use mm_syntax::why_stopped;
 use plain_tables::{Command, Refusal};
 use std::alloc::Global;
 

@@ -7,7 +7,6 @@ ghost use Rattle.plain_tables.specs.ResolvedLaws.{OfTable, AreTests, IsMeant};
 ghost use Rattle.mm_catalog.specs.Seen.{database_of};
 
 use crate::fault::ReasonFault;
-use crate::shown::Shown;
 use crate::tables::{Seen, table_at};
 use crate::told::{Reason, tell};
 use mm_catalog::Catalog;
@@ -16,6 +15,7 @@ use mm_relation::laws::a_relation_is_kept;
 use mm_relation::{ColumnNumber, Relation, Relations, TupleRef};
 use mm_resolver::referred;
 use mm_session::rows_passing;
+use mm_syntax::Shown;
 use no_memory::NoMemory;
 use plain_tables::{
     Command, Cond, Refusal, Resolved, Sequence, StoredValue, TableNumber, Test, Text,

@@ -2,11 +2,11 @@
 
 use crate::fault::unless_refused;
 use crate::referrers::named_rows;
-use crate::shown::Shown;
 use crate::tables::{Seen, table_at};
 use crate::told::{Reason, about, tell};
 use crate::values::why_unheld;
 use mm_catalog::Catalog;
+use mm_syntax::Shown;
 use no_memory::NoMemory;
 use plain_tables::{Assignment, Command, Refusal, Resolved, Sequence, Value};
 use std::alloc::Global;

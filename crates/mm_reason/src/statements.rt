@@ -1,6 +1,5 @@
 //! Why a line is kept as no statement, and why a statement is not done.
 
-use crate::columns::column_of_hole;
 use crate::fault::{ReasonFault, unless_refused};
 use crate::filled::Filling;
 use crate::reasons::{blame, of_command, of_no_memory, of_stop, of_too_long, of_utf8};
@@ -9,6 +8,7 @@ use mm_catalog::Catalog;
 use mm_lang::{Line, ParseRefusal, parse_statement, parse_statement_or_stop};
 use mm_resolver::{Culprit, statement_culprit};
 use mm_session::{Judged, LONGEST_LINE, judge_line};
+use mm_syntax::column_of_hole;
 use no_memory::NoMemory;
 use plain_statements::{Slot, SlotCond, SlotSetting, Statement};
 use plain_tables::{Command, Refusal, Value};

@@ -1,11 +1,11 @@
 //! The tables that a command names, and why names mean none of them and no column of theirs.
 
-use crate::nearest::Nearest;
 use crate::parts::Name;
 use crate::told::{Reason, tell, words};
 use mm_catalog::Catalog;
 use mm_catalog::laws::a_catalog_is_consistent;
 use mm_relation::{Relation, Relations};
+use mm_syntax::Nearest;
 use no_memory::NoMemory;
 use plain_tables::{Column, Join, Place, TableNumber, Text};
 use std::alloc::Global;

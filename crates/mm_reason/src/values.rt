@@ -1,10 +1,10 @@
 //! Values that can't stand where a command puts them.
 
-use crate::shown::Shown;
 use crate::tables::{Seen, table_named};
 use crate::told::{Reason, tell};
 use mm_catalog::Catalog;
 use mm_resolver::referred;
+use mm_syntax::Shown;
 use plain_tables::{ColKind, Column, LONGEST_TEXT, Value};
 use std::alloc::Global;
 

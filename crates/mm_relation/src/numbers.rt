@@ -3,7 +3,7 @@
 use plain_tables::{ColumnNumber, IndexKind};
 
 /// An index that was declared, beside the tree that every key has.
-#[derive(Clone, Copy, Debug, PartialEq, Eq)]
+#[derive(Clone, Copy)]
 pub struct DeclaredIndex {
     pub column: ColumnNumber,
     pub kind: IndexKind,

@@ -24,14 +24,14 @@ use std::io::Write;
 use std::marker::Model;
 
 /// A statement that was prepared: its number, and how many holes it has.
-#[derive(Clone, Copy, Debug, PartialEq, Eq)]
+#[derive(Clone, Copy)]
 pub struct Numbered {
     pub statement: usize,
     pub places: usize,
 }
 
 /// What an execution gave: how many rows it changed; or rows, of so many columns each.
-#[derive(Clone, Copy, Debug, PartialEq, Eq)]
+#[derive(Clone, Copy)]
 pub enum Executed {
     Changed(usize),
     Rows { columns: usize },
@@ -39,7 +39,7 @@ pub enum Executed {
 
 /// A statement that is kept, as it was prepared and as it stands: the line that spells it, and the values that are bound to its holes,
 /// by their places.
-#[derive(Clone, Copy, Debug)]
+#[derive(Clone, Copy)]
 pub struct PreparedLine<'a> {
     pub line: &'a str,
     pub values: &'a [Value],

@@ -7,7 +7,7 @@ use no_memory::NoMemory;
 use plain_tables::Refusal;
 
 /// Why a line is not kept as a statement.
-#[derive(Clone, Copy, Debug, PartialEq, Eq)]
+#[derive(Clone, Copy)]
 pub enum PrepareFault {
     /// 10 where the line is too long, 11 where it isn't UTF-8, 20 where it spells no statement; or what the statement that it spells
     /// is refused by whatever its values are.
@@ -42,7 +42,7 @@ impl From<Refusal> for PrepareFault {
 }
 
 /// Why a statement is not executed. Nothing has changed.
-#[derive(Clone, Copy, Debug, PartialEq, Eq)]
+#[derive(Clone, Copy)]
 pub enum ExecuteFault {
     /// The number names no statement.
     NoSuchStatement,
@@ -107,7 +107,7 @@ impl From<CountFault> for ExecuteFault {
 }
 
 /// Why nothing comes of a line. Nothing has changed.
-#[derive(Clone, Copy, Debug, PartialEq, Eq)]
+#[derive(Clone, Copy)]
 pub enum QueryFault {
     /// The line is refused; 90 where a growth was refused.
     Refused(Refusal),
@@ -143,7 +143,7 @@ impl From<CellFault> for QueryFault {
 }
 
 /// Why a request was not answered. Nothing has changed.
-#[derive(Clone, Copy, Debug, PartialEq, Eq)]
+#[derive(Clone, Copy)]
 pub enum RequestFault {
     /// The line has a line feed in it, or asks for another number of bytes than the block has.
     NotOneRequest,
@@ -177,7 +177,7 @@ impl From<ReadFault> for RequestFault {
 }
 
 /// Why a piece of the stream was not taken to its end.
-#[derive(Clone, Copy, Debug, PartialEq, Eq)]
+#[derive(Clone, Copy)]
 pub enum StreamFault {
     /// A write answered an error or took no byte. The stream has ended.
     Write,
@@ -202,7 +202,7 @@ impl From<SessionFault> for StreamFault {
 }
 
 /// Why a change was not done. Nothing has changed.
-#[derive(Clone, Copy, Debug, PartialEq, Eq)]
+#[derive(Clone, Copy)]
 pub enum ChangeFault {
     /// It is refused; 90 where a growth was refused.
     Refused(Refusal),
@@ -250,7 +250,7 @@ impl From<ChangeFault> for QueryFault {
 }
 
 /// Why no transaction begins. Nothing has changed.
-#[derive(Clone, Copy, Debug, PartialEq, Eq)]
+#[derive(Clone, Copy)]
 pub enum BeginFault {
     /// A growth was refused.
     NoMemory,
@@ -270,7 +270,7 @@ impl From<NoMemory> for BeginFault {
 }
 
 /// Why no tables are shared or left. Nothing has changed.
-#[derive(Clone, Copy, Debug, PartialEq, Eq)]
+#[derive(Clone, Copy)]
 pub enum ShareFault {
     /// A growth was refused.
     NoMemory,

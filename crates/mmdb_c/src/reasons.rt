@@ -6,7 +6,7 @@ use no_memory::NoMemory;
 use std::alloc::Global;
 
 /// Why it was not looked for why a statement was refused.
-#[derive(Clone, Copy, Debug)]
+#[derive(Clone, Copy)]
 pub enum Unexplained {
     NoSuchStatement,
     NoMemory,

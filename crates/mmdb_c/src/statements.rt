@@ -18,14 +18,14 @@ use std::alloc::Global;
 
 /// A statement that was prepared: its number, and how many places it has.
 #[repr(C)]
-#[derive(Clone, Copy, Debug)]
+#[derive(Clone, Copy)]
 pub struct Statement {
     pub number: u32,
     pub places: u32,
 }
 
 /// Why no statement was prepared. Where it was refused, the answer tells why.
-#[derive(Clone, Copy, Debug)]
+#[derive(Clone, Copy)]
 pub enum Unprepared {
     Refused,
     NoMemory,
@@ -34,7 +34,7 @@ pub enum Unprepared {
 }
 
 /// Why a statement did nothing. Where it was refused, the answer tells why.
-#[derive(Clone, Copy, Debug)]
+#[derive(Clone, Copy)]
 pub enum Unexecuted {
     NoSuchStatement,
     Refused,

@@ -9,14 +9,14 @@ use plain_tables::{
 };
 
 /// What an update puts into a column.
-#[derive(Debug, Drop)]
+#[derive(Drop)]
 pub struct SlotAssignment {
     pub column: ColumnNumber,
     pub slot: Slot,
 }
 
 /// What a row has to pass.
-#[derive(Debug, Drop)]
+#[derive(Drop)]
 pub struct SlotTest {
     pub column: ColumnNumber,
     pub op: Op,
@@ -24,14 +24,14 @@ pub struct SlotTest {
 }
 
 /// The rows of a table that pass tests.
-#[derive(Debug, Drop)]
+#[derive(Drop)]
 pub struct SlotSource {
     pub table: TableNumber,
     pub tests: Sequence<SlotTest>,
 }
 
 /// A source that is joined with those before it.
-#[derive(Debug, Drop)]
+#[derive(Drop)]
 pub struct SlotJoined {
     pub source: SlotSource,
     pub outer: Place,
@@ -39,7 +39,7 @@ pub struct SlotJoined {
 }
 
 /// A resolved command in which slots stand where the command has values.
-#[derive(Debug, Drop)]
+#[derive(Drop)]
 pub enum Template {
     Insert {
         table: TableNumber,
@@ -58,7 +58,7 @@ pub enum Template {
 }
 
 /// A query in which slots stand where the query has values.
-#[derive(Debug, Drop)]
+#[derive(Drop)]
 pub struct SlotQuery {
     pub distinct: bool,
     pub shown: Shown,
@@ -68,7 +68,7 @@ pub struct SlotQuery {
 
 /// What a value has to be: of a type, unless it is a null and may be one; and where it is to be stored, no longer than a stored
 /// text can be.
-#[derive(Clone, Copy, Debug)]
+#[derive(Clone, Copy)]
 pub struct Need {
     pub base: Option<BaseKind>,
     pub null: bool,
@@ -100,7 +100,7 @@ impl Need {
 }
 
 /// What the value has to be that comes for the hole of this number.
-#[derive(Clone, Copy, Debug)]
+#[derive(Clone, Copy)]
 pub struct Want {
     pub hole: usize,
     pub need: Need,
@@ -108,7 +108,7 @@ pub struct Want {
 
 /// What a statement means of the tables as they are, unless it is refused whatever its values are: what the values to come have to
 /// be, why it is refused once they are right, and what is done if it isn't.
-#[derive(Debug, Drop)]
+#[derive(Drop)]
 pub struct Resolution {
     pub wants: Sequence<Want>,
     pub last: Option<Refusal>,

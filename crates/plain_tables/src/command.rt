@@ -3,7 +3,7 @@
 use crate::{ColName, Cond, IndexKind, Schema, Sequence, Text, Value};
 
 /// A command of the language. Each has one variant.
-#[derive(Debug, Drop)]
+#[derive(Drop)]
 pub enum Command {
     /// `table NAME ( .. )`: a new table with these columns and no rows.
     Table {
@@ -65,14 +65,14 @@ pub enum Command {
 }
 
 /// What an update puts into a column.
-#[derive(Debug, Drop)]
+#[derive(Drop)]
 pub struct Setting {
     pub column: Text,
     pub value: Value,
 }
 
 /// A table that is joined with those before it: two columns are equal, one of this table and one of those.
-#[derive(Debug, Drop)]
+#[derive(Drop)]
 pub struct Join {
     pub table: Text,
     pub left: JoinSide,
@@ -80,14 +80,14 @@ pub struct Join {
 }
 
 /// A column as a join names it, always with its table.
-#[derive(Debug, Drop)]
+#[derive(Drop)]
 pub struct JoinSide {
     pub table: Text,
     pub column: Text,
 }
 
 /// The columns that a select shows: all of them, or those named, in that order.
-#[derive(Debug, Drop)]
+#[derive(Drop)]
 pub enum Items {
     All,
     Named(Sequence<ColName>),
@@ -101,7 +101,7 @@ pub const LONGEST_BLOCK: u32 = 16_777_216;
 
 /// How much a session takes: the rows that one table may have, from 1 to `MOST_ROWS`, and the bytes of a block, from 0 to
 /// `LONGEST_BLOCK`.
-#[derive(Clone, Copy, Debug, PartialEq, Eq)]
+#[derive(Clone, Copy)]
 pub struct Limits {
     pub rows: u32,
     pub block: u32,

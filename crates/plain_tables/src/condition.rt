@@ -3,7 +3,7 @@
 use crate::{Text, Value};
 
 /// How a value of a row stands to the value of a condition.
-#[derive(Clone, Copy, Debug, PartialEq, Eq)]
+#[derive(Clone, Copy, PartialEq, Eq)]
 pub enum Op {
     Eq,
     Ne,
@@ -14,14 +14,14 @@ pub enum Op {
 }
 
 /// A column as a command names it: with its table, or bare.
-#[derive(Debug, Drop)]
+#[derive(Drop)]
 pub struct ColName {
     pub table: Option<Text>,
     pub column: Text,
 }
 
 /// A condition: the value in this column stands so to this value.
-#[derive(Debug, Drop)]
+#[derive(Drop)]
 pub struct Cond {
     pub column: ColName,
     pub op: Op,

@@ -3,7 +3,7 @@
 use crate::{ColumnNumber, IndexKind, Op, Place, Schema, Sequence, TableNumber, Text, Value};
 
 /// A command on tables and columns by their numbers.
-#[derive(Debug, Drop)]
+#[derive(Drop)]
 pub enum Resolved {
     /// A new table, which stands last.
     Table {
@@ -58,14 +58,14 @@ pub enum Resolved {
 }
 
 /// What an update puts into a column.
-#[derive(Debug, Drop)]
+#[derive(Drop)]
 pub struct Assignment {
     pub column: ColumnNumber,
     pub value: Value,
 }
 
 /// What a row has to pass: its value in the column stands so to this value.
-#[derive(Debug, Drop)]
+#[derive(Drop)]
 pub struct Test {
     pub column: ColumnNumber,
     pub op: Op,
@@ -74,7 +74,7 @@ pub struct Test {
 
 /// These columns of the rows of the first source, joined with those of others. If it is distinct, each list of values once,
 /// and these rise.
-#[derive(Debug, Drop)]
+#[derive(Drop)]
 pub struct Query {
     pub distinct: bool,
     pub shown: Shown,
@@ -83,14 +83,14 @@ pub struct Query {
 }
 
 /// The rows of a table that pass tests.
-#[derive(Debug, Drop)]
+#[derive(Drop)]
 pub struct Source {
     pub table: TableNumber,
     pub tests: Sequence<Test>,
 }
 
 /// A source that is joined with those before it: the column of theirs and its own are equal, and not null.
-#[derive(Debug, Drop)]
+#[derive(Drop)]
 pub struct Joined {
     pub source: Source,
     pub outer: Place,
@@ -98,7 +98,7 @@ pub struct Joined {
 }
 
 /// The columns that a select shows: all of them, or these, in that order.
-#[derive(Debug, Drop)]
+#[derive(Drop)]
 pub enum Shown {
     All,
     Columns(Sequence<Place>),

@@ -6,7 +6,7 @@ ghost use Rattle.plain_tables.specs.Stored.{value_seen};
 use std::cmp::Ordering;
 
 /// What a value holds. A text is lent, so nothing is copied.
-#[derive(Clone, Copy, Debug)]
+#[derive(Clone, Copy)]
 pub enum SeenValue<'a> {
     Null,
     Int(i64),

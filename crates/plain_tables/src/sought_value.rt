@@ -7,7 +7,7 @@ use crate::seen_value::SeenValue;
 use std::marker::Model;
 
 /// A value that is looked for: one of a command or of a row, lent without a copy.
-#[derive(Debug, Drop)]
+#[derive(Drop)]
 pub struct SoughtValue<'a> {
     seen: SeenValue<'a>,
 }

@@ -9,7 +9,6 @@ use crate::sought_value::SoughtValue;
 use crate::text::Kept;
 use crate::value::Value;
 use std::cmp::Ordering;
-use std::fmt;
 use std::marker::Model;
 use std::mem::size_of;
 
@@ -131,12 +130,6 @@ impl StoredValue {
         ensures { result ≡ value_cmp self.now sought.now }
     {
         self.seen().compare(sought.seen())
-    }
-}
-
-impl fmt::Debug for StoredValue {
-    fn fmt<W: fmt::Write>(&self, f: &mut fmt::Formatter<W>) -> fmt::Result {
-        fmt::Debug::fmt(&self.seen(), f)
     }
 }
 

@@ -11,7 +11,6 @@ use crate::NoMemory;
 use crate::short_text::ShortText;
 use std::alloc::Global;
 use std::cmp::Ordering;
-use std::fmt;
 use std::marker::Model;
 
 /// The most bytes of a text that a table keeps.
@@ -79,12 +78,6 @@ impl Text {
         ensures { result.now ≡ self.now }
     {
         self.as_str().as_bytes()
-    }
-}
-
-impl fmt::Debug for Text {
-    fn fmt<W: fmt::Write>(&self, f: &mut fmt::Formatter<W>) -> fmt::Result {
-        fmt::Debug::fmt(&self.as_str(), f)
     }
 }
 

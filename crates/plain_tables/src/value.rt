@@ -9,7 +9,7 @@ use std::cmp::Ordering;
 
 /// Null, an integer or a text. Null stands before integers, and integers before texts; integers are ordered
 /// by size, texts by their bytes. The value in a reference column is the key of the row that it names, or null.
-#[derive(Debug, Drop)]
+#[derive(Drop)]
 pub enum Value {
     Null,
     Int(i64),

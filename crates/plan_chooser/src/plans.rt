@@ -5,7 +5,7 @@ use plain_tables::{ColumnNumber, TableNumber, Test};
 
 /// How the rows of a table that pass tests are found. The number is that of the test, counted from 0, for which an index is
 /// searched; the other tests are made on each row that is found so.
-#[derive(Clone, Copy, Debug, PartialEq, Eq)]
+#[derive(Clone, Copy)]
 pub enum SelectPlan {
     /// Each row in key order, and every test on it.
     Scan,
@@ -16,7 +16,7 @@ pub enum SelectPlan {
 }
 
 /// How the pairs of two tables' rows with equal values in a column each are found.
-#[derive(Clone, Copy, Debug, PartialEq, Eq)]
+#[derive(Clone, Copy)]
 pub enum JoinPlan {
     /// Each inner row is compared with each outer row.
     Nested,
@@ -32,7 +32,7 @@ pub enum JoinPlan {
 
 /// How the rows that were joined so far are joined with one table more. These rows stand in no tree, so none is walked beside
 /// another, and links are followed from them alone.
-#[derive(Clone, Copy, Debug, PartialEq, Eq)]
+#[derive(Clone, Copy)]
 pub enum NextJoinPlan {
     /// Each row of the table is compared with each row so far.
     Nested,

@@ -4,7 +4,7 @@ ghost use Rattle.std.specs.Prelude.{◌≡◌, ◌≢◌, IfSome, IfNone, slice_
 ghost use Rattle.plan_chooser.specs.Policies.{policies, policy_name};
 
 /// How plans are chosen. No policy changes an answer.
-#[derive(Clone, Copy, Debug, Default, PartialEq, Eq)]
+#[derive(Clone, Copy, Default)]
 pub enum Policy {
     /// The plan that reads the fewest rows, by simple rules.
     #[default]

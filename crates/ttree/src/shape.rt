@@ -14,7 +14,7 @@ pub const LEAST_ITEMS: usize = 30;
 pub type TableTree = TTree<LEAST_ITEMS, MOST_ITEMS>;
 
 /// How high a tree is, and how many nodes and references it has.
-#[derive(Clone, Copy, Debug, PartialEq, Eq)]
+#[derive(Clone, Copy, PartialEq, Eq)]
 pub struct TreeShape {
     /// 0 where the tree is empty, 1 for a leaf, and one more than the higher child's for another node.
     pub height: usize,

@@ -21,7 +21,7 @@ use plain_tables::{Joined, Query, TableNumber};
 use plan_chooser::{JoinInput, JoinPlan, NextJoinPlan, Policy, SelectPlan, choose_next_join};
 
 /// Which way a select goes.
-#[derive(Clone, Copy, Debug, PartialEq, Eq)]
+#[derive(Clone, Copy)]
 pub enum Way {
     /// An index finds rows of one table. One row is shown from where it lies, and more are a list.
     Search(SelectPlan),
@@ -38,7 +38,7 @@ pub enum Way {
 }
 
 /// How the rows so far are joined with one table more. They are few if there are at least twice as many rows in that table.
-#[derive(Clone, Copy, Debug, PartialEq, Eq)]
+#[derive(Clone, Copy)]
 pub struct NextJoin {
     pub few: NextJoinPlan,
     pub many: NextJoinPlan,

@@ -2,7 +2,7 @@
 ghost use Rattle.std.specs.Prelude.{◌≡◌};
 ghost use Rattle.mm_relation.specs.Changes.{HasTree};
 ghost use Rattle.join_ops.specs.Joins.{IsThere};
-ghost use Rattle.query_tests.specs.Linked.{AreJoinable};
+ghost use Rattle.session_tests.specs.Linked.{AreJoinable};
 
 use mm_catalog::Catalog;
 use mm_catalog::laws::a_catalog_is_consistent;

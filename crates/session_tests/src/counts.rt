@@ -3,7 +3,7 @@
 //! No contract counts what a join compares. But each value that is read through a link asks for a relation. A join of a
 //! thousand rows with a thousand that compares every pair asks a million times. One that takes an index, a hash or the links
 //! themselves asks far less often.
-ghost use Rattle.query_tests.specs.Linked.{AreJoinable};
+ghost use Rattle.session_tests.specs.Linked.{AreJoinable};
 
 use crate::linked::{Link, find_link};
 use join_ops::{hash_join, precomputed, tree_join, tree_merge};

@@ -2,8 +2,8 @@ use Rattle.std.proofs.Common.{◌<◌, arith, length}
 use Rattle.std.proofs.lemmas.List.Elements.{All-nil}
 use Rattle.plain_tables.specs.declared.resolved.Test.{Test}
 use Rattle.mm_catalog.proofs.Tables.{database-length}
-use Rattle.query_tests.proofs.Links.{sound}
-use Rattle.query_tests.proofs.selects.all_rows.Goals as goal
+use Rattle.session_tests.proofs.Links.{sound}
+use Rattle.session_tests.proofs.selects.all_rows.Goals as goal
 
 pub select-requires-clause-sound : goal.select-requires-clause-sound
 select-requires-clause-sound g c = sound c.args.catalog.now c.a_catalog_is_consistent.ensures

@@ -4,7 +4,7 @@ use crate::columns::{column_behind, split_left};
 use mm_lang::{LinePlace, Stop, split_lexeme};
 
 /// What a symbol is, by its characters.
-#[derive(Clone, Copy, PartialEq, Eq)]
+#[derive(Clone, Copy)]
 pub enum Kind {
     Word,
     /// A digit or a `-`, then letters, digits and `_`.

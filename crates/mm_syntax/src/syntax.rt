@@ -2,7 +2,6 @@
 
 use crate::advice::{Advice, what_helps};
 use crate::shown::Cut;
-use crate::told::words;
 use crate::unfit::{Kind, Unfit, is_numeral, symbol_at};
 use mm_lang::{LONGEST_NAME, LinePlace, Stop, Wanted, is_reserved_word};
 use no_memory::NoMemory;
@@ -42,12 +41,10 @@ fn misformed(alloc: Global, unfit: &Unfit<'_>) -> Result<Option<String>, NoMemor
     let text = Cut::of(unfit.text);
     match unfit.kind {
         Kind::OpenText => {
-            words(format!(in alloc; "the text {text} has no quote mark at its end")).map(Some)
+            Ok(Some(format!(in alloc; "the text {text} has no quote mark at its end")?))
         }
         Kind::Number if unfit.text != "-" && !is_numeral(unfit.text) => {
-            words(format!(in alloc; "{text} is no number, and a name begins with a letter")).map(
-                Some,
-            )
+            Ok(Some(format!(in alloc; "{text} is no number, and a name begins with a letter")?))
         }
         _ => Ok(None),
     }
@@ -58,14 +55,14 @@ fn no_name(alloc: Global, place: LinePlace, word: &str) -> Result<String, NoMemo
     let (text, bytes) = (Cut::of(word), word.len());
     if is_reserved_word(word.as_bytes()) {
         let wanted = wanted(alloc, place)?;
-        return words(format!(in alloc; "wanted {wanted}, and {text} is a reserved word"));
+        return Ok(format!(in alloc; "wanted {wanted}, and {text} is a reserved word")?);
     }
-    words(format!(in alloc; "the name {text} has {bytes} bytes, and {LONGEST_NAME} are allowed"))
+    Ok(format!(in alloc; "the name {text} has {bytes} bytes, and {LONGEST_NAME} are allowed")?)
 }
 
 // That a number has no room.
 fn past_64_bits(alloc: Global, number: Cut<'_>) -> Result<String, NoMemory> {
-    words(format!(in alloc; "{number} is past 64 bits"))
+    Ok(format!(in alloc; "{number} is past 64 bits")?)
 }
 
 // Why a symbol is not what may stand at its place, if there is more to be said of it.
@@ -75,7 +72,7 @@ fn unlike(alloc: Global, wanted: Wanted, unfit: &Unfit<'_>) -> Result<Option<Str
         (Wanted::TableName | Wanted::ColumnName, Kind::Word) => {
             no_name(alloc, unfit.place, unfit.text).map(Some)
         }
-        (Wanted::Value, Kind::Word) => words(format!(in alloc; "{text} is no value")).map(Some),
+        (Wanted::Value, Kind::Word) => Ok(Some(format!(in alloc; "{text} is no value")?)),
         (Wanted::Value, Kind::Number) if unfit.text != "-" => past_64_bits(alloc, text).map(Some),
         (Wanted::Count, Kind::Number) if !unfit.text.starts_with('-') => {
             past_64_bits(alloc, text).map(Some)
@@ -88,10 +85,10 @@ fn unlike(alloc: Global, wanted: Wanted, unfit: &Unfit<'_>) -> Result<Option<Str
 fn unwanted(alloc: Global, unfit: &Unfit<'_>) -> Result<String, NoMemory> {
     let wanted = wanted(alloc, unfit.place)?;
     if unfit.kind == Kind::End {
-        return words(format!(in alloc; "wanted {wanted}, found the end of the line"));
+        return Ok(format!(in alloc; "wanted {wanted}, found the end of the line")?);
     }
     let sign = Cut::symbol(unfit.text);
-    words(format!(in alloc; "wanted {wanted}, found {sign}"))
+    Ok(format!(in alloc; "wanted {wanted}, found {sign}")?)
 }
 
 // Why a line doesn't begin with what its first symbol was to be, where there is advice of it.
@@ -109,7 +106,7 @@ fn no_beginning(
         return Ok(None);
     }
     let sign = Cut::symbol(unfit.text);
-    words(format!(in alloc; "{sign} is no {what}")).map(Some)
+    Ok(Some(format!(in alloc; "{sign} is no {what}")?))
 }
 
 // Why a symbol may not stand at its place, without what may help.
@@ -135,8 +132,8 @@ pub fn why_stopped(alloc: Global, line: &str, stop: Stop) -> Result<String, NoMe
     let advice = what_helps(alloc, &unfit)?;
     let told = told(alloc, &unfit, advice)?;
     let Some(advice) = advice else {
-        return words(format!(in alloc; "column {column}: {told}"));
+        return Ok(format!(in alloc; "column {column}: {told}")?);
     };
     let (front, keyword, behind) = advice.words();
-    words(format!(in alloc; "column {column}: {told}: {front}{keyword}{behind}"))
+    Ok(format!(in alloc; "column {column}: {told}: {front}{keyword}{behind}")?)
 }

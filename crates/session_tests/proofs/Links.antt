@@ -11,7 +11,7 @@ use Rattle.mm_catalog.proofs.Among.{among_at}
 use Rattle.temp_list.specs.Reading.{AreSound, HasColumns}
 use Rattle.plan_chooser.specs.declared.plans.JoinInput.{JoinInput}
 use Rattle.join_ops.specs.Joins.{IsThere, HasSideTree}
-use Rattle.query_tests.specs.Linked.{AreJoinable}
+use Rattle.session_tests.specs.Linked.{AreJoinable}
 
 module _ (c : CatalogState) (ok : IsConsistent c) where
   pub sound : AreSound c.relations

@@ -3,8 +3,8 @@ use Rattle.std.specs.Option.{option_map}
 use Rattle.plain_tables.specs.declared.numbers.ColumnNumber.{ColumnNumber}
 use Rattle.plain_tables.specs.declared.numbers.TableNumber.{TableNumber}
 use Rattle.mm_catalog.proofs.Among.{among_at}
-use Rattle.query_tests.proofs.Links.{joinable}
-use Rattle.query_tests.proofs.linked.find_link.Goals as goal
+use Rattle.session_tests.proofs.Links.{joinable}
+use Rattle.session_tests.proofs.linked.find_link.Goals as goal
 
 pub target-target-requires : goal.target-target-requires
 target-target-requires g c =

@@ -1,6 +1,6 @@
 use Rattle.std.proofs.Common.{arith, rules}
 use Rattle.mm_catalog.proofs.Tables.{database-length}
-use Rattle.query_tests.proofs.linked.side.Goals as goal
+use Rattle.session_tests.proofs.linked.side.Goals as goal
 
 pub at-relation-requires : goal.at-relation-requires
 at-relation-requires g c =

@@ -7,7 +7,7 @@ use std::fmt;
 const MOST_SHOWN: usize = 40;
 
 // How the characters of a text are shown.
-#[derive(Clone, Copy, PartialEq, Eq)]
+#[derive(Clone, Copy)]
 enum Form {
     // As they are.
     Plain,
