@@ -1,5 +1,6 @@
 //! What a search asks: about one item, and among the items of a node.
-ghost use Rattle.std.specs.Prelude.{◌≡◌, ◌-◌, ◌<◌, ◌≤◌, All, IfOk, IfErr};
+ghost use Rattle.std.specs.Prelude.{◌≡◌, ◌-◌, ◌<◌, ◌≤◌, All, Some, IfOk, IfErr, IfSome, length, slice_get};
+ghost use Rattle.std.specs.declared.cmp.Ordering.TheVariants.{Equal};
 ghost use Rattle.mm_index.specs.Asking.{counted};
 ghost use Rattle.mm_index.specs.Range.{NeverFalls};
 ghost use Rattle.ttree.specs.Shape.{binary_digits};
@@ -61,4 +62,37 @@ pub(crate) fn search_between<P: Probe>(
         }
     }
     Err(low)
+}
+
+// Where a reference stands among items. It is found by itself: nothing is asked, and no row is read.
+fn place_of(items: &[TupleRef], sought: TupleRef) -> Option<usize>
+    ensures { IfSome result (λ i. slice_get items.now i ≡ Some sought) }
+{
+    items.iter().position(|item| *item == sought)
+}
+
+// As `search_between`, where a reference may be known to be in the range.
+pub(crate) fn search_items<P: Probe>(
+    items: &[TupleRef],
+    from: usize,
+    probe: &mut P,
+    seek: Seek,
+    known: Option<TupleRef>,
+) -> Result<usize, usize>
+    requires sound { P.is_sound probe.old }
+    requires placed { All (P.can_place probe.old) items.now }
+    requires in_order { NeverFalls (λ r. taken seek (P.place probe.old r)) items.now }
+    requires cut { IsCut (λ r. taken seek (P.place probe.old r)) items.now from (length items.now) }
+    requires known { IfSome known (λ r. taken seek (P.place probe.old r) ≡ Equal) }
+    ensures hit { IfOk result (IsHitIn (λ r. taken seek (P.place probe.old r)) items.now) }
+    ensures gap { IfErr result (λ i. IsCut (λ r. taken seek (P.place probe.old r)) items.now i i) }
+    ensures from { IfErr result (λ i. from ≤ i) }
+    ensures probe { IsAskedAtMost (binary_digits (length items.now - from)) P.is_sound P.can_place P.place P.asked probe.old probe.new }
+{
+    if let Some(sought) = known {
+        if let Some(index) = place_of(items, sought) {
+            return Ok(index);
+        }
+    }
+    search_between(items, from, items.len(), probe, seek)
 }

@@ -51,7 +51,7 @@ pub(crate) fn insert_unless_found<P: Probe, const MIN: usize, const MAX: usize>(
         editor.new_leaf(Side::Root, r);
         return None;
     }
-    match locate_to_edit(&mut editor, probe) {
+    match locate_to_edit(&mut editor, probe, None) {
         Ok(index) => Some(editor.items()[index]),
         Err(index) => {
             put_at::<MIN, MAX>(&mut editor, index, r);

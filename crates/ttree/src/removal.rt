@@ -145,7 +145,7 @@ pub(crate) fn take_out<const MIN: usize, const MAX: usize>(
     recover::<MIN, MAX>(editor);
 }
 
-// Takes the reference that the probe seeks out of the tree.
+// Takes the reference that the probe seeks out of the tree. Among the items of its node it is found by itself.
 pub(crate) fn remove<O: TupleOrder, const MIN: usize, const MAX: usize>(
     nodes: &mut LinkedNodes<MAX>,
     probe: &mut OrderProbe<'_, O>,
@@ -167,7 +167,8 @@ pub(crate) fn remove<O: TupleOrder, const MIN: usize, const MAX: usize>(
     ensures most_asked { probe.new.asked ≤ probe.old.asked + (height (tree_of nodes.old) + binary_digits MAX) }
 {
     let mut editor = nodes.edit();
-    match locate_to_edit(&mut editor, probe) {
+    let sought = probe.sought();
+    match locate_to_edit(&mut editor, probe, Some(sought)) {
         Ok(index) => take_out::<MIN, MAX>(&mut editor, index),
         Err(_) => unreachable!(),
     }

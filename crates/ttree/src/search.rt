@@ -1,6 +1,7 @@
 //! The search of a tree from its root, to read it or to edit it there. It asks about the least item of each node alone, and
 //! then among the items of one.
 ghost use Rattle.std.specs.Prelude.{◌≡◌, ◌+◌, ◌<◌, ◌≤◌, true, All, Some, IfSome, IfOk, IfErr, length, slice_get};
+ghost use Rattle.std.specs.declared.cmp.Ordering.TheVariants.{Equal};
 ghost use Rattle.mm_index.specs.Asking.{counted};
 ghost use Rattle.mm_index.specs.Range.{NeverFalls};
 ghost use Rattle.ttree_node.specs.Tree.{whole, list, items_of, is_node, is_root, left_of, right_of, height};
@@ -9,7 +10,7 @@ ghost use Rattle.ttree_node.specs.Editor.{position as edited, tree_at, spares_at
 ghost use Rattle.ttree.specs.Shape.{HasItemsInEach, binary_digits};
 ghost use Rattle.ttree.specs.Searching.{taken, IsAskedAtMost, IsHitIn, IsGap, IsDescent};
 
-use crate::asking::{Seek, ask, search_between};
+use crate::asking::{Seek, ask, search_items};
 use mm_index::Probe;
 use part_raw::TupleRef;
 use std::cmp::Ordering;
@@ -142,11 +143,12 @@ fn descend<'a, P: Probe, const MAX: usize>(
 }
 
 // Goes to the node of an item in the range, and answers its index, or to where it would be. It asks once at each level, and
-// then among the items of the last node whose least item stands below the range.
+// then among the items of the last node whose least item stands below the range, unless one there is known to be in it.
 pub(crate) fn locate<P: Probe, const MAX: usize>(
     look: &mut Look<'_, MAX>,
     probe: &mut P,
     seek: Seek,
+    known: Option<TupleRef>,
 ) -> Result<usize, usize>
     requires root { is_root (position look.old).above ≡ true }
     requires node { is_node (position look.old).here ≡ true }
@@ -154,6 +156,7 @@ pub(crate) fn locate<P: Probe, const MAX: usize>(
     requires sound { P.is_sound probe.old }
     requires placed { All (P.can_place probe.old) (list (whole (position look.old))) }
     requires in_order { NeverFalls (λ r. taken seek (P.place probe.old r)) (list (whole (position look.old))) }
+    requires known { IfSome known (λ r. taken seek (P.place probe.old r) ≡ Equal) }
     ensures nodes { look.new.nodes ≡ look.old.nodes }
     ensures node { is_node (position look.new).here ≡ true }
     ensures whole { whole (position look.new) ≡ whole (position look.old) }
@@ -167,7 +170,7 @@ pub(crate) fn locate<P: Probe, const MAX: usize>(
         Descent::End(None) => Err(0),
         Descent::End(Some(last)) => {
             let count = last.items().len();
-            match search_between(last.items(), 1, count, probe, seek) {
+            match search_items(last.items(), 1, probe, seek, known) {
                 // Behind its items, and so before those of the node at the end, where a right child hangs there.
                 Err(index) if index == count && last.has_right() => Err(0),
                 found => {
@@ -183,6 +186,7 @@ pub(crate) fn locate<P: Probe, const MAX: usize>(
 pub(crate) fn locate_to_edit<P: Probe, const MAX: usize>(
     editor: &mut Editor<'_, MAX>,
     probe: &mut P,
+    known: Option<TupleRef>,
 ) -> Result<usize, usize>
     requires root { is_root (edited editor.old).above ≡ true }
     requires node { is_node (edited editor.old).here ≡ true }
@@ -190,6 +194,7 @@ pub(crate) fn locate_to_edit<P: Probe, const MAX: usize>(
     requires sound { P.is_sound probe.old }
     requires placed { All (P.can_place probe.old) (list (whole (edited editor.old))) }
     requires in_order { NeverFalls (P.place probe.old) (list (whole (edited editor.old))) }
+    requires known { IfSome known (λ r. P.place probe.old r ≡ Equal) }
     ensures same_reference { editor.new.nodes.ghost_name ≡ editor.old.nodes.ghost_name }
     ensures node { is_node (edited editor.new).here ≡ true }
     ensures whole { whole (edited editor.new) ≡ whole (edited editor.old) }
@@ -201,7 +206,7 @@ pub(crate) fn locate_to_edit<P: Probe, const MAX: usize>(
     ensures asks { counted (P.asked probe.old) ≤ P.asked probe.new }
 {
     let mut look = editor.look();
-    let found = locate(&mut look, probe, Seek::Any);
+    let found = locate(&mut look, probe, Seek::Any, known);
     let place = look.place();
     editor.go_to(place);
     found

@@ -202,7 +202,7 @@ impl<const MIN: usize, const MAX: usize> TTree<MIN, MAX> {
         if !look.has_node() {
             return (look, Err(0));
         }
-        let found = locate(&mut look, probe, seek);
+        let found = locate(&mut look, probe, seek, None);
         (look, found)
     }
 

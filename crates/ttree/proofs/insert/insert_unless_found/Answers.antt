@@ -90,7 +90,7 @@ locate_to_edit-requires g c =
               c.requires.sound,
               (
                 subst (λ (t : Tree (Label TupleRef)). All (g.P.Probe.can_place c.args.probe.now) (list t)) (seen g d) c.requires.placed,
-                subst (λ (t : Tree (Label TupleRef)). NeverFalls (g.P.Probe.place c.args.probe.now) (list t)) (seen g d) c.requires.in_order,
+                (subst (λ (t : Tree (Label TupleRef)). NeverFalls (g.P.Probe.place c.args.probe.now) (list t)) (seen g d) c.requires.in_order, tt),
               ),
             ),
           ),

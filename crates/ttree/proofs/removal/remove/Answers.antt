@@ -30,7 +30,9 @@ locate_to_edit-requires g c =
     let rising : IsRising cmp (list (whole z)) = subst (λ (t : Tree (Label TupleRef)). IsRising cmp (list t)) seen c.requires.rising in
     let r_covered : covers c.args.probe.now.sought = All-contains covers (list (whole z)) c.args.probe.now.sought covered held in
     let in_order : NeverFalls (λ q. cmp q c.args.probe.now.sought) (list (whole z)) =
-    NeverFalls-by_order covers cmp (g.met.O.TupleOrder.is_strict c.args.probe.now.order.now c.requires.sound) c.args.probe.now.sought (list (whole z)) covered r_covered rising in (
+    NeverFalls-by_order covers cmp (g.met.O.TupleOrder.is_strict c.args.probe.now.order.now c.requires.sound) c.args.probe.now.sought (list (whole z)) covered r_covered rising in
+    let known : cmp c.sought-sought.result c.args.probe.now.sought ≡ Equal =
+    rw c.sought-sought.ensures (cmp_itself covers cmp (g.met.O.TupleOrder.is_strict c.args.probe.now.order.now c.requires.sound) c.args.probe.now.sought r_covered) in (
       lit< tt,
       (
         top,
@@ -40,7 +42,7 @@ locate_to_edit-requires g c =
             subst (λ (t : Tree (Label TupleRef)). HasItemsInEach g.row.MAX t) seen (items_in_each g.row.MIN g.row.MAX (tree_of c.args.nodes.now) c.requires.fit),
             (
               (c.requires.sound, r_covered),
-              (covered, in_order),
+              (covered, (in_order, known)),
             ),
           ),
         ),

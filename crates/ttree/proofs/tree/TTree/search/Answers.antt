@@ -30,7 +30,7 @@ locate-found-requires g c =
               c.requires.sound,
               (
                 subst (λ (u : Tree (Label TupleRef)). All (g.P.Probe.can_place c.args.probe.now) (list u)) (sym t) c.requires.placed,
-                subst (λ (u : Tree (Label TupleRef)). NeverFalls (λ r. taken c.args.seek (place r)) (list u)) (sym t) (NeverFalls-taken c.args.seek place (list c.args.self.now.tree) c.requires.in_order),
+                (subst (λ (u : Tree (Label TupleRef)). NeverFalls (λ r. taken c.args.seek (place r)) (list u)) (sym t) (NeverFalls-taken c.args.seek place (list c.args.self.now.tree) c.requires.in_order), tt),
               ),
             ),
           ),
