@@ -4,7 +4,7 @@ use crate::columns::{column_behind, split_left};
 use mm_lang::{LinePlace, Stop, split_lexeme};
 
 /// What a symbol is, by its characters.
-#[derive(Clone, Copy)]
+#[derive(Clone, Copy, PartialEq, Eq)]
 pub enum Kind {
     Word,
     /// A digit or a `-`, then letters, digits and `_`.

@@ -32,7 +32,7 @@ pub enum BaseKind {
 }
 
 /// What a declared index is: a T-tree, which keeps the order of the values, or a hash table.
-#[derive(Clone, Copy)]
+#[derive(Clone, Copy, PartialEq, Eq)]
 pub enum IndexKind {
     Tree,
     Hash,
