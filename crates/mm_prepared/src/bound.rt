@@ -9,7 +9,7 @@ ghost use Rattle.mm_prepared.specs.declared.declined.Declined.TheVariants as dec
 use crate::declined::Declined;
 use crate::lent_value::LentValue;
 use no_memory::NoMemory;
-use plain_tables::Value;
+use plain_tables::{Sequence, Value};
 use std::alloc::Global;
 use std::marker::Model;
 
@@ -50,6 +50,14 @@ impl Bound {
         ensures width { All HasWidth self.now }
     {
         self.values.as_slice()
+    }
+
+    /// The values, by their places, as one's own. They are moved.
+    pub fn into_row(self) -> Sequence<Value>
+        ensures { result ≡ self }
+    {
+        let Bound { values } = self;
+        Sequence::from_vec(values)
     }
 
     /// What memory for the values is taken from.

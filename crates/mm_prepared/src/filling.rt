@@ -6,7 +6,8 @@ ghost use Rattle.plain_statements.specs.declared.resolution.Template.TheVariants
 
 mod items;
 
-use items::{Fill, fill_each, filled_each};
+pub(crate) use items::filled_each;
+use items::{Fill, fill_each};
 use no_memory::NoMemory;
 use plain_statements::{SlotAssignment, SlotQuery, SlotTest, Template};
 use plain_tables::{Query, Resolved, Shown, TableNumber, Value};

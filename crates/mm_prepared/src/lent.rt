@@ -29,7 +29,7 @@ fn is_hole(slot: &Slot, place: usize) -> bool
 }
 
 // Whether the slots of a row are the holes in turn, so that it is the values themselves.
-fn are_holes_in_turn(slots: &[Slot], values: &[Value]) -> bool
+pub(crate) fn are_holes_in_turn(slots: &[Slot], values: &[Value]) -> bool
     ensures { IsTrue result → map (slot_value values.now) slots.now ≡ values.now }
 {
     if slots.len() != values.len() {

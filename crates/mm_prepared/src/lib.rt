@@ -22,6 +22,7 @@ mod finishing;
 mod kept;
 mod lent;
 mod lent_value;
+mod many;
 
 pub use bound::Bound;
 pub use commands::Commands;
@@ -31,3 +32,4 @@ pub use finishing::finish;
 pub use kept::{Prepared, Statements};
 pub use lent::{Lent, lend};
 pub use lent_value::LentValue;
+pub use many::{check_each, in_record, rows_of_insert};

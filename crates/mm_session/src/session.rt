@@ -12,7 +12,7 @@ use crate::stream::responder::Responder;
 use mm_catalog::Catalog;
 use mm_cells::{CellFault, Cells};
 use mm_transactions::NoTransaction;
-use plain_tables::{Limits, NoMemory, Query, Refusal, Resolved, TableNumber, Value};
+use plain_tables::{Limits, NoMemory, Query, Refusal, Resolved, Sequence, TableNumber, Value};
 use plan_chooser::Policy;
 use std::alloc::Global;
 use std::io::Write;
@@ -265,6 +265,20 @@ impl Session {
         ensures stream { StaysInStream self.old self.new }
     {
         self.responder.executor.insert(table, values)
+    }
+
+    /// Puts rows into a table beside the stream, all of them or none, as a load of these values does. The stream goes on as before.
+    pub fn load(
+        &mut self,
+        table: TableNumber,
+        rows: Sequence<Sequence<Value>>,
+    ) -> Result<(), Refusal>
+        requires { IsMeant self.old.limits self.old.database (resolved.Load table rows) }
+        ensures done { OnOk result (HasChanged self.new (done self.old.limits self.old.database (resolved.Load table rows)) (length rows)) }
+        ensures refused { IfErr result (HasDeclined self.old self.new (done self.old.limits self.old.database (resolved.Load table rows))) }
+        ensures stream { StaysInStream self.old self.new }
+    {
+        self.responder.executor.load(table, rows)
     }
 
     /// Makes the cells the values that a select shows, a row behind the other, and tells how many columns each row has. A failure

@@ -6,6 +6,7 @@ pub mod Finished
 pub mod Given
 pub mod Headings
 pub mod Lines
+pub mod ManyRows
 pub mod Marks
 pub mod NotedMeanings
 pub mod Preparing

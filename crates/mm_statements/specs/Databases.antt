@@ -3,6 +3,7 @@ use Rattle.std.specs.Prelude.{◌≡◌, ◌≢◌, ℕ, Bool, List, Option, Non
 use Rattle.std.specs.Coded.{Coded, code_by, coded×, coded_bool, coded_list, coded_option, coded_ℕ}
 use Rattle.plain_tables.specs.declared.value.Value.{Value}
 use Rattle.mm_prepared.specs.Kept.{KeptStatement}
+use Rattle.mm_session.specs.OneRequest.{StaysInStream}
 use Rattle.mm_session.specs.Sessions.{State}
 
 -- A database is seen as its session, whether other databases may share that, and the statements by their numbers.
@@ -44,3 +45,11 @@ pub record IsUnchanged (old new : DatabaseState) : Type 0 where
 pub record SharesMore (old new : DatabaseState) : Type 0 where
   pub same : new ≡ record old { shared = new.shared }
   pub stays : IsTrue old.shared → new.shared ≡ true
+
+-- The tables are as before, and the session is where it was, though what it keeps of them may stand elsewhere. The statements stay. It
+-- shares its session with no more databases than before.
+pub record KeepsTables (old new : DatabaseState) : Type 0 where
+  pub database : new.session.database ≡ old.session.database
+  pub stream : StaysInStream old.session new.session
+  pub shared : IsTrue new.shared → IsTrue old.shared
+  pub statements : SameStatements old new

@@ -11,6 +11,8 @@ use Rattle.mm_session.specs.declared.fault.ReadFault.{ReadFault}
 use Rattle.mm_session.specs.declared.fault.ReadFault.TheVariants as reading
 use Rattle.mm_session.specs.declared.fault.SessionFault.{SessionFault}
 use Rattle.mm_session.specs.declared.fault.SessionFault.TheVariants as session
+use Rattle.mm_statements.specs.declared.faults.BeginFault.{BeginFault}
+use Rattle.mm_statements.specs.declared.faults.BeginFault.TheVariants as beginning
 use Rattle.mm_statements.specs.declared.faults.ExecuteFault.{ExecuteFault}
 use Rattle.mm_statements.specs.declared.faults.ExecuteFault.TheVariants as executing
 use Rattle.mm_statements.specs.declared.faults.PrepareFault.{PrepareFault}
@@ -52,6 +54,11 @@ stream_fault_of session.Ended = streaming.Ended
 abbrev pub execute_fault_of_change : ChangeFault → ExecuteFault
 execute_fault_of_change (changing.Refused why) = executing.Refused why
 execute_fault_of_change changing.Shared = executing.Shared
+
+-- out of memory is a refusal here
+abbrev pub execute_fault_of_begin : BeginFault → ExecuteFault
+execute_fault_of_begin beginning.NoMemory = executing.Refused refusal.NoMemory
+execute_fault_of_begin beginning.Shared = executing.Shared
 
 abbrev pub query_fault_of_change : ChangeFault → QueryFault
 query_fault_of_change (changing.Refused why) = querying.Refused why

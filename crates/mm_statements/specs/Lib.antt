@@ -6,6 +6,7 @@ pub mod Executing
 pub mod Faults
 pub mod Held
 pub mod LineLaws
+pub mod Many
 pub mod Noted
 pub mod Planning
 pub mod Preparing

@@ -5,6 +5,7 @@ use crate::counting::select_of;
 use crate::faults::{
     BeginFault, ExecuteFault, PrepareFault, QueryFault, RequestFault, ShareFault, StreamFault,
 };
+use crate::many::{change_all, load_each};
 use crate::noted::NotedTables;
 use crate::planning::{PlannedSelect, plan_of_line};
 use crate::querying::command_of_line;
@@ -12,7 +13,9 @@ use crate::reading::{count_marks, meaning, readable};
 use crate::resolving::{command_of, resolution_of, resolve, settle};
 use crate::shared::SharedSession;
 use mm_cells::Cells;
-use mm_prepared::{Commands, Declined, Lent, LentValue, Statements, may_declare};
+use mm_prepared::{
+    Bound, Commands, Declined, Lent, LentValue, Statements, check_each, may_declare,
+};
 use mm_session::{Answer, SelectRoom, Session};
 use mm_transactions::NoTransaction;
 use no_memory::NoMemory;
@@ -100,6 +103,7 @@ impl Database {
     ghost use Rattle.plain_streams.specs.Requests.{without_return};
     ghost use Rattle.mm_cells.specs.Reading.{AreFull};
     ghost use Rattle.mm_cells.specs.Values.{values_of};
+    ghost use Rattle.mm_session.specs.Changing.{HasChanged};
     ghost use Rattle.mm_session.specs.OneRequest.{AnswersOne, GoesBetween, IsAtSamePlace, StaysInStream};
     ghost use Rattle.mm_session.specs.Reads.{WouldChange};
     ghost use Rattle.mm_session.specs.Sessions.{BreaksOff, Feeds, Finishes, Gains, new_session, tables_of};
@@ -107,8 +111,9 @@ impl Database {
     ghost use Rattle.mm_prepared.specs.Cells.{IsSmall, cell_value};
     ghost use Rattle.mm_prepared.specs.Kept.{KeptStatement};
     ghost use Rattle.mm_statements.specs.Counting.{HasRowsOf, IsUncounted};
-    ghost use Rattle.mm_statements.specs.Databases.{statement_at, IsUnchanged, NowNames, SameStatements, SharesMore};
+    ghost use Rattle.mm_statements.specs.Databases.{statement_at, IsUnchanged, KeepsTables, NowNames, SameStatements, SharesMore};
     ghost use Rattle.mm_statements.specs.Executing.{HasGiven, IsDeclined, IsEffectOf, IsUntold, TellsColumns};
+    ghost use Rattle.mm_statements.specs.Many.{IsDeclinedWithMany, IsEffectOfMany};
     ghost use Rattle.mm_statements.specs.Planning.{IsPlanOfLine, IsUnplanned};
     ghost use Rattle.mm_statements.specs.Preparing.{IsPrepared, IsUnpreparedFor};
     ghost use Rattle.mm_statements.specs.Querying.{IsEffectOfLine, IsUnanswered};
@@ -461,6 +466,39 @@ impl Database {
         }
         let count = self.held.change(command)?;
         Ok(Executed::Changed(count))
+    }
+
+    /// Does what the statement of a number says with each of these rows of values, one after the other, beside the stream: all of them or
+    /// none, and it tells how many rows of tables were changed in all. What is bound stays as it is. First each row has to make a change of
+    /// the statement by what its values are; a select is none, and is refused by 20. Refusals of what a row does have its number, counted from
+    /// 1. Rows that an insert makes go in as those of a load do, by rising keys where they are many. `TooLong` comes only if the rows that
+    /// are changed in all have no number of 64 bits.
+    pub fn execute_many(&mut self, number: usize, rows: Vec<Bound>) -> Result<usize, ExecuteFault>
+        ensures done { IfOk result (λ count. (effect : Effect) × IsEffectOfMany self.old number rows.items effect × HasChanged self.new.session effect count) }
+        ensures missing { statement_at self.old number ≡ None → result ≡ Err fault.NoSuchStatement }
+        ensures declined { IfErr result (IsDeclinedWithMany self.old number rows.items) }
+        ensures shared { IsErrOf result fault.Shared → IsTrue self.old.shared }
+        ensures unchanged { OnErr result (KeepsTables self.old self.new) }
+
+        // The stream goes on as before, and the statements stay.
+        ensures stream { StaysInStream self.old.session self.new.session }
+        ensures statements { SameStatements self.old self.new }
+        ensures keeps { IsTrue self.new.shared → IsTrue self.old.shared }
+    {
+        if !self.has(number) {
+            return Err(ExecuteFault::NoSuchStatement);
+        }
+        if rows.is_empty() {
+            return Ok(0);
+        }
+        resolve(&self.held, &mut self.noted, &mut self.statements, number)?;
+        let resolution = resolution_of(&self.statements, number);
+        check_each(&rows, resolution)?;
+        if let Template::Insert { table, slots } = &resolution.template {
+            return load_each(&mut self.held, *table, slots.as_slice(), rows);
+        }
+        let kept = self.commands.at(number);
+        change_all(&mut self.held, &rows, resolution, kept)
     }
 
     /// Makes the cells the columns of the rows that the statement of a number shows, whatever values are bound: of each its name, after

@@ -49,7 +49,7 @@ pub enum ExecuteFault {
     /// The statement is refused with these values; 90 where a growth was refused.
     Refused(Refusal),
     /// The texts of the rows that it shows are longer than 4 GiB together: cells have no numbers for them. Or the rows that are to be
-    /// counted are 2^64 or more.
+    /// counted are 2^64 or more; or so many are changed by many rows of values.
     TooLong,
     /// It is an insert, an update or a delete, and another database shares the tables.
     Shared,
@@ -231,6 +231,20 @@ impl From<ChangeFault> for ExecuteFault {
         match why {
             ChangeFault::Refused(why) => ExecuteFault::Refused(why),
             ChangeFault::Shared => ExecuteFault::Shared,
+        }
+    }
+}
+
+impl From<BeginFault> for ExecuteFault {
+    ghost use Rattle.std.specs.Prelude.{◌≡◌};
+    ghost use Rattle.mm_statements.specs.Faults.{execute_fault_of_begin};
+
+    ghost from_gives = { λ why e. e ≡ execute_fault_of_begin why };
+
+    fn from(why: BeginFault) -> ExecuteFault {
+        match why {
+            BeginFault::NoMemory => ExecuteFault::Refused(Refusal::NoMemory),
+            BeginFault::Shared => ExecuteFault::Shared,
         }
     }
 }

@@ -26,6 +26,7 @@ mod counting;
 mod database;
 mod faults;
 pub mod laws;
+mod many;
 mod noted;
 mod planning;
 mod querying;

@@ -30,7 +30,7 @@ use mm_cells::{CellFault, Cells};
 use mm_session::{Answer, CountFault, SelectRoom, Session};
 use mm_transactions::NoTransaction;
 use no_memory::NoMemory;
-use plain_tables::{Query, Resolved, TableNumber, Value};
+use plain_tables::{Query, Resolved, Sequence, TableNumber, Value};
 use plan_chooser::Policy;
 use std::alloc::Global;
 use std::io::Write;
@@ -283,6 +283,29 @@ impl SharedSession {
         };
         match Arc::get_mut(shared) {
             Some(session) => Ok(session.insert(table, values)?),
+            None => Err(ChangeFault::Shared),
+        }
+    }
+
+    /// Puts rows into a table, all of them or none, as the session does, where nobody else holds it.
+    pub fn load(
+        &mut self,
+        table: TableNumber,
+        rows: Sequence<Sequence<Value>>,
+    ) -> Result<(), ChangeFault>
+        requires { IsMeant self.old.session.limits self.old.session.database (resolved.Load table rows) }
+        ensures done { OnOk result (HasChanged self.new.session (done self.old.session.limits self.old.session.database (resolved.Load table rows)) (length rows)) }
+        ensures refused { IfErr result (IsUndone self.old.session self.new.session (done self.old.session.limits self.old.session.database (resolved.Load table rows))) }
+        ensures unchanged { OnErr result (self.new.session.database ≡ self.old.session.database) }
+        ensures shared { IsErrOf result change_fault.Shared → IsTrue self.old.shared }
+        ensures keeps { self.new.shared ≡ self.old.shared }
+        ensures stream { StaysInStream self.old.session self.new.session }
+    {
+        let Some(shared) = &mut self.shared else {
+            return Ok(self.own.load(table, rows)?);
+        };
+        match Arc::get_mut(shared) {
+            Some(session) => Ok(session.load(table, rows)?),
             None => Err(ChangeFault::Shared),
         }
     }

@@ -1,6 +1,6 @@
 //! Inserts, updates and deletes that make no answer: how many rows each is about is told as a number.
 
-ghost use Rattle.std.specs.Prelude.{◌≡◌, ◌≢◌, [], Err, IfOk, IfErr, OnOk, OnErr};
+ghost use Rattle.std.specs.Prelude.{◌≡◌, ◌≢◌, [], Err, IfOk, IfErr, OnOk, OnErr, length};
 ghost use Rattle.plain_tables.specs.Doing.{done};
 ghost use Rattle.plain_tables.specs.ResolvedLaws.{IsMeant};
 ghost use Rattle.plain_tables.specs.declared.refusal.Refusal.TheVariants as refusal;
@@ -14,7 +14,7 @@ ghost use Rattle.mm_session.specs.Changing.{IsChange, IsDeleteByKey};
 use super::Executor;
 use super::search::rows_passing;
 use mm_transactions::TransactionalCatalog;
-use plain_tables::{Assignment, Refusal, Resolved, TableNumber, Test, Value};
+use plain_tables::{Assignment, Refusal, Resolved, Sequence, TableNumber, Test, Value};
 use plan_chooser::Policy;
 use std::alloc::Global;
 
@@ -67,6 +67,20 @@ impl Executor {
         ensures saved { saved_of self.new.tables ≡ saved_of self.old.tables }
     {
         self.tables.insert(table, values)
+    }
+
+    /// Puts rows into a table, all of them or none. After a refusal the tables are as before.
+    pub fn load(
+        &mut self,
+        table: TableNumber,
+        rows: Sequence<Sequence<Value>>,
+    ) -> Result<(), Refusal>
+        requires { IsMeant self.old.tables.catalog.limits (database_of self.old.tables.catalog) (resolved.Load table rows) }
+        ensures done { OnOk result (HasEffect self.old.tables.catalog self.new.tables.catalog (done self.old.tables.catalog.limits (database_of self.old.tables.catalog) (resolved.Load table rows)) (length rows)) }
+        ensures refused { IfErr result (IsDeclinedFor self.old.tables.catalog self.new.tables.catalog (done self.old.tables.catalog.limits (database_of self.old.tables.catalog) (resolved.Load table rows))) }
+        ensures saved { saved_of self.new.tables ≡ saved_of self.old.tables }
+    {
+        self.tables.load_rows(table, rows)
     }
 
     /// Does an insert, an update or a delete, and tells how many rows it is about. After a refusal the tables are as before.
