@@ -15,7 +15,7 @@ EXAMPLES = harness.ROOT / "examples" / "c"
 PAGE = harness.ROOT / "docs" / "c.md"
 STATEMENTS = {
     *("mmdb_prepare", "mmdb_bind_integer", "mmdb_bind_text", "mmdb_bind_null"),
-    *("mmdb_execute", "mmdb_columns", "mmdb_count", "mmdb_finalize"),
+    *("mmdb_execute", "mmdb_execute_many", "mmdb_columns", "mmdb_count", "mmdb_finalize"),
 }
 LINES = {"mmdb_command", "mmdb_load", "mmdb_query", "mmdb_feed", "mmdb_indexes", "mmdb_plan", "mmdb_answer", "mmdb_refusal"}
 REASONS = {"mmdb_reason", "mmdb_prepare_reason", "mmdb_statement_reason"}
@@ -164,6 +164,9 @@ class Embedding(compiling.Programs):
 
     def test_each_select_is_counted(self):
         self.check_program("counts")
+
+    def test_statements_do_many_rows_of_values(self):
+        self.check_program("many")
 
     def test_each_status_of_queries_is_met(self):
         self.check_program("queries")

@@ -22,7 +22,10 @@ ghost use Rattle.mmdb_c.specs.Sharing.{IsRequestKeptOff, IsShared, LosesAnswer};
 pub mod count_calls;
 mod counts;
 mod database;
+mod given;
 mod handle;
+mod many;
+pub mod many_calls;
 pub mod plan_calls;
 mod plans;
 pub mod reason_calls;
@@ -76,6 +79,8 @@ const SHARED: u32 = 14;
 const NO_TRANSACTION: u32 = 15;
 
 const IN_TRANSACTION: u32 = 16;
+
+const NOT_ROWS: u32 = 17;
 
 /// The bytes of an answer.
 #[repr(C)]

@@ -3,7 +3,7 @@
    closed, null or open. The words are the SEED and the number of CALLS.
 
    Each status must be one that the header names, and NOT_OPEN, NO_LINE, NO_SUCH_STATEMENT and NO_SUCH_PLACE come exactly where they
-   must. So do IN_TRANSACTION, and SHARED of a piece and of a transaction. Answers are read to their end. The rows of each statement stay until it is
+   must, and NOT_ROWS of null. So do IN_TRANSACTION, and SHARED of a piece and of a transaction. Answers are read to their end. The rows of each statement stay until it is
    executed again, and those of a line until the next query. */
 #include "checking.h"
 
@@ -40,7 +40,7 @@ typedef struct bytes {
 static handle handles[HANDLES];
 static uint64_t state;
 static uint64_t tables_made;
-static uint64_t statuses[MMDB_IN_TRANSACTION + 1];
+static uint64_t statuses[MMDB_NOT_ROWS + 1];
 
 static uint64_t drawn(uint64_t below)
 {
@@ -200,11 +200,11 @@ static uint32_t only(mmdb_status status)
 
 static int is_within(mmdb_status status, uint32_t allowed, const char *call)
 {
-    const int is = status <= MMDB_IN_TRANSACTION && (allowed >> status & 1) != 0;
+    const int is = status <= MMDB_NOT_ROWS && (allowed >> status & 1) != 0;
     if (!is)
         fprintf(stderr, "%s gives %u\n", call, (unsigned)status);
     checks_failed += !is;
-    statuses[status <= MMDB_IN_TRANSACTION ? status : 0]++;
+    statuses[status <= MMDB_NOT_ROWS ? status : 0]++;
     return is;
 }
 
@@ -436,6 +436,44 @@ static void executes(handle *of)
     to->sum = sum_of(&rows);
 }
 
+/* A cell of any kind, whose text may lie elsewhere. */
+static mmdb_cell any_cell(size_t length)
+{
+    const mmdb_cell cell = {
+        (int64_t)drawn(40) - 5,
+        (uint32_t)(is_drawn(95) ? drawn(length + 1) : drawn(UINT32_MAX)),
+        (uint16_t)(is_drawn(90) ? drawn(4) : drawn(UINT16_MAX)),
+        (uint16_t)(is_drawn(97) ? drawn(3) : drawn(UINT16_MAX)),
+    };
+    return cell;
+}
+
+/* Rows of as many cells as there are places, or any number of cells; or null. They lie in a block of just their length. */
+static void executes_many(handle *of)
+{
+    const statement *to = any_statement(of);
+    const bytes texts = given_bytes();
+    const size_t rows = drawn(6), count = is_drawn(90) && to ? rows * to->of.places : drawn(9);
+    mmdb_cell *cells = is_drawn(97) ? malloc((count + (count == 0)) * sizeof *cells) : NULL;
+    const int is_none = is_null(texts) || (cells == NULL && count > 0);
+    uint32_t allowed = of_statement(of) | only(MMDB_NOT_ROWS) | only(MMDB_NOT_UTF8);
+    uint64_t changed = 7;
+    mmdb_status status;
+    for (size_t i = 0; cells != NULL && i < count; i++)
+        cells[i] = any_cell(texts.length);
+    status = mmdb_execute_many(&of->db, to ? to->of.number : no_statement(of), cells, count, texts.at, texts.length, &changed);
+    if (!of->is_open)
+        allowed = only(MMDB_NOT_OPEN);
+    else if (is_none)
+        allowed = only(MMDB_NOT_ROWS);
+    else if (!to)
+        allowed = only(MMDB_NO_SUCH_STATEMENT);
+    is_within(status, allowed, "execute_many");
+    CHECK(status == MMDB_DONE || changed == 0);
+    free(cells);
+    free(texts.at);
+}
+
 static void queries(handle *of)
 {
     const bytes line = given_bytes();
@@ -575,6 +613,7 @@ static void calls_on_null(void)
     CHECK(mmdb_prepare(NULL, "", 0, &made) == MMDB_NOT_OPEN && mmdb_execute(NULL, 0, &rows) == MMDB_NOT_OPEN);
     CHECK(mmdb_columns(NULL, 0, NULL) == MMDB_NOT_OPEN && mmdb_finalize(NULL, 0) == MMDB_NOT_OPEN);
     CHECK(mmdb_count(NULL, 0, &count) == MMDB_NOT_OPEN && count == 0 && mmdb_count(NULL, 0, NULL) == MMDB_NOT_OPEN);
+    CHECK(mmdb_execute_many(NULL, 0, NULL, 1, NULL, 1, NULL) == MMDB_NOT_OPEN);
     CHECK(mmdb_bind_null(NULL, 0, 0) == MMDB_NOT_OPEN && mmdb_bind_text(NULL, 0, 0, NULL, 7) == MMDB_NOT_OPEN);
     CHECK(mmdb_reason(NULL, NULL, 1, NULL, 1, &answer) == MMDB_NOT_OPEN && mmdb_indexes(NULL, "", 0, NULL) == MMDB_NOT_OPEN);
     CHECK(mmdb_prepare_reason(NULL, NULL, 1, &answer) == MMDB_NOT_OPEN && mmdb_statement_reason(NULL, 0, NULL) == MMDB_NOT_OPEN);
@@ -593,6 +632,7 @@ static const maker MAKERS[] = {
     commands, commands, commands, commands, loads,    loads,     feeds,    feeds,        prepares,     prepares,      prepares,
     binds,    binds,    binds,    binds,    executes, executes,  executes, asks_columns, asks_columns, looks_at_rows, tells,
     queries,  queries,  asks_why, asks_plan, counts,  begins,    leaves,   commits_or_rolls_back, commits_or_rolls_back,
+    executes_many, executes_many,
 };
 
 /* One call. Handles are seldom opened, closed and shared, so that much becomes of what they have. */
@@ -622,7 +662,7 @@ int main(int count, char **words)
         call();
     for (size_t i = 0; i < HANDLES; i++)
         closes(&handles[i]);
-    for (size_t i = 0; i <= MMDB_IN_TRANSACTION; i++)
+    for (size_t i = 0; i <= MMDB_NOT_ROWS; i++)
         printf("%s: %" PRIu64 "\n", mmdb_status_text((uint32_t)i), statuses[i]);
     return checks_failed != 0;
 }

@@ -136,6 +136,35 @@ static mmdb_status counts_joined(kept *of, mmdb_rows *rows)
     return mmdb_count(&of->db, of->join.number, &rows->changed);
 }
 
+/* Two rows for a statement whose places take an integer and a text, or a text alone. How many rows were changed is told as of a count. */
+static mmdb_status executes_many(kept *of, mmdb_statement statement, mmdb_rows *rows)
+{
+    const uint16_t length = (uint16_t)(strlen(LONG) - 1);
+    const mmdb_cell cells[] = {
+        { 6, 0, 0, MMDB_INTEGER }, { 0, 1, length, MMDB_TEXT }, { 5, 0, 0, MMDB_INTEGER }, { 0, 0, length, MMDB_TEXT },
+    };
+    const mmdb_cell texts[] = { cells[1], cells[0], cells[3], cells[2] };
+    const int is_insert = statement.number == of->insert.number;
+    return mmdb_execute_many(&of->db, statement.number, is_insert ? cells : texts, 4, LONG, strlen(LONG), &rows->changed);
+}
+
+static mmdb_status inserts_many(kept *of, mmdb_rows *rows)
+{
+    return executes_many(of, of->insert, rows);
+}
+
+static mmdb_status updates_many(kept *of, mmdb_rows *rows)
+{
+    return executes_many(of, of->update, rows);
+}
+
+static mmdb_status erases_many(kept *of, mmdb_rows *rows)
+{
+    const uint16_t length = (uint16_t)strlen(LONG);
+    const mmdb_cell cells[] = { { 0, 0, length, MMDB_TEXT }, { 0, 0, 1, MMDB_TEXT } };
+    return mmdb_execute_many(&of->db, of->erase.number, cells, 2, LONG, strlen(LONG), &rows->changed);
+}
+
 typedef mmdb_status (*step)(kept *of, mmdb_rows *rows);
 
 static const struct {
@@ -147,6 +176,9 @@ static const struct {
     { inserts, MMDB_REFUSED },
     { updates, MMDB_REFUSED },
     { erases, MMDB_REFUSED },
+    { inserts_many, MMDB_REFUSED },
+    { updates_many, MMDB_REFUSED },
+    { erases_many, MMDB_REFUSED },
     { selects, MMDB_REFUSED },
     { joins, MMDB_REFUSED },
     { tells_columns, MMDB_REFUSED },
