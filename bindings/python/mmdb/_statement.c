@@ -1,6 +1,7 @@
 /* What is done with one statement: values in, rows out, and what is raised. */
 #include "_mmdb.h"
 
+#include <string.h>
 #include <time.h>
 
 /* How many nanoseconds a quick execution takes at most, and how many are taken to be quick behind one that was. */
@@ -560,15 +561,142 @@ static int add_row(Handle *handle, Statement *statement, PyObject *row, uint64_t
     return status;
 }
 
+/* ---- many inserts by one call */
+
+/* So many rows at least are inserted by one call, and so many at most. */
+#define LEAST_TOGETHER 200
+#define MOST_TOGETHER 65536
+
+/* Cells, and the bytes of their texts, as mmdb_execute_many takes them. */
+typedef struct {
+    mmdb_cell *cells;
+    size_t count;
+    char *texts;
+    size_t length;
+    size_t room;
+} Batch;
+
+static void batch_free(Batch *batch)
+{
+    PyMem_Free(batch->cells);
+    PyMem_Free(batch->texts);
+}
+
+/* Puts a text behind the others. Gives 0 where it has no place there, or there is no memory for it. */
+static int put_text(Batch *batch, const char *text, size_t length, mmdb_cell *cell)
+{
+    if (length > UINT16_MAX || batch->length + length > UINT32_MAX)
+        return 0;
+    if (batch->length + length > batch->room) {
+        size_t room = 2 * (batch->length + length);
+        char *texts = PyMem_Realloc(batch->texts, room);
+        if (texts == NULL)
+            return 0;
+        batch->texts = texts;
+        batch->room = room;
+    }
+    memcpy(batch->texts + batch->length, text, length);
+    cell->at = (uint32_t)batch->length;
+    cell->length = (uint16_t)length;
+    batch->length += length;
+    return 1;
+}
+
+/* Puts a value behind the others, which was looked at before. Gives 0 where that can't be. */
+static int put_value(Batch *batch, PyObject *value)
+{
+    int kind = kind_of(value), is_past = 0;
+    mmdb_cell cell = { 0, 0, 0, (uint16_t)kind };
+    if (kind == MMDB_INTEGER) {
+        cell.integer = PyLong_AsLongLongAndOverflow(value, &is_past);
+    } else if (kind == MMDB_TEXT) {
+        Py_ssize_t length;
+        const char *text = PyUnicode_AsUTF8AndSize(value, &length);
+        if (text == NULL) {
+            PyErr_Clear();
+            return 0;
+        }
+        if (!put_text(batch, text, (size_t)length, &cell))
+            return 0;
+    }
+    batch->cells[batch->count++] = cell;
+    return !is_past;
+}
+
+/* Puts the values of so many rows into cells. Gives 0 where that can't be. */
+static int put_rows(Batch *batch, PyObject *rows, Py_ssize_t from, Py_ssize_t count, Py_ssize_t places)
+{
+    batch->cells = PyMem_Malloc((size_t)count * (size_t)places * sizeof *batch->cells);
+    for (Py_ssize_t number = from; batch->cells != NULL && number < from + count; number++) {
+        PyObject *row = PyList_GetItem(rows, number);
+        if (PyTuple_Size(row) != places)
+            return 0;
+        for (Py_ssize_t place = 0; place < places; place++)
+            if (!put_value(batch, PyTuple_GetItem(row, place)))
+                return 0;
+    }
+    return batch->cells != NULL;
+}
+
+/* Does a statement with so many rows while other threads go on, and adds how many rows it was about. Gives 0 where nothing was
+   done; why is found row by row. */
+static int add_rows(Handle *handle, Statement *statement, PyObject *rows, Py_ssize_t from, Py_ssize_t count, uint64_t *changed)
+{
+    Batch batch = { NULL, 0, NULL, 0, 0 };
+    uint32_t status = MMDB_NOT_ROWS, number = statement->given.number;
+    uint64_t added = 0;
+    if (put_rows(&batch, rows, from, count, statement->places)) {
+        Py_BEGIN_ALLOW_THREADS
+        status = mmdb_execute_many(&handle->db, number, batch.cells, batch.count, batch.texts, batch.length, &added);
+        Py_END_ALLOW_THREADS
+    }
+    batch_free(&batch);
+    *changed += added;
+    return status == MMDB_DONE;
+}
+
+/* Whether rows go in by it. */
+static int is_insert(const Statement *statement)
+{
+    static const char word[] = "insert";
+    Py_ssize_t length;
+    const char *line = bytes_of(statement->line, &length);
+    while (line != NULL && length > 0 && *line == ' ')
+        line++, length--;
+    if (line == NULL)
+        PyErr_Clear();
+    return line != NULL && length >= (Py_ssize_t)sizeof word && memcmp(line, word, sizeof word - 1) == 0;
+}
+
+/* Does an insert with the rows from a number on, as far as they go in together, of which all go in or none. Gives the number of the
+   first that hasn't. */
+static Py_ssize_t put_together(Handle *handle, Statement *statement, PyObject *rows, Py_ssize_t from, uint64_t *changed)
+{
+    Py_ssize_t all = PyList_Size(rows);
+    while (from < all) {
+        Py_ssize_t count = all - from < MOST_TOGETHER ? all - from : MOST_TOGETHER;
+        if (PyErr_CheckSignals() < 0 || !add_rows(handle, statement, rows, from, count, changed))
+            return from;
+        from += count;
+    }
+    return from;
+}
+
 PyObject *statement_done_many(Handle *handle, Statement *statement, PyObject *rows)
 {
     uint64_t changed = 0;
+    int is_together = PyList_Size(rows) >= LEAST_TOGETHER && statement->places > 0 && is_insert(statement);
     if (check_rows(rows) != MMDB_DONE)
         return NULL;
     for (Py_ssize_t number = 0; number < PyList_Size(rows); number++) {
         if (number % ROWS_BETWEEN_SIGNALS == ROWS_BETWEEN_SIGNALS - 1 && PyErr_CheckSignals() < 0)
             return NULL;
         if (add_row(handle, statement, PyList_GetItem(rows, number), &changed) < 0)
+            return NULL;
+        // (the first has prepared it)
+        if (number == 0 && is_together)
+            number = put_together(handle, statement, rows, 1, &changed) - 1;
+        if (PyErr_Occurred())
             return NULL;
     }
     return PyLong_FromUnsignedLongLong(changed);

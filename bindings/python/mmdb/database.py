@@ -27,6 +27,7 @@ from typing import (
 )
 
 from . import dumps
+from .chosen import extension
 from .conversions import Converter, converter_of
 from .csvs import Picked, Readable, Watch, cut, front_of, pieces_of
 from .errors import InTransaction, NoMemory, NoTransaction, OperationalError, Refused, Shared, WrongType, WrongUse, refusal_of
@@ -173,7 +174,8 @@ class Database(Handle):
     def _execute_each(self, at: Placed, rows: List[Tuple[Any, ...]], do: Callable[[List[Tuple[Any, ...]]], int]) -> int:
         """Executes a line with each of these rows of values, by a function or, where it puts many rows in, by loads as far as
         these go."""
-        table = filled_table(at) if len(rows) >= MANY else None
+        # (the extension puts many in by one call itself)
+        table = filled_table(at) if len(rows) >= MANY and extension is None else None
         if table is None:
             return do(rows)
         with self._alone():

@@ -29,6 +29,67 @@ impl Cell {
     }
 }
 
+impl Cell {
+    const NULL: Cell = Cell {
+        integer: 0,
+        at: 0,
+        length: 0,
+        kind: 0,
+    };
+}
+
+/// Rows of values that a program hands in, as cells.
+#[derive(Default)]
+pub(crate) struct GivenCells {
+    pub(crate) cells: Vec<Cell>,
+    pub(crate) texts: Vec<u8>,
+}
+
+impl GivenCells {
+    pub(crate) fn clear(&mut self) {
+        self.cells.clear();
+        self.texts.clear();
+    }
+
+    /// How many bytes they take.
+    pub(crate) fn size(&self) -> usize {
+        self.cells.len() * std::mem::size_of::<Cell>() + self.texts.len()
+    }
+
+    /// Puts a value behind the others. Of a text that has more bytes than a cell can tell, a front is put there: no table has texts that
+    /// long, so that it stands in the same order to each of them, and is as much too long to be stored.
+    pub(crate) fn push(&mut self, value: ValueRef<'_>) {
+        self.cells.push(match value {
+            ValueRef::Null => Cell::NULL,
+            ValueRef::Integer(integer) => Cell {
+                integer,
+                kind: INTEGER,
+                ..Cell::NULL
+            },
+            ValueRef::Text(text) => {
+                let front = front_of(text);
+                let at = self.texts.len() as u32;
+                self.texts.extend_from_slice(front.as_bytes());
+                Cell {
+                    at,
+                    length: front.len() as u16,
+                    kind: TEXT,
+                    ..Cell::NULL
+                }
+            }
+        });
+    }
+}
+
+/// As much of a text as a cell can tell the length of.
+fn front_of(text: &str) -> &str {
+    let mut end = text.len().min(u16::MAX as usize);
+    while !text.is_char_boundary(end) {
+        end -= 1;
+    }
+    &text[..end]
+}
+
 /// Cells that are lent, with their texts.
 #[derive(Clone, Copy)]
 pub(crate) struct Cells<'c> {

@@ -7,9 +7,11 @@ use std::ops::{Deref, DerefMut};
 use std::sync::Arc;
 
 use crate::bound::Bound;
+use crate::database::Database;
 use crate::error::{Error, Result};
 use crate::library::{Declined, Handle, Prepared};
 use crate::line::{bind, fill, find_places, is_select, pointed, with_marks, with_nulls, Place};
+use crate::many::Many;
 use crate::params::Params;
 use crate::rows::RowsRef;
 use crate::session::refused;
@@ -70,6 +72,63 @@ impl Kept {
             Ok(executed) => Ok(executed.changed as usize),
             Err(declined) => Err(self.written.why(handle, number, declined)),
         }
+    }
+
+    /// Does a change with each of these rows of values, all of them or none, and returns the number of rows.
+    pub(crate) fn change_many<P: Params>(
+        &mut self,
+        database: &Database,
+        rows: impl IntoIterator<Item = P>,
+    ) -> Result<usize> {
+        if self.is_select {
+            return Err(Error::NotAChange);
+        }
+        let mut many = Many::of(database);
+        for params in rows {
+            if many.is_full() {
+                many.begin()?;
+                self.send(&mut many)?;
+            }
+            if self.written.places.is_empty() {
+                many.begin()?;
+                many.changed += self.change(database.handle(), params)?;
+            } else {
+                let written = &mut self.written;
+                bind(&written.line, &written.places, params, &mut written.bound)?;
+                many.push(written.bound.iter());
+            }
+        }
+        self.send(&mut many)?;
+        many.end()
+    }
+
+    /// Has the rows done that are gathered.
+    fn send(&mut self, many: &mut Many<'_>) -> Result<()> {
+        let (handle, places) = (many.handle(), self.written.places.len());
+        match handle.execute_many(&mut self.prepared, &many.given) {
+            Ok(changed) => many.done(changed, places),
+            Err(declined) => return Err(self.why_of(many, handle, places, declined)),
+        }
+        Ok(())
+    }
+
+    /// Why rows were declined, by the first of them of which the library tells why.
+    #[cold]
+    fn why_of(&mut self, many: &Many<'_>, handle: &Handle, places: usize, declined: Declined) -> Error {
+        let number = self.prepared.number();
+        for row in many.rows(places) {
+            self.written.bound.clear();
+            row.for_each(|value| self.written.bound.push(value));
+            for (place, value) in (0..).zip(self.written.bound.iter()) {
+                if handle.bind(&mut self.prepared, place, value).is_err() {
+                    return many.in_the_whole(self.written.why(handle, number, declined));
+                }
+            }
+            if handle.statement_reason(number).is_some() {
+                break;
+            }
+        }
+        many.in_the_whole(self.written.why(handle, number, declined))
     }
 
     /// The rows of a select, which are lent. The names of its columns are asked for where the declarations are others.

@@ -58,6 +58,7 @@ mod library;
 mod limits;
 mod line;
 mod loading;
+mod many;
 mod optional;
 mod outcome;
 mod params;

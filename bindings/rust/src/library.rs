@@ -4,7 +4,7 @@ use std::cell::{Cell as Changing, UnsafeCell};
 use std::ffi::c_void;
 use std::{mem, ptr, slice, str};
 
-use crate::cells::{Cell, Cells};
+use crate::cells::{Cell, Cells, GivenCells};
 use crate::error::Error;
 use crate::value::ValueRef;
 
@@ -108,6 +108,15 @@ extern "C" {
     fn mmdb_bind_text(db: *mut Inside, statement: u32, place: u32, text: *const u8, length: usize) -> u32;
     fn mmdb_bind_null(db: *mut Inside, statement: u32, place: u32) -> u32;
     fn mmdb_execute(db: *mut Inside, statement: u32, rows: *mut Found) -> u32;
+    fn mmdb_execute_many(
+        db: *mut Inside,
+        statement: u32,
+        cells: *const Cell,
+        count: usize,
+        texts: *const u8,
+        texts_length: usize,
+        changed: *mut u64,
+    ) -> u32;
     fn mmdb_columns(db: *mut Inside, statement: u32, columns: *mut Found) -> u32;
     fn mmdb_count(db: *mut Inside, statement: u32, count: *mut u64) -> u32;
     fn mmdb_finalize(db: *mut Inside, statement: u32) -> u32;
@@ -319,6 +328,18 @@ impl Handle {
             cells: unsafe { found.cells() },
             changed: found.changed,
         })
+    }
+
+    /// Does what a statement of this handle says with rows of values, all of them or none, and returns how many rows were changed.
+    pub(crate) fn execute_many(&self, statement: &mut Prepared, given: &GivenCells) -> Result<u64, Declined> {
+        let (db, cells, texts) = (self.inside.get(), &given.cells, &given.texts);
+        let mut changed = 0;
+        // SAFETY: as of `prepare`.
+        done(unsafe {
+            let (cells, count, texts, length) = (cells.as_ptr(), cells.len(), texts.as_ptr(), texts.len());
+            mmdb_execute_many(db, statement.0, cells, count, texts, length, &mut changed)
+        })?;
+        Ok(changed)
     }
 
     /// The names of the columns that the rows of a statement of this handle have.

@@ -240,7 +240,7 @@ fn record_in(words: &str) -> Option<usize> {
 }
 
 /// Such words, where so many records come before.
-fn with_number(words: &str, before: usize) -> Option<String> {
+pub(crate) fn with_number(words: &str, before: usize) -> Option<String> {
     let number = record_in(words)?;
     let front = words
         .trim_end_matches(')')
