@@ -117,17 +117,18 @@ typedef enum mmdb_status {
     MMDB_ENDED = 8,              /* mmdb_feed of a stream that is over; the other calls go on */
     MMDB_NO_SUCH_STATEMENT = 9,  /* the number names no statement, or one that was finalised */
     MMDB_NO_SUCH_PLACE = 10,     /* the statement has no place of that number */
-    MMDB_NOT_UTF8 = 11,          /* mmdb_bind_text of bytes that are not UTF-8 */
-    MMDB_REFUSED = 12,           /* mmdb_prepare, mmdb_execute, mmdb_columns, mmdb_count, mmdb_query, mmdb_plan: refused.
-                                    mmdb_answer and mmdb_refusal tell why, as `error 41 key exists` and a line feed; nothing
-                                    changed */
+    MMDB_NOT_UTF8 = 11,          /* mmdb_bind_text, mmdb_execute_many: a text is not UTF-8 */
+    MMDB_REFUSED = 12,           /* mmdb_prepare, mmdb_execute, mmdb_execute_many, mmdb_columns, mmdb_count, mmdb_query,
+                                    mmdb_plan: refused. mmdb_answer and mmdb_refusal tell why, as `error 41 key exists` and a
+                                    line feed; nothing changed */
     MMDB_TOO_LARGE = 13,         /* mmdb_execute, mmdb_query: the texts of the rows are more than 4 GiB together;
-                                    mmdb_prepare: the database has 4294967296 statements; mmdb_count: there are 2^64 rows or
-                                    more. Nothing changed */
-    MMDB_SHARED = 14,            /* mmdb_command, mmdb_load, mmdb_execute and mmdb_query of a change; mmdb_feed, mmdb_begin:
-                                    another handle shares the tables. Nothing changed */
+                                    mmdb_prepare: the database has 4294967296 statements; mmdb_count, mmdb_execute_many: there
+                                    are 2^64 rows or more. Nothing changed */
+    MMDB_SHARED = 14,            /* mmdb_command, mmdb_load, mmdb_execute, mmdb_execute_many and mmdb_query of a change;
+                                    mmdb_feed, mmdb_begin: another handle shares the tables. Nothing changed */
     MMDB_NO_TRANSACTION = 15,    /* mmdb_commit, mmdb_rollback: no transaction is open */
-    MMDB_IN_TRANSACTION = 16     /* mmdb_share, mmdb_leave: a transaction is open. Nothing changed */
+    MMDB_IN_TRANSACTION = 16,    /* mmdb_share, mmdb_leave: a transaction is open. Nothing changed */
+    MMDB_NOT_ROWS = 17           /* mmdb_execute_many: the cells are no rows of the statement's values. Nothing changed */
 } mmdb_status;
 
 /* How plans are chosen. No policy changes an answer, only what it costs. MMDB_AUTO is the one to take. */
@@ -190,6 +191,20 @@ uint32_t mmdb_bind_null(mmdb *db, uint32_t statement, uint32_t place);
    together; MMDB_SHARED where it is no select, its names and values are right, and another handle shares the tables; or
    MMDB_NOT_OPEN or MMDB_NO_SUCH_STATEMENT. */
 uint32_t mmdb_execute(mmdb *db, uint32_t statement, mmdb_rows *rows);
+
+/* Does what an insert, an update or a delete does with many rows of values: all of them, or none. There are `count` cells,
+   a row behind the other, each with a cell for every place of the statement; those that mmdb_execute gave of a select will
+   do. A text lies among the bytes at `texts`, from `at` on. The values are copied where they are kept, and those that are
+   bound stay. Of each row the values are judged first, in the order of the rows, and then the rows are done one after the
+   other. Where an insert makes many rows they go in by rising keys, as those of a load do, so this is the fast way to
+   many inserts.
+   Gives MMDB_DONE and in `changed` how many rows of tables were changed in all. Or gives MMDB_REFUSED as mmdb_execute would
+   of the first row that is refused: 41, 42 and 43 have the number of that row, counted from 1, as `error 41 key exists (record 3)`;
+   by 20 of a select; by 90 when out of memory. Or gives MMDB_NOT_ROWS where the cells are no multiple of the places, a
+   kind is none of mmdb_kind, or a text lies elsewhere; MMDB_NOT_UTF8; MMDB_SHARED as mmdb_execute does; MMDB_TOO_LARGE; or
+   MMDB_NOT_OPEN or MMDB_NO_SUCH_STATEMENT. Then nothing has changed. */
+uint32_t mmdb_execute_many(mmdb *db, uint32_t statement, const mmdb_cell *cells, size_t count, const void *texts,
+                           size_t texts_length, uint64_t *changed);
 
 /* The columns that the rows of a select have, whatever values are bound: a row for each, of two cells, its name as T.c
    and its kind, which is the integer MMDB_INTEGER or MMDB_TEXT. Another statement has no columns. They are good until
@@ -369,6 +384,8 @@ static inline const char *mmdb_status_text(uint32_t status)
         return "no transaction is open";
     case MMDB_IN_TRANSACTION:
         return "not done in a transaction";
+    case MMDB_NOT_ROWS:
+        return "the cells are no rows of the statement's values";
     default:
         return "no such status";
     }
@@ -497,6 +514,21 @@ static inline mmdb_status mmdb_checked_execute(mmdb *db, uint32_t statement, mmd
     mmdb_rows unwanted;
     mmdb_rows *to = mmdb_checked_rows_at(rows, &unwanted);
     return mmdb_checked_is_closed(db) ? MMDB_NOT_OPEN : mmdb_checked_status(mmdb_execute(db, statement, to));
+}
+
+static inline mmdb_status mmdb_checked_execute_many(mmdb *db, uint32_t statement, const mmdb_cell *cells, size_t count,
+                                                    const void *texts, size_t texts_length, uint64_t *changed)
+{
+    static const mmdb_cell no_cell = { 0, 0, 0, MMDB_NULL };
+    uint64_t unwanted;
+    uint64_t *to = changed ? changed : &unwanted;
+    *to = 0;
+    if (mmdb_checked_is_closed(db))
+        return MMDB_NOT_OPEN;
+    if ((!cells && count != 0) || (!texts && texts_length != 0))
+        return MMDB_NOT_ROWS;
+    return mmdb_checked_status(mmdb_execute_many(db, statement, cells ? cells : &no_cell, count,
+                                                 mmdb_checked_bytes(texts), texts_length, to));
 }
 
 static inline mmdb_status mmdb_checked_columns(mmdb *db, uint32_t statement, mmdb_rows *columns)
@@ -649,6 +681,7 @@ static inline void mmdb_checked_close(mmdb *db)
 #define mmdb_bind_text mmdb_checked_bind_text
 #define mmdb_bind_null mmdb_checked_bind_null
 #define mmdb_execute mmdb_checked_execute
+#define mmdb_execute_many mmdb_checked_execute_many
 #define mmdb_columns mmdb_checked_columns
 #define mmdb_count mmdb_checked_count
 #define mmdb_finalize mmdb_checked_finalize
