@@ -196,8 +196,7 @@ uint32_t mmdb_execute(mmdb *db, uint32_t statement, mmdb_rows *rows);
    a row behind the other, each with a cell for every place of the statement; those that mmdb_execute gave of a select will
    do. A text lies among the bytes at `texts`, from `at` on. The values are copied where they are kept, and those that are
    bound stay. Of each row the values are judged first, in the order of the rows, and then the rows are done one after the
-   other. Where an insert makes many rows they go in by rising keys, as those of a load do, so this is the fast way to
-   many inserts.
+   other. Where an insert makes many rows they go in by rising keys, as those of a load do.
    Gives MMDB_DONE and in `changed` how many rows of tables were changed in all. Or gives MMDB_REFUSED as mmdb_execute would
    of the first row that is refused: 41, 42 and 43 have the number of that row, counted from 1, as `error 41 key exists (record 3)`;
    by 20 of a select; by 90 when out of memory. Or gives MMDB_NOT_ROWS where the cells are no multiple of the places, a

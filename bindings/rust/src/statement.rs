@@ -106,8 +106,7 @@ impl<'db> Statement<'db> {
     }
 
     /// Executes the insert, the update or the delete with each of these rows of values, all of them or none, and returns the number of
-    /// all rows. A refusal of a row that isn't done tells its number, counted from 1, as that of a record. Many inserts go in faster so
-    /// than one by one.
+    /// all rows. A refusal of a row that isn't done tells its number, counted from 1, as that of a record.
     ///
     /// ```
     /// # let db = mmdb::Database::open_in_memory()?;
