@@ -12,6 +12,7 @@ from support import binding, sizes
 from support.binding import mmdb
 
 FORKS = sizes.size(20, 1_000, 10)
+MOST_FORKS = 50 * FORKS
 SECONDS = 60
 ROWS = 1_000
 
@@ -102,8 +103,13 @@ class Forked(binding.WithDatabase):
         self.assertEqual(len(self.db.select("select * from t")), ROWS)
 
     def test_a_database_in_a_call_is_closed(self):
+        found = set()
         with self.beside(self.keep_reading):
-            found = {status_of_child(self.is_closed) for _ in range(FORKS)}
+            # (whether a child begins within a call is a matter of time)
+            for number in range(MOST_FORKS):
+                found.add(status_of_child(self.is_closed))
+                if number >= FORKS and CLOSED in found:
+                    break
         self.assertLessEqual(found, {DONE, CLOSED})
         self.assertIn(CLOSED, found)
         self.assertEqual(len(self.db.select("select * from t")), ROWS)
