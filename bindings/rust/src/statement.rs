@@ -107,6 +107,7 @@ impl<'db> Statement<'db> {
 
     /// Executes the insert, the update or the delete with each of these rows of values, all of them or none, and returns the number of
     /// all rows. A refusal of a row that isn't done tells its number, counted from 1, as that of a record.
+    /// [`Error::NotAChange`](crate::Error::NotAChange) says that the statement is a select.
     ///
     /// ```
     /// # let db = mmdb::Database::open_in_memory()?;
