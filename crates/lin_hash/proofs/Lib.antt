@@ -1,6 +1,7 @@
 pub mod Addresses
 pub mod InBlocks
 pub mod InRowBlocks
+pub mod Copied
 pub mod RowWalks
 pub mod RowsIn
 pub mod Sheds

@@ -1,6 +1,7 @@
 pub mod Address
 pub mod Blocks
 pub mod Chains
+pub mod Copies
 pub mod Counted
 pub mod Filled
 pub mod Held

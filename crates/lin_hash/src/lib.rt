@@ -18,6 +18,7 @@ mod block;
 mod blocks;
 mod chain;
 mod chains;
+mod copying;
 mod growing;
 mod index;
 mod node;

@@ -19,6 +19,7 @@ pub struct RowBlock {
 
 impl RowBlock {
     ghost use Rattle.lin_hash.specs.RowBlocks.{has_memory, IsShed};
+    ghost use Rattle.lin_hash.specs.Copies.{shown};
 
     // A block with no memory.
     pub fn absent() -> RowBlock
@@ -40,6 +41,22 @@ impl RowBlock {
             nodes: Some(Box::new(alloc, [RowNode::unused(); NODES_A_BLOCK])?),
             used: 0,
         })
+    }
+
+    // A block of its own with the same nodes, or with no memory where this has none.
+    pub fn try_clone(&self, alloc: Global) -> Result<RowBlock, NoMemory>
+        ensures { IfOk result (λ copy. shown copy ≡ shown self.now) }
+    {
+        match &self.nodes {
+            Some(nodes) => Ok(RowBlock {
+                nodes: Some(Box::new(alloc, **nodes)?),
+                used: self.used,
+            }),
+            None => Ok(RowBlock {
+                nodes: None,
+                used: self.used,
+            }),
+        }
     }
 
     // The node at a place of the block.

@@ -2,7 +2,7 @@
 //!
 //! It counts the rows, so that the table knows when to split and when to fold. Where a row stands is the table's matter. A
 //! new hash has no table, and takes one with its first `reserve` or `cover`.
-ghost use Rattle.std.specs.Prelude.{◌≡◌, ◌+◌, ◌*◌, ◌^◌, ◌-◌, ◌<◌, ◌≤◌, ℕ, [], ◌∷◌, length, Contains, OnOk, OnErr};
+ghost use Rattle.std.specs.Prelude.{◌≡◌, ◌+◌, ◌*◌, ◌^◌, ◌-◌, ◌<◌, ◌≤◌, ℕ, [], ◌∷◌, length, Contains, IfOk, OnOk, OnErr};
 ghost use Rattle.std.specs.Bool.{OnTrue, OnFalse};
 ghost use Rattle.part_raw.specs.declared.tuple_ref.TupleRef.{TupleRef};
 ghost use Rattle.mm_index.specs.Bag.{AppendsBag, IsSameBag, with_hash};
@@ -73,6 +73,19 @@ impl RowHash {
             table: None,
             len: 0,
         }
+    }
+
+    /// A hash of its own with the same rows, and with memory for the same nodes and heads. It gives all of its memory back
+    /// where this runs out.
+    pub fn try_clone(&self) -> Result<RowHash, NoMemory>
+        ensures { IfOk result (λ copy. copy ≡ self.now) }
+    {
+        let table = copy_table(&self.table)?;
+        Ok(RowHash {
+            alloc: self.alloc,
+            table,
+            len: self.len,
+        })
     }
 
     /// How many rows there are. It was counted before.
@@ -252,6 +265,16 @@ impl RowHash {
         if let Some(table) = &mut self.table {
             table.release_spares();
         }
+    }
+}
+
+// The table, copied, where there is one.
+fn copy_table(table: &Option<RowTable>) -> Result<Option<RowTable>, NoMemory>
+    ensures { IfOk result (λ copy. copy ≡ table.now) }
+{
+    match table {
+        Some(table) => Ok(Some(table.try_clone()?)),
+        None => Ok(None),
     }
 }
 

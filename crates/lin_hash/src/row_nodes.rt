@@ -2,7 +2,7 @@
 //!
 //! They stand in blocks of as many as a partition of rows has. A block has memory once a row needs its node there, and no
 //! node moves. Blocks that no row uses are counted, so that who gives memory back knows whether there is any.
-ghost use Rattle.std.specs.Prelude.{◌≡◌, ◌+◌, ◌-◌, ◌*◌, ◌/◌, ◌^◌, ◌<◌, ◌≤◌, ◌↔◌, ℕ, true, false, [], ◌∷◌, ◌++◌, List, ◌≢◌, All, IsTrue, OnOk, OnErr, length, max, slice_index_or, slice_set, vec_len, vec_capacity};
+ghost use Rattle.std.specs.Prelude.{◌≡◌, ◌+◌, ◌-◌, ◌*◌, ◌/◌, ◌^◌, ◌<◌, ◌≤◌, ◌↔◌, ℕ, true, false, [], ◌∷◌, ◌++◌, List, ◌≢◌, All, IfOk, IsTrue, OnOk, OnErr, length, max, slice_index_or, slice_set, vec_len, vec_capacity};
 ghost use Rattle.lin_hash.specs.Nodes.{unused_link};
 ghost use Rattle.part_raw.specs.declared.tuple_ref.TupleRef.{TupleRef};
 ghost use Rattle.lin_hash.specs.declared.row_block.RowBlock.{RowBlock};
@@ -11,6 +11,7 @@ ghost use Rattle.lin_hash.specs.RowBlocks.{IsShed, has_memory, row_nodes_in};
 ghost use Rattle.lin_hash.specs.RowNodes.{is_used, loose_node, row_at, row_node_at, unused_node, with_next, with_prev};
 
 use crate::block::NODES_A_BLOCK;
+use crate::copying::copy_blocks;
 use crate::growing::reserve_by_doubling;
 use crate::node::NodeLink;
 use crate::row_block::RowBlock;
@@ -91,6 +92,17 @@ impl RowNodes {
             blocks: Vec::new(alloc),
             spare: 0,
         }
+    }
+
+    // The same nodes, in blocks of their own.
+    pub fn try_clone(&self) -> Result<RowNodes, NoMemory>
+        ensures { IfOk result (λ copy. copy ≡ self.now) }
+    {
+        let blocks = copy_blocks(&self.blocks, *self.blocks.allocator())?;
+        Ok(RowNodes {
+            blocks,
+            spare: self.spare,
+        })
     }
 
     // How many nodes stand in blocks that no row uses.

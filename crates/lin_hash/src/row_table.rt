@@ -12,6 +12,7 @@ ghost use Rattle.lin_hash.specs.RowRest.{row_chain_rest};
 ghost use Rattle.lin_hash.specs.Shape.{IsLongestChain};
 
 use crate::address::{Address, FIRST_BUCKETS};
+use crate::copying::copy_heads;
 use crate::growing::reserve_by_doubling;
 use crate::node::NodeLink;
 use crate::row_chain::RowChain;
@@ -68,6 +69,19 @@ impl RowTable {
             address: Address { level: 0, mark: 0 },
             heads,
             nodes: RowNodes::new(alloc),
+        })
+    }
+
+    // The same buckets, with memory for as many heads.
+    pub fn try_clone(&self) -> Result<RowTable, NoMemory>
+        ensures { IfOk result (λ copy. copy ≡ self.now) }
+    {
+        let heads = copy_heads(&self.heads, *self.heads.allocator())?;
+        let nodes = self.nodes.try_clone()?;
+        Ok(RowTable {
+            address: self.address,
+            heads,
+            nodes,
         })
     }
 

@@ -1,6 +1,6 @@
 -- Lists, by what they have at each place.
 use Rattle.std.proofs.Common.{◌≡◌, ◌≢◌, ℕ, zero, suc, ◌+◌, ◌-◌, ◌<◌, List, [], ◌∷◌, Some, refl, sym, ap, ◌∙◌, subst, arith, length, length-append, map, set, take, drop, get_or, add-one, ◌++◌, ◌≤◌}
-use Rattle.std.specs.List.{slice_get, zip, All, flat_map}
+use Rattle.std.specs.List.{slice_get, zip, All, AllZip, flat_map}
 use Rattle.std.proofs.lemmas.List.Folds.{flat_map-map}
 use Rattle.std.proofs.Math.Seq.{take-append_seam}
 use Rattle.std.proofs.lemmas.List.{length-drop, length-take, take_all}
@@ -134,3 +134,10 @@ each_set P itself (z ∷ xs) zero x y at changed zero u v here there = subst (λ
 each_set P itself (z ∷ xs) zero x y at changed (suc k) u v here there = subst (P u) (same_Some u v (sym here ∙ there)) (itself u)
 each_set P itself (z ∷ xs) (suc n) x y at changed zero u v here there = subst (P u) (same_Some u v (sym here ∙ there)) (itself u)
 each_set P itself (z ∷ xs) (suc n) x y at changed (suc k) u v here there = each_set P itself xs n x y at changed k u v here there
+
+-- lists whose elements f shows alike, place by place, are shown alike
+pub same_shown : {A B : Type 0} (f : A → B) (xs ys : List A) → AllZip (λ x y. f y ≡ f x) xs ys → map f ys ≡ map f xs
+same_shown f [] [] h = refl
+same_shown f [] (y ∷ ys) h = absurd h
+same_shown f (x ∷ xs) [] h = absurd h
+same_shown f (x ∷ xs) (y ∷ ys) h = (λ i. h.0 i ∷ same_shown f xs ys h.1 i)

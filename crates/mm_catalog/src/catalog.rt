@@ -32,10 +32,12 @@ pub struct Catalog {
     pub(crate) names: IndexSet<String>,
     pub(crate) relations: Vec<Relation>,
     // Where the cells of a row are packed on their way into a table. It keeps its memory from row to row.
-    cells: Vec<StoredCell>,
+    pub(crate) cells: Vec<StoredCell>,
     // Where an update lists the cells that it sets and the links that go. They keep their memory too.
     pub(crate) sets: Vec<(ColumnNumber, StoredCell)>,
     pub(crate) lost: Vec<Link>,
+    // The number of the newest change.
+    pub(crate) clock: u64,
 }
 
 impl Drop for Catalog {
@@ -47,6 +49,7 @@ impl Drop for Catalog {
             cells: _,
             sets: _,
             lost: _,
+            clock: _,
         } = self;
     }
 }
@@ -103,6 +106,7 @@ impl Catalog {
             cells: Vec::new(alloc),
             sets: Vec::new(alloc),
             lost: Vec::new(alloc),
+            clock: 0,
         }
     }
 

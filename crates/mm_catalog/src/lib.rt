@@ -21,6 +21,7 @@ mod before;
 mod by_key;
 mod catalog;
 mod changing_back;
+mod copying;
 mod create;
 mod declare;
 mod delete;
@@ -41,8 +42,10 @@ mod settling;
 mod taking_back;
 mod unindexing;
 mod updating;
+mod versions;
 
 pub use catalog::Catalog;
 pub use dropped_table::{DroppedTable, TableRoom};
 pub use indexes::{IndexShape, TableIndex};
+pub use mm_relation::copy_columns;
 pub use mm_resolver::{MOST_COLUMNS, MOST_CONDITIONS, MOST_ITEMS, MOST_JOINS, MOST_TABLES};

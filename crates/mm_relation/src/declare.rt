@@ -52,6 +52,7 @@ impl Relation {
             rows,
             by_key: Tree::new(alloc),
             indexes: Sequence::new(alloc),
+            version: 0,
         })
     }
 

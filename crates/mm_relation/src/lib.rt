@@ -19,6 +19,7 @@
 
 mod building;
 mod change;
+mod copying;
 mod declare;
 mod in_key_order;
 mod index;
@@ -43,9 +44,11 @@ mod spares;
 mod stored_cell;
 mod taken;
 mod tree;
+mod version;
 mod view;
 mod warming;
 
+pub use copying::copy_columns;
 pub use in_key_order::LEAST_IN_ORDER;
 pub use lin_hash::{HashShape, RowChain};
 pub use linked_keys::LinkedKeys;

@@ -36,6 +36,8 @@ pub struct Relation {
     pub(crate) rows: Rows,
     pub(crate) by_key: Tree,
     pub(crate) indexes: Sequence<IndexOn>,
+    // The number of the newest change of its rows, which its owner gives it.
+    pub(crate) version: u64,
 }
 
 impl Drop for Relation {
@@ -47,6 +49,7 @@ impl Drop for Relation {
             rows: _,
             by_key: _,
             indexes: _,
+            version: _,
         } = self;
     }
 }

@@ -106,6 +106,18 @@ impl Rows {
         }
     }
 
+    // The same rows, each under its reference, in memory of their own.
+    pub fn try_clone(&self) -> Result<Rows, NoMemory>
+        ensures { IfOk result (λ copy. copy ≡ self.now) }
+    {
+        Ok(Rows {
+            store: self.store.try_clone()?,
+            hidden: self.hidden.try_clone()?,
+            hidden_count: self.hidden_count,
+            owed: self.owed,
+        })
+    }
+
     // How many rows more there is room for.
     pub fn free(&self) -> u64
         ensures { result ≡ self.now.free }

@@ -1,6 +1,6 @@
 //! A set of slots of a store, as a bit for each. It gets memory before slots come into it, and keeps that when they have gone
 //! out, so the next ones need none. It knows between which words its slots are.
-ghost use Rattle.std.specs.Prelude.{◌≡◌, ℕ, ◌<◌, ◌≤◌, ◌/◌, [], true, false, length, IsTrue, OnOk};
+ghost use Rattle.std.specs.Prelude.{◌≡◌, ℕ, ◌<◌, ◌≤◌, ◌/◌, [], true, false, length, IfOk, IsTrue, OnOk};
 ghost use Rattle.mm_relation.specs.Rows.{has_slot, ChangesSlot};
 ghost use Rattle.mm_relation.specs.Slots.{HasNoSlot, LieWithin};
 
@@ -53,6 +53,17 @@ impl SlotSet {
             start: 0,
             end: 0,
         }
+    }
+
+    // The same set, in memory of its own.
+    pub fn try_clone(&self) -> Result<SlotSet, NoMemory>
+        ensures { IfOk result (λ copy. copy ≡ self.now) }
+    {
+        Ok(SlotSet {
+            words: Vec::from_slice(*self.words.allocator(), self.words.as_slice())?,
+            start: self.start,
+            end: self.end,
+        })
     }
 
     // Whether a slot is in it: the slot may be any.

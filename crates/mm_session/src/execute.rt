@@ -20,11 +20,12 @@ pub mod search;
 mod select;
 mod sink;
 pub mod told;
+mod versions;
 
 use crate::answer::Answer;
 use mm_catalog::Catalog;
 use mm_transactions::TransactionalCatalog;
-use plain_tables::{Refusal, Resolved};
+use plain_tables::{Refusal, Resolved, TableNumber};
 use plan_chooser::Policy;
 use std::alloc::Global;
 
@@ -94,11 +95,15 @@ impl Executor {
     {
         match command {
             Resolved::Table { name, schema } => {
+                let last = TableNumber(self.tables.catalog().table_count());
                 self.tables.create(name, schema)?;
+                self.tables.note_change(last);
                 answer.set(OK);
             }
             Resolved::DropTable { table } => {
+                let behind = TableNumber(self.tables.catalog().table_count());
                 self.tables.drop_table(table)?;
+                self.tables.note_change(behind);
                 answer.set(OK);
             }
             Resolved::Index {
@@ -119,7 +124,7 @@ impl Executor {
             }
             Resolved::Load { table, rows } => {
                 let count = rows.len();
-                self.tables.load_rows(table, rows)?;
+                self.load(table, rows)?;
                 answer.tell_changed(count);
             }
             other => {

@@ -1,6 +1,6 @@
 //! A session: tables, and a stream of requests that comes in pieces.
 
-ghost use Rattle.std.specs.Prelude.{◌≡◌, ◌≢◌, ◌<◌, ◌≤◌, ◌+◌, ◌^◌, ◌++◌, ◌∷◌, ◌↔◌, [], ℕ, List, Err, Ok, true, false, length, map, IsTrue, IsErrOf, IfNone, IfOk, IfErr, IfSome, OnOk, OnErr};
+ghost use Rattle.std.specs.Prelude.{◌≡◌, ◌≢◌, ◌<◌, ◌≤◌, ◌+◌, ◌^◌, ◌++◌, ◌∷◌, ◌↔◌, [], ℕ, List, Err, Ok, true, false, length, map, position, IsSome, IsTrue, IsErrOf, IfNone, IfOk, IfErr, IfSome, OnOk, OnErr};
 ghost use Rattle.std.specs.Io.KnownBytes.{Keeps};
 
 use crate::answer::Answer;
@@ -55,13 +55,14 @@ impl Model for Session {
 
 impl Session {
     ghost use Rattle.mm_catalog.specs.Seen.{database_of};
+    ghost use Rattle.plain_tables.specs.Databases.{is_named};
     ghost use Rattle.mm_cells.specs.Reading.{AreFull};
     ghost use Rattle.mm_cells.specs.Values.{values_of};
     ghost use Rattle.plain_streams.specs.Division.{IsWhole};
     ghost use Rattle.mm_session.specs.NextRequest.{AnswersLast, AnswersNext, KeepsMore};
     ghost use Rattle.mm_session.specs.Responding.{waits};
     ghost use Rattle.mm_session.specs.OneRequest.{AnswersOne, IsAtSamePlace, StaysInStream, GoesBetween};
-    ghost use Rattle.mm_session.specs.IndexAnswers.{AnswersIndexes};
+    ghost use Rattle.mm_session.specs.IndexAnswers.{AnswersIndexes, TellsNothing};
     ghost use Rattle.mm_session.specs.Reads.{WouldChange};
     ghost use Rattle.mm_session.specs.declared.fault.ReadFault.TheVariants as read_fault;
     ghost use Rattle.plain_tables.specs.Doing.{done};
@@ -151,7 +152,10 @@ impl Session {
         ensures unchanged { OnErr result (self.new ≡ self.old) }
         ensures stream { IsAtSamePlace self.old self.new }
     {
-        self.responder.executor.tables.rollback()
+        let tables = &mut self.responder.executor.tables;
+        let kept = tables.rollback()?;
+        tables.note_all_changed();
+        Ok(kept)
     }
 
     /// Whether the session has ended.
@@ -345,6 +349,20 @@ impl Session {
         executor
             .reading()
             .tell_indexes(executor.tables.catalog(), name, answer)
+    }
+
+    /// The number of the newest change of the table of a name, or of all tables if the name is empty. Each command that changes rows
+    /// of a table raises both, a declaration or a drop of a table that of all tables, and a rollback those of each table. Where nothing
+    /// was changed in between, they are as they were. A table that is declared anew has a greater number than any before it.
+    pub fn version(&self, name: &[u8]) -> Result<u64, Refusal>
+        ensures there { OnOk result (name.now ≢ [] → IsSome (position (is_named name.now) self.now.database)) }
+        ensures refused { IfErr result (TellsNothing self.now.catalog name.now) }
+        ensures named { IfErr result (λ _. name.now ≢ []) }
+    {
+        let executor = &self.responder.executor;
+        executor
+            .reading()
+            .version(executor.tables.catalog(), name)
     }
 
     /// Takes the next bytes of the stream, and answers each request that ends in them.

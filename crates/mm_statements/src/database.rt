@@ -167,6 +167,30 @@ impl Database {
         })
     }
 
+    /// A database of its own with the same tables, and no statements. Its stream begins anew. In a transaction there is none.
+    pub fn try_clone(&self, alloc: Global) -> Result<Database, ShareFault>
+        ensures session { IfOk result (λ d. d.session ≡ new_session self.now.session.limits self.now.session.database d.session.catalog) }
+        ensures tables { IfOk result (λ d. d.session.catalog ≡ self.now.session.catalog) }
+        ensures none { IfOk result (λ d. (number : ℕ) → statement_at d number ≡ None) }
+        ensures alone { IfOk result (λ d. d.shared ≡ false) }
+        ensures open { IsErrOf result share_fault.InTransaction → self.now.session.saved ≢ [] }
+        ensures waits { self.now.session.saved ≢ [] → result ≡ Err share_fault.InTransaction }
+    {
+        if self.held.is_in_transaction() {
+            return Err(ShareFault::InTransaction);
+        }
+        let catalog = self.held.catalog().try_clone(alloc)?;
+        let session = Session::over(alloc, self.policy, catalog)?;
+        Ok(Database {
+            held: SharedSession::new(session),
+            policy: self.policy,
+            statements: Statements::new(alloc),
+            noted: NotedTables::new(alloc),
+            commands: Commands::new(alloc),
+            room: SelectRoom::new(alloc),
+        })
+    }
+
     /// Has another database share the session, in the place of its own, which ends where no third shares it. The other's statements
     /// and their values stay. What is known of their meaning stays where the tables have the names and columns that it was worked out
     /// by. In a transaction of either it is declined.

@@ -283,7 +283,7 @@ impl From<NoMemory> for BeginFault {
     }
 }
 
-/// Why no tables are shared or left. Nothing has changed.
+/// Why no tables are shared, left or copied. Nothing has changed.
 #[derive(Clone, Copy)]
 pub enum ShareFault {
     /// A growth was refused.

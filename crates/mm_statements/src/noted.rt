@@ -5,7 +5,7 @@ ghost use Rattle.plain_tables.specs.ResolvedLaws.{emptied};
 ghost use Rattle.mm_catalog.specs.Seen.{database_of};
 ghost use Rattle.mm_statements.specs.Noted.{noted_table, noted_tables};
 
-use mm_catalog::Catalog;
+use mm_catalog::{Catalog, copy_columns};
 use no_memory::NoMemory;
 use plain_tables::{ColKind, Column, Sequence, TableNumber, Text};
 use std::alloc::Global;
@@ -49,33 +49,6 @@ fn are_same_columns(a: &[Column], b: &[Column]) -> bool
         }
     }
     true
-}
-
-// A copy of a kind.
-fn copy_kind(alloc: Global, kind: &ColKind) -> Result<ColKind, NoMemory>
-    ensures { IfOk result (λ copy. copy ≡ kind.now) }
-{
-    Ok(match kind {
-        ColKind::Int => ColKind::Int,
-        ColKind::Text => ColKind::Text,
-        ColKind::Ref(table) => ColKind::Ref(Text::from_str(alloc, table.as_str())?),
-        ColKind::RefOrNull(table) => ColKind::RefOrNull(Text::from_str(alloc, table.as_str())?),
-    })
-}
-
-// A copy of columns.
-fn copy_columns(alloc: Global, columns: &[Column]) -> Result<Sequence<Column>, NoMemory>
-    ensures { IfOk result (λ copy. copy ≡ columns.now) }
-{
-    let mut copies = Vec::new(alloc);
-    copies.reserve(columns.len())?;
-    for column in columns {
-        copies.push(Column {
-            name: Text::from_str(alloc, column.name.as_str())?,
-            kind: copy_kind(alloc, &column.kind)?,
-        })?;
-    }
-    Ok(Sequence::from_vec(copies))
 }
 
 /// The name and the columns of a table.

@@ -99,6 +99,21 @@ impl TransactionalCatalog {
         self.log.depth()
     }
 
+    /// Counts a change of the table of this number. Where there is none, it is a change of which tables there are. No call that
+    /// changes tables does so by itself.
+    pub fn note_change(&mut self, table: TableNumber)
+        ensures { self.new ≡ self.old }
+    {
+        self.catalog.note_change(table);
+    }
+
+    /// Counts a change of each table, and of which tables there are.
+    pub fn note_all_changed(&mut self)
+        ensures { self.new ≡ self.old }
+    {
+        self.catalog.note_all_changed();
+    }
+
     /// Begins a transaction, in those that are open.
     pub fn begin(&mut self) -> Result<(), NoMemory>
         ensures catalog { self.new.catalog ≡ self.old.catalog }

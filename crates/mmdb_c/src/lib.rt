@@ -19,6 +19,8 @@ ghost use Rattle.mm_session.specs.Refused.{TellsRefusal};
 ghost use Rattle.mmdb_c.specs.Calls.{AreLimits, IsNew, request, Becomes, AnswersRequest, TellsIndexes, TakesPiece, LosesStream, IsAsBefore};
 ghost use Rattle.mmdb_c.specs.Sharing.{IsRequestKeptOff, IsShared, LosesAnswer};
 
+pub mod clone_calls;
+mod cloning;
 pub mod count_calls;
 mod counts;
 mod database;
@@ -37,6 +39,8 @@ pub mod statement_calls;
 mod statements;
 pub mod transaction_calls;
 mod transactions;
+pub mod version_calls;
+mod versions;
 
 use crate::database::OpenDatabase;
 use crate::handle::Handle;

@@ -10,6 +10,7 @@ pub mod Lookup
 pub mod Rows
 pub mod Numbers
 pub mod RowSteps
+pub mod Copied
 pub mod OwnCounts
 pub mod Stocked
 pub mod Filled
@@ -19,6 +20,7 @@ pub mod Bitmaps
 pub mod Sound
 pub mod Parts
 pub mod Tables
+pub mod Kept
 pub mod Mapped
 pub mod Relinked
 pub mod Spared

@@ -7,6 +7,7 @@ pub mod Counted
 pub mod Raw
 pub mod Block
 pub mod Open
+pub mod Copies
 pub mod RawLends
 pub mod BlockLends
 pub mod StoreLends

@@ -41,6 +41,17 @@ impl<T> Block<T> {
         Ok(Block { slots, deed, alloc })
     }
 
+    // A block with no place, beside this one. It takes no memory.
+    pub(crate) fn bare(&self) -> Block<T>
+        ensures { result ≡ [] }
+    {
+        Block {
+            slots: self.slots.none(),
+            deed: no_deed(&self.alloc),
+            alloc: self.alloc,
+        }
+    }
+
     // Gives the memory back. No place is left.
     pub(crate) fn release(&mut self, places: usize)
         requires some { 0 < places }

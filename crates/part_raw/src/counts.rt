@@ -46,6 +46,18 @@ impl Counts {
         Counts { numbers: None }
     }
 
+    // The same numbers.
+    fn try_clone(&self, alloc: Global) -> Result<Counts, AllocError>
+        ensures { IfOk result (λ copy. copy ≡ self.now) }
+    {
+        match &self.numbers {
+            Some(numbers) => Ok(Counts {
+                numbers: Some(Box::new(alloc, **numbers)?),
+            }),
+            None => Ok(Counts::none()),
+        }
+    }
+
     // The count of a slot, which is not read here: 0 where there is none.
     fn at(&self, slot: u32) -> &u64
         requires { slot < SLOTS }
@@ -96,4 +108,15 @@ pub(crate) fn set_counts(counts: &mut Vec<Counts>, part: usize, others: Counts)
     if let Some(numbers) = counts.get_mut(part) {
         *numbers = others;
     }
+}
+
+// The counts of each partition, copied.
+pub(crate) fn copy_counts(counts: &Vec<Counts>, alloc: Global) -> Result<Vec<Counts>, AllocError>
+    ensures { IfOk result (λ copies. copies.items ≡ counts.now.items) }
+{
+    let mut copies = Vec::with_capacity(alloc, counts.len())?;
+    for numbers in counts {
+        copies.push_reserved(numbers.try_clone(alloc)?);
+    }
+    Ok(copies)
 }

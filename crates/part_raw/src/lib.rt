@@ -42,6 +42,7 @@
 
 mod bitmap;
 mod block;
+mod copying;
 mod counts;
 mod partition;
 mod raw;
@@ -49,6 +50,7 @@ mod row;
 mod store;
 mod tuple_ref;
 
+pub use copying::TryClone;
 pub use store::Partitions;
 pub use tuple_ref::TupleRef;
 

@@ -107,6 +107,13 @@ pub(crate) fn let_go<T, A: Allocator>(slots: Slots<T>, deed: Deed<T, A>)
 impl<T> Slots<T> {
     ghost use Rattle.part_raw.specs.RawLends.{LendsRun};
 
+    // No slot, at the place of these.
+    pub(crate) fn none(&self) -> Slots<T>
+        ensures { result.held ≡ [] }
+    {
+        Slots { ptr: self.ptr }
+    }
+
     // Writes a tuple into an empty slot.
     pub(crate) fn write(&mut self, slot: usize, tuple: T)
         requires within { slot < length self.old.held }

@@ -10,6 +10,8 @@ ghost use Rattle.part_raw.specs.Layout.{is_set, tuples_of, vacancies};
 ghost use Rattle.part_raw.specs.TupleRefs.{part_of};
 ghost use Rattle.part_raw.specs.Open.{AreKept, HaveCounts, HoldsWhereBlock, IsOpenList, Tells, below, has_block_at, next_at, tables};
 
+mod copies;
+
 use crate::bitmap::Bitmap;
 use crate::block::Block;
 use crate::counts::{Counts, count_at, set_count_at, set_counts};

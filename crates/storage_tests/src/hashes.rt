@@ -1,5 +1,5 @@
-//! Ten thousand random changes of a linear hash, of a hash of rows, and of the plain bag beside them; and what a linear
-//! hash holds.
+//! Ten thousand random changes of a linear hash, of a hash of rows, and of the plain bag beside them; what a linear hash
+//! holds; and what a copy of a hash of rows has.
 ghost use Rattle.std.specs.Prelude.{Contains, IfOk};
 ghost use Rattle.std.specs.Bool.{OnTrue};
 
@@ -225,5 +225,46 @@ fn hash_nodes_are_given_back(rt: HostRuntime) -> Result<(), Fail> {
     println!(rt; "held: emptied again")?;
     drop(index);
     println!(rt; "held: dropped")?;
+    Ok(())
+}
+
+// The rows with a hash, in rising order.
+fn rows_of(alloc: Global, index: &RowHash, hash: u32) -> Result<Vec<u32>, NoMemory> {
+    let mut found = Vec::new(alloc);
+    index.matching(hash, &mut found)?;
+    sorted(alloc, found.as_slice())
+}
+
+#[test]
+fn a_copy_of_a_row_hash_stands_alone(rt: HostRuntime) -> Result<(), Fail> {
+    let mut index = RowHash::new(rt.alloc());
+    for number in 0..600 {
+        add_row(&mut index, number % 7, numbered(number))?;
+    }
+    let mut copy = index.try_clone()?;
+    assert!(&rt; copy.len() == 600 && copy.buckets() == index.buckets());
+    assert!(&rt; copy.heads() == index.heads());
+    assert!(&rt;
+        rows_of(rt.alloc(), &copy, 3)?.as_slice() == rows_of(rt.alloc(), &index, 3)?.as_slice()
+    );
+    let r = numbered(3);
+    assert!(&rt; copy.holds(r));
+    copy.remove(r);
+    add_row(&mut index, 5, numbered(600))?;
+    assert!(&rt; !copy.holds(r) && !copy.holds(numbered(600)) && copy.len() == 599);
+    assert!(&rt; index.holds(r) && index.holds(numbered(600)) && index.len() == 601);
+    assert!(&rt;
+        rows_of(rt.alloc(), &index, 3)?.len() == 86 && rows_of(rt.alloc(), &copy, 3)?.len() == 85
+    );
+    Ok(())
+}
+
+#[test]
+fn a_copy_of_an_empty_row_hash_is_empty(rt: HostRuntime) -> Result<(), Fail> {
+    let index = RowHash::new(rt.alloc());
+    let mut copy = index.try_clone()?;
+    assert!(&rt; copy.len() == 0 && copy.heads() == 0 && copy.buckets() == 4);
+    add_row(&mut copy, 1, numbered(0))?;
+    assert!(&rt; copy.len() == 1 && index.len() == 0);
     Ok(())
 }

@@ -1,5 +1,6 @@
 pub mod Borrowing
 pub mod Climbing
+pub mod Copies
 pub mod Counting
 pub mod Cuts
 pub mod Descent

@@ -47,7 +47,11 @@ fn around_middle<const MAX: usize>(refs: &[TupleRef]) -> (&[TupleRef], &[TupleRe
 }
 
 // Hangs a leaf with these references on an open side of the place, or makes it the root, and goes there.
-fn hang_leaf<const MAX: usize>(editor: &mut Editor<'_, MAX>, side: Side, refs: &[TupleRef])
+pub(crate) fn hang_leaf<const MAX: usize>(
+    editor: &mut Editor<'_, MAX>,
+    side: Side,
+    refs: &[TupleRef],
+)
     requires fits { is_node (position editor.old).here ≡ hangs_on_node side }
     requires open { is_node (child side (position editor.old).here) ≡ false }
     requires some { 0 < length refs.now }

@@ -15,6 +15,7 @@
 mod asking;
 mod balance;
 mod build;
+mod copying;
 mod index;
 mod insert;
 mod removal;

@@ -8,6 +8,7 @@ ghost use Rattle.mm_index.specs.Range.{NeverFalls, in_range, from_range};
 
 use crate::asking::Seek;
 use crate::build::build;
+use crate::copying::copy;
 use crate::insert::{insert_last, insert_unless_found};
 use crate::removal::remove;
 use crate::search::locate;
@@ -104,6 +105,21 @@ impl<const MIN: usize, const MAX: usize> TTree<MIN, MAX> {
             len: refs.len(),
             nodes,
             searches: 0,
+        })
+    }
+
+    /// The same tree again: each node with its references, and as many spare nodes. It takes memory for these and no more, which
+    /// it gives back if that runs out. It asks about no reference.
+    pub fn try_clone(&self) -> Result<TTree<MIN, MAX>, NoMemory>
+        ensures { IfOk result (λ copy. copy ≡ self.now) }
+    {
+        let mut tree = self.tree.room_for_copy(self.nodes)?;
+        copy(tree.nodes_mut(), &self.tree.look());
+        Ok(TTree {
+            tree,
+            len: self.len,
+            nodes: self.nodes,
+            searches: self.searches,
         })
     }
 

@@ -32,6 +32,7 @@
 #![tactic(auto)]
 
 mod begin;
+mod copying;
 mod editor;
 mod edits;
 mod ends;

@@ -1,5 +1,5 @@
 //! A tree with spare nodes, as the T-tree sees it: where the nodes lie is hidden.
-ghost use Rattle.std.specs.Prelude.{◌≡◌, ◌+◌, ◌<◌, [], max, OnOk, OnErr};
+ghost use Rattle.std.specs.Prelude.{◌≡◌, ◌+◌, ◌<◌, ◌≤◌, [], max, IfOk, OnOk, OnErr};
 ghost use Rattle.std.specs.Borrow.{sem};
 
 use crate::linked_nodes::LinkedNodes;
@@ -69,6 +69,16 @@ impl<const MAX: usize> LinkedTree<MAX> {
         ensures spares { self.new.spares ≡ 0 }
     {
         self.nodes.release_spares();
+    }
+
+    /// An empty tree with `nodes` spare nodes: room for a copy of this one, if they are as many as its own.
+    pub fn room_for_copy(&self, nodes: usize) -> Result<LinkedTree<MAX>, NoMemory>
+        requires { nodes ≤ size self.now.tree + self.now.spares }
+        ensures tree { IfOk result (λ room. room.tree ≡ empty) }
+        ensures spares { IfOk result (λ room. room.spares ≡ nodes) }
+    {
+        let nodes = self.nodes.room_for_copy(nodes)?;
+        Ok(LinkedTree { nodes })
     }
 
     /// The root of the tree, to be read.

@@ -26,6 +26,9 @@ fn t_tree_nodes_are_given_back(rt: HostRuntime) -> Result<(), Fail> {
     flip_all(&mut tree)?;
     tree.release_spares();
     println!(rt; "held: full")?;
+    let copy = tree.try_clone()?;
+    println!(rt; "held: copied")?;
+    drop(copy);
     tree.reserve(1_000)?;
     println!(rt; "held: reserved")?;
     tree.release_spares();

@@ -9,6 +9,7 @@ use part_raw::TupleRef;
 use std::alloc::Global;
 use std::cmp::Ordering;
 use std::marker::Model;
+use ttree::TTree;
 
 fn keyed(key: u32) -> TupleRef
     ensures { result.number ≡ key }
@@ -140,5 +141,13 @@ impl<I: OrderedIndex> Keys<I> {
         let mut found = Vec::new(alloc);
         self.index.range(&mut probe, &mut found)?;
         Ok(found)
+    }
+}
+
+impl<const MIN: usize, const MAX: usize> Keys<TTree<MIN, MAX>> {
+    pub fn try_clone(&self) -> Result<Keys<TTree<MIN, MAX>>, NoMemory> {
+        Ok(Keys {
+            index: self.index.try_clone()?,
+        })
     }
 }

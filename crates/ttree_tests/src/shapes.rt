@@ -238,3 +238,43 @@ fn trees_have_their_shapes(rt: HostRuntime) {
         assert_eq!(rt; first_misshapen(rt.alloc(), run), Ok(None));
     }
 }
+
+// Whether a tree is as it should be after a step.
+fn stands(tree: &TTree<2, 3>, step: &Step) -> bool {
+    tree.height() == step.height && tree.len() == step.len && has_nodes(tree, step.nodes)
+}
+
+// Whether a tree stands as its copy is changed, and another copy of it as the tree is changed.
+fn are_apart(tree: &mut Keys<TTree<2, 3>>, step: &Step) -> Result<bool, NoMemory> {
+    let mut changed = tree.try_clone()?;
+    flip_all(&mut changed, step.flipped)?;
+    if !stands(&tree.index, step) {
+        return Ok(false);
+    }
+    let kept = tree.try_clone()?;
+    let had = (tree.index.nodes(), tree.index.spares());
+    flip_all(tree, step.flipped)?;
+    let both = tree.index.walk().eq(changed.index.walk());
+    let has = (kept.index.nodes(), kept.index.spares());
+    *tree = kept;
+    Ok(both && has == had && stands(&tree.index, step))
+}
+
+// The number of the first step after which a copy of the tree has another shape, or shares a change.
+fn first_miscopied(alloc: Global, steps: &[Step]) -> Result<Option<usize>, NoMemory> {
+    let mut tree = Keys::new(TTree::new(alloc).try_clone()?);
+    for (number, step) in steps.iter().enumerate() {
+        flip_all(&mut tree, step.flipped)?;
+        if !are_apart(&mut tree, step)? {
+            return Ok(Some(number));
+        }
+    }
+    Ok(None)
+}
+
+#[test]
+fn copies_have_their_shapes(rt: HostRuntime) {
+    for run in RUNS {
+        assert_eq!(rt; first_miscopied(rt.alloc(), run), Ok(None));
+    }
+}

@@ -18,6 +18,15 @@ use plain_tables::{Assignment, Refusal, Resolved, Sequence, TableNumber, Test, V
 use plan_chooser::Policy;
 use std::alloc::Global;
 
+// Counts the change of so many rows of a table as one. Of no rows it is none.
+fn note_rows(tables: &mut TransactionalCatalog, table: TableNumber, rows: usize)
+    ensures { tables.new ≡ tables.old }
+{
+    if rows > 0 {
+        tables.note_change(table);
+    }
+}
+
 // Sets values in the rows of a table that pass the tests, and tells how many these are. After a refusal the tables are as before.
 fn update_rows(
     alloc: Global,
@@ -34,7 +43,9 @@ fn update_rows(
 {
     let rows = rows_passing(alloc, policy, tables.catalog(), table, tests)?;
     tables.update(table, &rows, assignments)?;
-    Ok(rows.len())
+    let count = rows.len();
+    note_rows(tables, table, count);
+    Ok(count)
 }
 
 // Takes out the rows of a table that pass the tests, and tells how many these are. After a refusal the tables are as before. Where a
@@ -54,7 +65,9 @@ fn delete_rows(
 {
     let rows = rows_passing(alloc, policy, tables.catalog(), table, tests)?;
     tables.delete(table, &rows)?;
-    Ok(rows.len())
+    let count = rows.len();
+    note_rows(tables, table, count);
+    Ok(count)
 }
 
 impl Executor {
@@ -66,7 +79,9 @@ impl Executor {
         ensures unchanged { OnErr result (self.new.tables.catalog ≡ self.old.tables.catalog) }
         ensures saved { saved_of self.new.tables ≡ saved_of self.old.tables }
     {
-        self.tables.insert(table, values)
+        self.tables.insert(table, values)?;
+        self.tables.note_change(table);
+        Ok(())
     }
 
     /// Puts rows into a table, all of them or none. After a refusal the tables are as before.
@@ -80,7 +95,10 @@ impl Executor {
         ensures refused { IfErr result (IsDeclinedFor self.old.tables.catalog self.new.tables.catalog (done self.old.tables.catalog.limits (database_of self.old.tables.catalog) (resolved.Load table rows))) }
         ensures saved { saved_of self.new.tables ≡ saved_of self.old.tables }
     {
-        self.tables.load_rows(table, rows)
+        let count = rows.len();
+        self.tables.load_rows(table, rows)?;
+        note_rows(&mut self.tables, table, count);
+        Ok(())
     }
 
     /// Does an insert, an update or a delete, and tells how many rows it is about. After a refusal the tables are as before.

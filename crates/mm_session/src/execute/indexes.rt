@@ -133,7 +133,7 @@ impl ReadExecutor {
     }
 
     // The table of a name.
-    fn table_named(&self, catalog: &Catalog, name: &[u8]) -> Result<TableNumber, Refusal>
+    pub fn table_named(&self, catalog: &Catalog, name: &[u8]) -> Result<TableNumber, Refusal>
         ensures found { IfOk result (λ table. position (is_named name.now) (database_of catalog.now) ≡ Some table.0) }
         ensures refused { IfErr result (TellsNothing catalog.now name.now) }
     {

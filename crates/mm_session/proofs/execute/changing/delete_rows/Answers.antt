@@ -37,9 +37,10 @@ returns-clause-done c =
     let are : ArePassing old c.args.table.0 c.args.tests.now c.deref.result.now =
     subst (λ (k : CatalogState). ArePassing k c.args.table.0 c.args.tests.now c.deref.result.now) c.catalog.ensures
     (subst (ArePassing c.catalog.result.now c.args.table.0 c.args.tests.now) (sym c.deref.ensures) c.in_ok-rows.ensures.passing) in
-    let counted : length c.deref.result.now ≡ c.len.result = search (rules, c.deref.ensures) in
-    subst (HasEffect old c.delete.new.self.catalog (done old.limits (database_of old) (resolved.Delete c.args.table c.args.tests.now))) counted
-    (c.in_ok-delete.ensures.deleted (passes_all c.args.tests.now) are.picks)
+    let counted : length c.deref.result.now ≡ c.len-count.result = search (rules, c.deref.ensures) in
+    rw c.note_rows.ensures
+    (subst (HasEffect old c.delete.new.self.catalog (done old.limits (database_of old) (resolved.Delete c.args.table c.args.tests.now))) counted
+    (c.in_ok-delete.ensures.deleted (passes_all c.args.tests.now) are.picks))
 
 pub returns-in_err-delete-clause-by_key : goal.returns-in_err-delete-clause-by_key
 returns-in_err-delete-clause-by_key c = λ none one is.

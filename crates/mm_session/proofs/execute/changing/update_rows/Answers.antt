@@ -33,6 +33,7 @@ returns-clause-done c =
     let are : ArePassing old c.args.table.0 c.args.tests.now c.deref.result.now =
     subst (λ (k : CatalogState). ArePassing k c.args.table.0 c.args.tests.now c.deref.result.now) c.catalog.ensures
     (subst (ArePassing c.catalog.result.now c.args.table.0 c.args.tests.now) (sym c.deref.ensures) c.in_ok-rows.ensures.passing) in
-    let counted : length c.deref.result.now ≡ c.len.result = search (rules, c.deref.ensures) in
-    subst (HasEffect old c.update.new.self.catalog (done old.limits (database_of old) (resolved.Update c.args.table c.args.assignments.now c.args.tests.now))) counted
-    (c.in_ok-update.ensures.updated (passes_all c.args.tests.now) are.picks)
+    let counted : length c.deref.result.now ≡ c.len-count.result = search (rules, c.deref.ensures) in
+    rw c.note_rows.ensures
+    (subst (HasEffect old c.update.new.self.catalog (done old.limits (database_of old) (resolved.Update c.args.table c.args.assignments.now c.args.tests.now))) counted
+    (c.in_ok-update.ensures.updated (passes_all c.args.tests.now) are.picks))

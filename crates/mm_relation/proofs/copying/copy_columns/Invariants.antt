@@ -1,5 +1,5 @@
 use Rattle.std.proofs.Common.{◌≡◌, take}
-use Rattle.mm_statements.proofs.noted.copy_columns.Given as goal
+use Rattle.mm_relation.proofs.copying.copy_columns.Given as goal
 
 -- so many columns are copied
 abbrev pub invariant-loop-column : goal.invariant-loop-column
