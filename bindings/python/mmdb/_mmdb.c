@@ -381,6 +381,21 @@ static PyObject *handle_indexes(PyObject *self, PyObject *given)
     return told(handle, status, answer);
 }
 
+static PyObject *handle_version(PyObject *self, PyObject *given)
+{
+    Handle *handle = (Handle *)self;
+    PyObject *table;
+    uint64_t version;
+    if (!PyArg_ParseTuple(given, "S", &table))
+        return NULL;
+    mmdb_bytes name = content_of(table);
+    uint32_t status = mmdb_version(&handle->db, name.at, name.length, &version);
+    if (status == MMDB_DONE)
+        return PyLong_FromUnsignedLongLong(version);
+    mmdb_bytes answer = { NULL, 0 };
+    return told(handle, status == MMDB_REFUSED ? mmdb_answer(&handle->db, &answer) : status, answer);
+}
+
 static PyObject *handle_plan(PyObject *self, PyObject *given)
 {
     Handle *handle = (Handle *)self;
@@ -415,6 +430,24 @@ static PyObject *handle_reason(PyObject *self, PyObject *given)
     if (words.length == 0)
         return none();
     return PyUnicode_DecodeUTF8((const char *)words.at, (Py_ssize_t)words.length, "strict");
+}
+
+static PyObject *handle_clone(PyObject *self, PyObject *given)
+{
+    Handle *handle = (Handle *)self;
+    PyObject *copy;
+    uint32_t status;
+    if (!PyArg_ParseTuple(given, "O!", handle_type, &copy))
+        return NULL;
+    mmdb *into = &((Handle *)copy)->db;
+    Py_BEGIN_ALLOW_THREADS
+    mmdb_close(into);
+    status = mmdb_clone(&handle->db, into);
+    Py_END_ALLOW_THREADS
+    if (status == MMDB_DONE)
+        return none();
+    handle_failed(handle, status);
+    return NULL;
 }
 
 /* Takes a step with a handle, by one of the calls of the library. */
@@ -527,6 +560,8 @@ static PyMethodDef handle_methods[] = {
     { "_command", handle_command, METH_VARARGS, "What is answered to a line." },
     { "_load", handle_load, METH_VARARGS, "What is answered to a line with its block." },
     { "_indexes", handle_indexes, METH_VARARGS, "What is answered to who asks how the indexes of a table stand." },
+    { "_version", handle_version, METH_VARARGS,
+      "The number of the newest change of a table, or of all if its name is empty; or the refusal." },
     { "_plan", handle_plan, METH_VARARGS, "The plan of the select in a line, or the refusal of the line." },
     { "_reason", handle_reason, METH_VARARGS, "Why the line that was just answered was refused, with its block." },
     { "_begin", handle_begin, METH_NOARGS, "Begins a transaction." },
@@ -539,6 +574,7 @@ static PyMethodDef handle_methods[] = {
     { "_renew_turn", handle_renew_turn, METH_NOARGS,
       "Gives a new turn in a child of fork, where the threads that had the turn aren't, but for this one." },
     { "_share", handle_share, METH_VARARGS, "Has another handle share the tables, in the place of its own." },
+    { "_clone", handle_clone, METH_VARARGS, "Gives another handle, which has no statements, a copy of the tables." },
     { "_leave", handle_leave, METH_NOARGS, "Leaves the tables, and has none then." },
     { "_forget", handle_forget, METH_NOARGS, "Forgets what is known of the columns of statements." },
     { NULL, NULL, 0, NULL },

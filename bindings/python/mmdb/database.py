@@ -100,8 +100,24 @@ class Database(Handle):
     def __exit__(self, *_: object) -> None:
         self.close()
 
+    def __copy__(self) -> Database:
+        """A database of its own with the same tables, rows and indexes, for `copy.copy`.
+
+        They are copied as they lie in memory, and not by a dump. Raises `InTransaction` in a transaction.
+        """
+        copied = Database(block=self._block)
+        try:
+            with self._turn:
+                self._clone(copied)
+        except BaseException:
+            copied.close()
+            raise
+        if self._converters:
+            copied._read_by(self._converters)
+        return copied
+
     def __reduce__(self) -> Any:
-        raise TypeError("mmdb: a Database has no copies")
+        raise TypeError("mmdb: a Database isn't pickled; copy.copy makes a copy of one")
 
     if TYPE_CHECKING:
         # (these are those of the handle, so that what goes well doesn't come by here)
@@ -417,6 +433,20 @@ class Database(Handle):
         """
         with self._turn:
             return self._indexes_of(table)
+
+    def version(self, table: str = "") -> int:
+        """The number of the newest change of a table's rows, or of all tables if none is named.
+
+        Each command that changes rows raises it, so whoever keeps something beside a table sees by it that this is old. A rollback
+        raises that of every table, and what is refused raises none. Raises `Refused` if there is no such table.
+        """
+        name = encoded(table)
+        with self._turn:
+            version = self._version(name)
+            if isinstance(version, bytes):
+                # (a dump is refused for the same reason)
+                raise refusal_of(version, name, self._reason(b"dump " + name, b""))
+        return version
 
     def plan(self, line: str, /, *parameters: Any, **named: Any) -> List[str]:
         """The plan of a select, in words for people: a step in each line. The select is not done.

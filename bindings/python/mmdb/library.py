@@ -10,7 +10,7 @@ import os
 import struct
 import threading
 from collections import OrderedDict
-from typing import Any, List, Optional, Sequence, Tuple
+from typing import Any, List, Optional, Sequence, Tuple, Union
 
 from .errors import WrongUse
 from .lines import Placed
@@ -117,6 +117,7 @@ _OPEN = _call(_LIBRARY, "mmdb_open", _NUMBER, _ADDRESS, _NUMBER, _NUMBER, _NUMBE
 _COMMAND = _call(_LIBRARY, "mmdb_command", _NUMBER, _ADDRESS, _ADDRESS, _SIZE, _ADDRESS)
 _LOAD = _call(_LIBRARY, "mmdb_load", _NUMBER, _ADDRESS, _ADDRESS, _SIZE, _ADDRESS, _SIZE, _ADDRESS)
 _INDEXES = _call(_LIBRARY, "mmdb_indexes", _NUMBER, _ADDRESS, _ADDRESS, _SIZE, _ADDRESS)
+_VERSION = _call(_LIBRARY, "mmdb_version", _NUMBER, _ADDRESS, _ADDRESS, _SIZE, _ADDRESS)
 _PLAN = _call(_LIBRARY, "mmdb_plan", _NUMBER, _ADDRESS, _ADDRESS, _SIZE, _ADDRESS)
 _ANSWER = _call(_LIBRARY, "mmdb_answer", _NUMBER, _ADDRESS, _ADDRESS)
 _REASON = _call(_LIBRARY, "mmdb_reason", _NUMBER, _ADDRESS, _ADDRESS, _SIZE, _ADDRESS, _SIZE, _ADDRESS)
@@ -127,6 +128,7 @@ _COMMIT = _call(_LIBRARY, "mmdb_commit", _NUMBER, _ADDRESS)
 _ROLLBACK = _call(_LIBRARY, "mmdb_rollback", _NUMBER, _ADDRESS)
 _TRANSACTIONS = _call(_LIBRARY, "mmdb_transactions", _SIZE, _ADDRESS)
 _SHARE = _call(_LIBRARY, "mmdb_share", _NUMBER, _ADDRESS, _ADDRESS)
+_CLONE = _call(_LIBRARY, "mmdb_clone", _NUMBER, _ADDRESS, _ADDRESS)
 _LEAVE = _call(_LIBRARY, "mmdb_leave", _NUMBER, _ADDRESS)
 _CLOSE = _call(_LIBRARY, "mmdb_close", None, _ADDRESS)
 _PREPARE = _call(_LIBRARY, "mmdb_prepare", _NUMBER, _ADDRESS, _ADDRESS, _SIZE, _ADDRESS)
@@ -284,6 +286,15 @@ class Handle:
         status = _INDEXES(self._at, table, len(table), self._told_at)
         return self._unanswered(status) if status else self._told_bytes()
 
+    def _version(self, table: bytes) -> Union[int, bytes]:
+        """The number of the newest change of a table, or of all if its name is empty; or the refusal."""
+        given = ctypes.c_uint64()
+        status = _VERSION(self._at, table, len(table), ctypes.addressof(given))
+        if status == _REFUSED:
+            _ANSWER(self._at, self._told_at)
+            return self._told_bytes()
+        return self._unanswered(status) if status else given.value
+
     def _plan(self, line: bytes) -> bytes:
         """The plan of the select in a line, or the refusal of the line."""
         status = _PLAN(self._at, line, len(line), self._told_at)
@@ -323,6 +334,11 @@ class Handle:
     def _share(self, reader: Handle) -> None:
         """Has another handle share the tables, in the place of its own. It wants the turns of both."""
         self._check(_SHARE(self._at, reader._at))
+
+    def _clone(self, copy: Handle) -> None:
+        """Gives another handle, which has no statements, a copy of the tables."""
+        _CLOSE(copy._at)
+        self._check(_CLONE(self._at, copy._at))
 
     def _leave(self) -> None:
         """Leaves the tables, and has none then."""

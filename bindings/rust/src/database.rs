@@ -298,6 +298,49 @@ impl Database {
         self.session.indexes(table, indexes_of)
     }
 
+    /// A database of its own with the same tables, rows and indexes, under the same limits. They are copied as they lie in memory.
+    /// [`Error::InTransaction`] in a transaction.
+    ///
+    /// ```
+    /// let db = mmdb::Database::open_in_memory()?;
+    /// db.execute("table t (id int)", [])?;
+    ///
+    /// let copy = db.try_clone()?;
+    /// copy.execute("insert t (1)", [])?;
+    /// assert_eq!((copy.count("select * from t", [])?, db.count("select * from t", [])?), (1, 0));
+    /// # Ok::<(), mmdb::Error>(())
+    /// ```
+    pub fn try_clone(&self) -> Result<Database> {
+        Ok(Database::over(self.handle().try_clone()?, self.limits))
+    }
+
+    /// The number of the newest change of any table. Each command that changes rows raises it, so whoever keeps something beside
+    /// the tables sees by it that this is old. What is refused doesn't raise it.
+    ///
+    /// ```
+    /// let db = mmdb::Database::open_in_memory()?;
+    /// db.execute("table t (id int)", [])?;
+    /// db.execute("table u (id int)", [])?;
+    ///
+    /// let (before, of_t, of_u) = (db.version()?, db.table_version("t")?, db.table_version("u")?);
+    /// db.execute("insert t (1)", [])?;
+    /// assert!(db.version()? > before && db.table_version("t")? > of_t);
+    /// assert_eq!(db.table_version("u")?, of_u);
+    /// # Ok::<(), mmdb::Error>(())
+    /// ```
+    pub fn version(&self) -> Result<u64> {
+        self.session.version("")
+    }
+
+    /// The number of the newest change of a table's rows. A rollback raises that of every table.
+    pub fn table_version(&self, table: &str) -> Result<u64> {
+        match table {
+            // An empty name would stand for all tables; it is refused as a dump of no table is.
+            "" => Err(self.why_not("dump ".to_string())),
+            _ => self.session.version(table),
+        }
+    }
+
     /// The plan of a select, in words for people: a step in each line. The select isn't done.
     ///
     /// ```

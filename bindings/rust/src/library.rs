@@ -121,6 +121,7 @@ extern "C" {
     fn mmdb_count(db: *mut Inside, statement: u32, count: *mut u64) -> u32;
     fn mmdb_finalize(db: *mut Inside, statement: u32) -> u32;
     fn mmdb_indexes(db: *mut Inside, table: *const u8, length: usize, answer: *mut Told) -> u32;
+    fn mmdb_version(db: *mut Inside, table: *const u8, length: usize, version: *mut u64) -> u32;
     fn mmdb_plan(db: *mut Inside, line: *const u8, length: usize, answer: *mut Told) -> u32;
     fn mmdb_answer(db: *mut Inside, answer: *mut Told) -> u32;
     fn mmdb_reason(
@@ -138,6 +139,7 @@ extern "C" {
     fn mmdb_rollback(db: *mut Inside) -> u32;
     fn mmdb_transactions(db: *mut Inside) -> usize;
     fn mmdb_share(db: *mut Inside, reader: *mut Inside) -> u32;
+    fn mmdb_clone(db: *mut Inside, copy: *mut Inside) -> u32;
     fn mmdb_leave(reader: *mut Inside) -> u32;
     fn mmdb_close(db: *mut Inside);
 }
@@ -205,6 +207,15 @@ impl Handle {
         without_line(unsafe { mmdb_share(self.inside.get(), &mut reader) }).map(|()| Handle::over(reader))
     }
 
+    /// Another handle with a copy of the tables.
+    pub(crate) fn try_clone(&self) -> Result<Handle, Error> {
+        let mut copy = Inside {
+            inside: ptr::null_mut(),
+        };
+        // SAFETY: as of `share`.
+        without_line(unsafe { mmdb_clone(self.inside.get(), &mut copy) }).map(|()| Handle::over(copy))
+    }
+
     /// Has another open handle share the tables, in the place of its own.
     pub(crate) fn share_with(&self, reader: &Handle) -> Result<(), Error> {
         if ptr::eq(self, reader) {
@@ -246,6 +257,21 @@ impl Handle {
         let db = self.inside.get();
         // SAFETY: as of `command`.
         self.answered(|told| unsafe { mmdb_indexes(db, table.as_ptr(), table.len(), told) })
+    }
+
+    /// The number of the newest change of a table, or of all if its name is empty. A refusal is the answer, which else has no bytes.
+    pub(crate) fn version(&self, table: &[u8]) -> Result<u64, Error> {
+        let db = self.inside.get();
+        let mut version = 0;
+        self.answered(|told| {
+            // SAFETY: as of `command`.
+            match unsafe { mmdb_version(db, table.as_ptr(), table.len(), &mut version) } {
+                // SAFETY: the handle is open.
+                IS_DONE | REFUSED => unsafe { mmdb_answer(db, told) },
+                status => status,
+            }
+        })?;
+        Ok(version)
     }
 
     /// Asks for the plan of the select in a line. A refusal is an answer too.

@@ -114,6 +114,21 @@ impl Reader<'_> {
         self.database.plan(line, params)
     }
 
+    /// A database of its own with a copy of the tables.
+    pub fn try_clone(&self) -> Result<Database> {
+        self.database.try_clone()
+    }
+
+    /// The number of the newest change of any table, which is that of the tables' owner.
+    pub fn version(&self) -> Result<u64> {
+        self.database.version()
+    }
+
+    /// The number of the newest change of a table's rows.
+    pub fn table_version(&self, table: &str) -> Result<u64> {
+        self.database.table_version(table)
+    }
+
     /// The state of the indexes of a table.
     pub fn indexes(&self, table: &str) -> Result<Vec<Index>> {
         self.database.indexes(table)

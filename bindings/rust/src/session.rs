@@ -94,6 +94,14 @@ impl Session {
         self.accepted(table, &dump, &[], read)
     }
 
+    /// The number of the newest change of a table, where it is there, or of all if its name is empty.
+    pub(crate) fn version(&self, table: &str) -> Result<u64> {
+        let version = self.handle.version(table.as_bytes())?;
+        // A dump is refused for the same reason.
+        let dump = format!("dump {table}");
+        self.accepted(table, &dump, &[], |_| version)
+    }
+
     pub(crate) fn handle(&mut self) -> &mut Handle {
         &mut self.handle
     }

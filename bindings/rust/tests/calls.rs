@@ -30,6 +30,29 @@ fn outcomes_of_commands() {
 }
 
 #[test]
+fn changes_raise_the_numbers_of_tables() {
+    let mut db = with_table();
+    db.execute("table u (id int)", []).unwrap();
+    let versions = |db: &Database| {
+        (
+            db.version().unwrap(),
+            db.table_version("t").unwrap(),
+            db.table_version("u").unwrap(),
+        )
+    };
+    let before = versions(&db);
+    db.execute("insert t (1, 'a')", []).unwrap();
+    assert_eq!(number(db.execute("insert t (1, 'b')", [])), Some(41));
+    let after = versions(&db);
+    assert!(after.0 > before.0 && after.1 > before.1 && after.2 == before.2);
+    let readers = db.readers();
+    assert_eq!(readers.reader().unwrap().table_version("t"), Ok(after.1));
+    for (name, why) in [("v", 30), ("a_name_that_takes_memory", 30), ("", 20)] {
+        assert_eq!(number(db.table_version(name)), Some(why), "{name}");
+    }
+}
+
+#[test]
 fn how_indexes_stand() {
     let db = open();
     db.execute("table t (id int, n int)", []).unwrap();

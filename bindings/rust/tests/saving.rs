@@ -113,6 +113,20 @@ impl Drop for Room {
 }
 
 #[test]
+fn a_copy_goes_its_own_way() {
+    let mut db = company(mmdb::MOST);
+    let copy = db.try_clone().unwrap();
+    assert_eq!((saved(&copy), rows(&copy)), (saved(&db), rows(&db)));
+    copy.execute("drop table part", []).unwrap();
+    copy.execute("insert none (1)", []).unwrap();
+    assert_eq!(saved(&db), SAVED);
+    let of_reader = db.readers().reader().unwrap().try_clone().unwrap();
+    assert_eq!(saved(&of_reader), SAVED);
+    let transaction = db.transaction().unwrap();
+    assert_eq!(transaction.try_clone().err(), Some(Error::InTransaction));
+}
+
+#[test]
 fn a_company_is_saved_and_restored() {
     let db = company(mmdb::MOST);
     assert_eq!(saved(&db), SAVED);
