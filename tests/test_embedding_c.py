@@ -17,9 +17,12 @@ STATEMENTS = {
     *("mmdb_prepare", "mmdb_bind_integer", "mmdb_bind_text", "mmdb_bind_null"),
     *("mmdb_execute", "mmdb_execute_many", "mmdb_columns", "mmdb_count", "mmdb_finalize"),
 }
-LINES = {"mmdb_command", "mmdb_load", "mmdb_query", "mmdb_feed", "mmdb_indexes", "mmdb_plan", "mmdb_answer", "mmdb_refusal"}
+LINES = {
+    *("mmdb_command", "mmdb_load", "mmdb_query", "mmdb_feed", "mmdb_answer", "mmdb_refusal"),
+    *("mmdb_indexes", "mmdb_version", "mmdb_plan"),
+}
 REASONS = {"mmdb_reason", "mmdb_prepare_reason", "mmdb_statement_reason"}
-SHARING = {"mmdb_share", "mmdb_leave"}
+SHARING = {"mmdb_share", "mmdb_leave", "mmdb_clone"}
 TRANSACTIONS = {"mmdb_begin", "mmdb_commit", "mmdb_rollback", "mmdb_transactions"}
 EXPORTS = {"mmdb_open", "mmdb_close", *STATEMENTS, *LINES, *REASONS, *SHARING, *TRANSACTIONS}
 C_STANDARDS, CPP_STANDARDS = ("c99", "c11", "c17", "c2x"), ("c++11", "c++14", "c++17", "c++20")
@@ -164,6 +167,12 @@ class Embedding(compiling.Programs):
 
     def test_each_select_is_counted(self):
         self.check_program("counts")
+
+    def test_changes_raise_the_numbers_of_tables(self):
+        self.check_program("versions")
+
+    def test_databases_are_copied(self):
+        self.check_program("clones")
 
     def test_statements_do_many_rows_of_values(self):
         self.check_program("many")

@@ -192,6 +192,20 @@ class Calls(binding.WithDatabase):
             for tree in (key, declared):
                 self.assertTrue(1000 // 32 < tree.nodes < 2**tree.height and tree.fill == 1000 // tree.nodes and tree[6:] == (None, None))
 
+    def test_changes_raise_the_numbers_of_tables(self):
+        self.db.execute("table t (id int)")
+        self.db.execute("table u (id int)")
+        before = [self.db.version(), self.db.version("t"), self.db.version("u")]
+        self.db.execute("insert t (1)")
+        self.refused(41, self.db.execute, "insert t (1)")
+        after = [self.db.version(), self.db.version("t"), self.db.version("u")]
+        self.assertTrue(after[0] > before[0] and after[1] > before[1] and after[2] == before[2])
+        self.refused(30, self.db.version, "a_name_that_takes_memory")
+        with self.assertRaises(RuntimeError), self.db.transaction():
+            self.db.execute("insert u (1)")
+            raise RuntimeError
+        self.assertGreater(self.db.version("u"), after[2])
+
     def test_the_plan_of_a_select(self):
         self.db.execute("table t (id int, s text)")
         self.db.load("t", [(1, "a"), (2, "b")])
@@ -474,6 +488,7 @@ class Reasons(binding.WithDatabase):
             (30, nowhere, self.db.load_dicts, "emp", []),
             (30, nowhere, self.db.dump, "emp"),
             (30, nowhere, self.db.indexes, "emp"),
+            (30, nowhere, self.db.version, "emp"),
             (30, nowhere, self.db.plan, "select * from emp"),
         ):
             self.db.execute("delete dept where id = 30")

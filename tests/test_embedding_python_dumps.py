@@ -1,9 +1,11 @@
 """Databases that are saved to a file by the package for Python, and restored from it."""
 
 import concurrent.futures
+import copy
 import itertools
 import os
 import pathlib
+import pickle
 import random
 import tempfile
 import threading
@@ -124,6 +126,35 @@ class WithFolder(binding.WithDatabase):
         self.assertIsInstance(raised.exception, ValueError)
         self.assertEqual(str(raised.exception), f"mmdb: {self.path}{told}")
         self.assertTrue(Noted.last.closed)
+
+
+class Copied(WithFolder):
+    """What `copy.copy` makes of a database."""
+
+    def test_a_company(self):
+        with company() as db:
+            with copy.copy(db) as copied:
+                self.assertEqual((type(copied), held_by(copied), self.saved(copied)), (mmdb.Database, held_by(db), SAVED))
+                self.assertEqual([*map(copied.indexes, ("dept", "emp"))], [*map(db.indexes, ("dept", "emp"))])
+                copied.execute("insert none (1)")
+                copied.execute("drop table part")
+                self.refused(42, copied.execute, "insert emp (7, 'x', 'nowhere', 1)")
+            self.assertEqual(self.saved(db), SAVED)
+
+    def test_of_a_reader(self):
+        with company() as db, db.reader() as reader, copy.copy(reader) as copied:
+            copied.execute("insert none (1)")
+            self.assertEqual((copied.count("select * from none"), db.count("select * from none")), (1, 0))
+
+    def test_what_has_no_copy(self):
+        with self.db.transaction(), self.assertRaises(mmdb.InTransaction):
+            copy.copy(self.db)
+        for make in (copy.deepcopy, pickle.dumps):
+            with self.assertRaisesRegex(TypeError, "copy.copy makes a copy of one"):
+                make(self.db)
+        self.db.close()
+        with self.assertRaisesRegex(ValueError, "closed"):
+            copy.copy(self.db)
 
 
 class Saved(WithFolder):

@@ -65,6 +65,7 @@ class Readers(binding.WithDatabase):
             for name in ("t", " t "):
                 self.assertEqual((handle.dump(name), handle.dump(name).names), (self.rows, ("id", "s")))
             self.assertEqual([index.rows for index in handle.indexes("t")], [10])
+            self.assertEqual((handle.version(), handle.version("t")), (self.db.version(), self.db.version("t")))
             self.assertEqual(handle.plan("select s from t where id = ?", 3)[0], "search of t by the key, 10 rows")
             self.assertEqual((handle.count(ALL), handle.count("select s from t where id < ?", 3)), (10, 3))
             self.refused(30, handle.select, "select * from u")

@@ -68,6 +68,10 @@ class GivenBack(unittest.TestCase):
         self.assertEqual(tree["emptied"], tree["nothing"])
         self.assertLess(bag["emptied"], bag["nothing"] + REFERENCES * ENTRY)
 
+    def test_a_copy_of_a_tree_holds_as_much(self):
+        tree = self.held["t_tree_nodes_are_given_back"]
+        self.assertEqual(tree["copied"] - tree["full"], tree["full"] - tree["nothing"])
+
 
 @tested.requires_toolchain
 class Forgotten(unittest.TestCase):

@@ -349,6 +349,43 @@ static void open_both(void)
     }
 }
 
+/* The seconds of a copy of all tables, in SQLite by its backup. */
+static double copy_ours(void)
+{
+    mmdb copy = MMDB_CLOSED;
+    double before = seconds(), took;
+    insist(mmdb_clone(&ours, &copy) == MMDB_DONE, "mmdb_clone");
+    took = seconds() - before;
+    mmdb_close(&copy);
+    return took;
+}
+
+static double copy_theirs(void)
+{
+    sqlite3 *copy = NULL;
+    sqlite3_backup *backup;
+    double before, took;
+    insist(sqlite3_open(":memory:", &copy) == SQLITE_OK, "sqlite3_open");
+    before = seconds();
+    backup = sqlite3_backup_init(copy, "main", theirs, "main");
+    insist(backup != NULL && sqlite3_backup_step(backup, -1) == SQLITE_DONE, "sqlite3_backup_step");
+    sqlite3_backup_finish(backup);
+    took = seconds() - before;
+    sqlite3_close(copy);
+    return took;
+}
+
+static void compare_copies(void)
+{
+    double best[2] = { 1e9, 1e9 };
+    for (int turn = 0; turn < ROUNDS; turn++) {
+        const double took[2] = { copy_ours(), copy_theirs() };
+        for (int i = 0; i < 2; i++)
+            best[i] = took[i] < best[i] ? took[i] : best[i];
+    }
+    tell("copy of the tables", "one call", best[0], best[1]);
+}
+
 static void compare_all(int64_t rows)
 {
     int64_t *keys = (int64_t *)calloc((size_t)rows, sizeof *keys);
@@ -360,6 +397,7 @@ static void compare_all(int64_t rows)
         compare(of, rows);
     for (kind of = RANGE; of <= COUNT && rows >= ROWS_OF_A_SELECT; of++)
         compare(of, rows);
+    compare_copies();
     for (way by = OUR_TEXT; by < WAYS; by++)
         insist(sums[by] != 0, "a select");
 }

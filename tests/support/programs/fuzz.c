@@ -374,6 +374,17 @@ static void tells(handle *of)
     free(with.at);
 }
 
+static void tells_the_version(handle *of)
+{
+    const bytes table = given_bytes();
+    uint64_t version = 7;
+    const mmdb_status status = mmdb_version(&of->db, table.at, table.length, &version);
+    const uint32_t allowed = is_null(table) ? only(MMDB_NO_LINE) : only(MMDB_DONE) | only(MMDB_REFUSED);
+    if (is_within(status, of->is_open ? allowed : only(MMDB_NOT_OPEN), "version") && status != MMDB_DONE)
+        CHECK(version == 0);
+    free(table.at);
+}
+
 static void prepares(handle *of)
 {
     const bytes line = given_bytes();
@@ -604,10 +615,11 @@ static void looks_at_rows(handle *of)
 
 static void calls_on_null(void)
 {
-    uint64_t count = 7;
+    uint64_t count = 7, version = 7;
     mmdb_bytes answer;
     mmdb_rows rows;
     mmdb_statement made;
+    CHECK(mmdb_version(NULL, "", 0, &version) == MMDB_NOT_OPEN && version == 0 && mmdb_version(NULL, NULL, 1, NULL) == MMDB_NOT_OPEN);
     CHECK(mmdb_open(NULL, 0, 1, 1) == MMDB_NOT_OPEN && mmdb_command(NULL, "", 0, &answer) == MMDB_NOT_OPEN);
     CHECK(mmdb_load(NULL, "", 0, "", 0, NULL) == MMDB_NOT_OPEN && mmdb_feed(NULL, "", 0) == MMDB_NOT_OPEN);
     CHECK(mmdb_prepare(NULL, "", 0, &made) == MMDB_NOT_OPEN && mmdb_execute(NULL, 0, &rows) == MMDB_NOT_OPEN);
@@ -632,7 +644,7 @@ static const maker MAKERS[] = {
     commands, commands, commands, commands, loads,    loads,     feeds,    feeds,        prepares,     prepares,      prepares,
     binds,    binds,    binds,    binds,    executes, executes,  executes, asks_columns, asks_columns, looks_at_rows, tells,
     queries,  queries,  asks_why, asks_plan, counts,  begins,    leaves,   commits_or_rolls_back, commits_or_rolls_back,
-    executes_many, executes_many,
+    executes_many, executes_many, tells_the_version,
 };
 
 /* One call. Handles are seldom opened, closed and shared, so that much becomes of what they have. */
