@@ -105,29 +105,29 @@ typedef struct mmdb_statement {
 typedef enum mmdb_status {
     MMDB_DONE = 0,
     MMDB_NOT_OPEN = 1,           /* the handle is closed, or null */
-    MMDB_IS_OPEN = 2,            /* mmdb_open of a handle that is open, which stays as it is */
+    MMDB_IS_OPEN = 2,            /* mmdb_open of a handle that is open, mmdb_clone into one; it stays as it is */
     MMDB_NO_SUCH_POLICY = 3,     /* mmdb_open with a number that is none of mmdb_policy */
     MMDB_LIMIT_OUT_OF_RANGE = 4, /* mmdb_open with rows that are not 1 to MMDB_MOST, or a block past MMDB_MOST */
     MMDB_NO_LINE = 5,            /* a line that is null or has no bytes; a block, a piece or a name that is null and has
                                     some */
     MMDB_NOT_ONE_REQUEST = 6,    /* a line feed in a line; a line that asks for a block of another length than given */
-    MMDB_NO_MEMORY = 7,          /* mmdb_open, mmdb_begin, mmdb_share, mmdb_leave, mmdb_prepare, mmdb_bind_text of more
-                                    than 14 bytes, and the calls that tell a reason: none was found. mmdb_feed: none for
-                                    the answers; the stream is over */
+    MMDB_NO_MEMORY = 7,          /* mmdb_open, mmdb_begin, mmdb_share, mmdb_leave, mmdb_clone, mmdb_prepare, mmdb_bind_text
+                                    of more than 14 bytes, and the calls that tell a reason: none was found. mmdb_feed:
+                                    none for the answers; the stream is over */
     MMDB_ENDED = 8,              /* mmdb_feed of a stream that is over; the other calls go on */
     MMDB_NO_SUCH_STATEMENT = 9,  /* the number names no statement, or one that was finalised */
     MMDB_NO_SUCH_PLACE = 10,     /* the statement has no place of that number */
     MMDB_NOT_UTF8 = 11,          /* mmdb_bind_text, mmdb_execute_many: a text is not UTF-8 */
     MMDB_REFUSED = 12,           /* mmdb_prepare, mmdb_execute, mmdb_execute_many, mmdb_columns, mmdb_count, mmdb_query,
-                                    mmdb_plan: refused. mmdb_answer and mmdb_refusal tell why, as `error 41 key exists` and a
-                                    line feed; nothing changed */
+                                    mmdb_plan, mmdb_version: refused. mmdb_answer and mmdb_refusal tell why, as
+                                    `error 41 key exists` and a line feed; nothing changed */
     MMDB_TOO_LARGE = 13,         /* mmdb_execute, mmdb_query: the texts of the rows are more than 4 GiB together;
                                     mmdb_prepare: the database has 4294967296 statements; mmdb_count, mmdb_execute_many: there
                                     are 2^64 rows or more. Nothing changed */
     MMDB_SHARED = 14,            /* mmdb_command, mmdb_load, mmdb_execute, mmdb_execute_many and mmdb_query of a change;
                                     mmdb_feed, mmdb_begin: another handle shares the tables. Nothing changed */
     MMDB_NO_TRANSACTION = 15,    /* mmdb_commit, mmdb_rollback: no transaction is open */
-    MMDB_IN_TRANSACTION = 16,    /* mmdb_share, mmdb_leave: a transaction is open. Nothing changed */
+    MMDB_IN_TRANSACTION = 16,    /* mmdb_share, mmdb_leave, mmdb_clone: a transaction is open. Nothing changed */
     MMDB_NOT_ROWS = 17           /* mmdb_execute_many: the cells are no rows of the statement's values. Nothing changed */
 } mmdb_status;
 
@@ -198,10 +198,10 @@ uint32_t mmdb_execute(mmdb *db, uint32_t statement, mmdb_rows *rows);
    bound stay. Of each row the values are judged first, in the order of the rows, and then the rows are done one after the
    other. Where an insert makes many rows they go in by rising keys, as those of a load do.
    Gives MMDB_DONE and in `changed` how many rows of tables were changed in all. Or gives MMDB_REFUSED as mmdb_execute would
-   of the first row that is refused: 41, 42 and 43 have the number of that row, counted from 1, as `error 41 key exists (record 3)`;
-   by 20 of a select; by 90 when out of memory. Or gives MMDB_NOT_ROWS where the cells are no multiple of the places, a
-   kind is none of mmdb_kind, or a text lies elsewhere; MMDB_NOT_UTF8; MMDB_SHARED as mmdb_execute does; MMDB_TOO_LARGE; or
-   MMDB_NOT_OPEN or MMDB_NO_SUCH_STATEMENT. Then nothing has changed. */
+   of the first row that is refused: 41, 42 and 43 have the number of that row, counted from 1, as `error 41 key exists
+   (record 3)`; by 20 of a select; by 90 when out of memory. Or gives MMDB_NOT_ROWS where the cells are no multiple of the
+   places, a kind is none of mmdb_kind, or a text lies elsewhere; MMDB_NOT_UTF8; MMDB_SHARED as mmdb_execute does;
+   MMDB_TOO_LARGE; or MMDB_NOT_OPEN or MMDB_NO_SUCH_STATEMENT. Then nothing has changed. */
 uint32_t mmdb_execute_many(mmdb *db, uint32_t statement, const mmdb_cell *cells, size_t count, const void *texts,
                            size_t texts_length, uint64_t *changed);
 
@@ -251,6 +251,17 @@ uint32_t mmdb_feed(mmdb *db, const void *piece, size_t length);
    Gives MMDB_DONE and the answer, which is good until the next call on this handle. Or gives MMDB_NOT_OPEN, or
    MMDB_NO_LINE where the name is null and has a length. */
 uint32_t mmdb_indexes(mmdb *db, const void *table, size_t length, mmdb_bytes *answer);
+
+/* Tells the number of the newest change of the table of a name, beside the stream, so that whoever keeps something beside
+   the table sees that it is old; it changes nothing. Where the name has no bytes it is the number of the newest change of
+   any table. Each command or statement that inserts, changes or deletes rows of a table raises that of the table and that
+   of all. Declaring and dropping a table raises that of all, and a rollback that of every table. What is about no row
+   raises none, nor does what is refused, but for an mmdb_execute_many, which may as a rollback does. A table that is
+   declared anew has a greater number than any had before. Handles that share tables are told the same numbers.
+   Gives MMDB_DONE and the number, and the last answers have no bytes then; or MMDB_NOT_OPEN; or MMDB_NO_LINE where the
+   name is null and has a length; or MMDB_REFUSED, and the refusal is the answer: 30 where there is no such table, 11 where
+   the name is not UTF-8, 90 when out of memory. */
+uint32_t mmdb_version(mmdb *db, const void *table, size_t length, uint64_t *version);
 
 /* Tells the plan of the select that a line spells, beside the stream; the select is not done, and nothing changes. The
    answer has a line for each step: how the rows of the first table are found, each join, and how rows are shown. It is for
@@ -315,8 +326,8 @@ size_t mmdb_transactions(mmdb *db);
 /* Has a second handle share the tables of a first, and its stream, in the place of its own. A closed reader is open then,
    without statements. Where it was open, its statements with their values, its rows and its answers stay. All is as it
    was of db. While two handles share tables, each reads them by mmdb_command, mmdb_execute and mmdb_query of a select, by
-   mmdb_command of `tables` and `dump`, and by mmdb_columns, mmdb_count, mmdb_plan and mmdb_indexes; neither changes them
-   (MMDB_SHARED). Both are in a call here.
+   mmdb_command of `tables` and `dump`, and by mmdb_columns, mmdb_count, mmdb_plan, mmdb_indexes, mmdb_version and
+   mmdb_clone; neither changes them (MMDB_SHARED). Both are in a call here.
    Gives MMDB_DONE; or MMDB_NOT_OPEN where db is closed or a handle is null, MMDB_IN_TRANSACTION where a transaction of
    either is open, or MMDB_NO_MEMORY, and then reader is as it was. */
 uint32_t mmdb_share(mmdb *db, mmdb *reader);
@@ -327,6 +338,13 @@ uint32_t mmdb_share(mmdb *db, mmdb *reader);
    Gives MMDB_DONE; or MMDB_NOT_OPEN, MMDB_IN_TRANSACTION, or MMDB_NO_MEMORY where it has shared its tables with none, and
    then it is as it was. */
 uint32_t mmdb_leave(mmdb *reader);
+
+/* Opens a second handle with a copy of the tables of a first: the same declarations, indexes and rows, under the same
+   limits and the same policy, in memory of its own. The copy has no statements, and a new stream. It takes time for the
+   rows and the indexes as they lie in memory, and compares nothing. All is as it was of db, which may be a reader.
+   Gives MMDB_DONE; or MMDB_NOT_OPEN where db is closed or a handle is null, MMDB_IS_OPEN where copy is open,
+   MMDB_IN_TRANSACTION where a transaction of db is open, or MMDB_NO_MEMORY. Then copy is as it was. */
+uint32_t mmdb_clone(mmdb *db, mmdb *copy);
 
 /* Closes a handle and frees all that it holds; its answers are no longer valid. Tables that another handle shares stay.
    It is MMDB_CLOSED then, and may be opened again. Of a closed handle and of null nothing is done. */
@@ -581,6 +599,18 @@ static inline mmdb_status mmdb_checked_indexes(mmdb *db, const void *table, size
     return mmdb_checked_status(mmdb_indexes(db, mmdb_checked_bytes(table), length, to));
 }
 
+static inline mmdb_status mmdb_checked_version(mmdb *db, const void *table, size_t length, uint64_t *version)
+{
+    uint64_t unwanted;
+    uint64_t *to = version ? version : &unwanted;
+    *to = 0;
+    if (mmdb_checked_is_closed(db))
+        return MMDB_NOT_OPEN;
+    if (!table && length != 0)
+        return MMDB_NO_LINE;
+    return mmdb_checked_status(mmdb_version(db, mmdb_checked_bytes(table), length, to));
+}
+
 static inline mmdb_status mmdb_checked_plan(mmdb *db, const void *line, size_t length, mmdb_bytes *answer)
 {
     mmdb_bytes unwanted;
@@ -666,6 +696,13 @@ static inline mmdb_status mmdb_checked_leave(mmdb *reader)
     return mmdb_checked_is_closed(reader) ? MMDB_NOT_OPEN : mmdb_checked_status(mmdb_leave(reader));
 }
 
+static inline mmdb_status mmdb_checked_clone(mmdb *db, mmdb *copy)
+{
+    if (mmdb_checked_is_closed(db) || !copy)
+        return MMDB_NOT_OPEN;
+    return db == copy ? MMDB_IS_OPEN : mmdb_checked_status(mmdb_clone(db, copy));
+}
+
 static inline void mmdb_checked_close(mmdb *db)
 {
     if (!mmdb_checked_is_closed(db))
@@ -687,6 +724,7 @@ static inline void mmdb_checked_close(mmdb *db)
 #define mmdb_query mmdb_checked_query
 #define mmdb_feed mmdb_checked_feed
 #define mmdb_indexes mmdb_checked_indexes
+#define mmdb_version mmdb_checked_version
 #define mmdb_plan mmdb_checked_plan
 #define mmdb_answer mmdb_checked_answer
 #define mmdb_refusal mmdb_checked_refusal
@@ -699,6 +737,7 @@ static inline void mmdb_checked_close(mmdb *db)
 #define mmdb_transactions mmdb_checked_transactions
 #define mmdb_share mmdb_checked_share
 #define mmdb_leave mmdb_checked_leave
+#define mmdb_clone mmdb_checked_clone
 #define mmdb_close mmdb_checked_close
 
 #ifdef __cplusplus
