@@ -56,6 +56,7 @@ from .indexes import Index
 from .rows import Row, Rows
 from .statement import Statement
 from .values import Value
+from .watching import Watch
 
 __all__ = [
     "BINARY",
@@ -100,6 +101,7 @@ __all__ = [
     "TimestampFromTicks",
     "Value",
     "Warning",
+    "Watch",
     "apilevel",
     "connect",
     "implementation",

@@ -1,6 +1,8 @@
 /* The types of the extension: the turn of a call, an open database, and a statement that is prepared by name. */
 #include "_mmdb.h"
 
+#include <string.h>
+
 /* ---- turns */
 
 typedef struct Turn {
@@ -188,9 +190,57 @@ static PyObject *handle_close(PyObject *self, PyObject *Py_UNUSED(none))
     return none();
 }
 
+/* Puts an exception behind the one that was raised later, and those behind that, as Python does. It is let go. */
+static void put_behind(PyObject *type, PyObject *why, PyObject *trace)
+{
+    PyObject *later_type, *later, *later_trace, *behind;
+    PyErr_Fetch(&later_type, &later, &later_trace);
+    PyErr_NormalizeException(&later_type, &later, &later_trace);
+    PyErr_NormalizeException(&type, &why, &trace);
+    if (trace != NULL)
+        PyException_SetTraceback(why, trace);
+    PyObject *last = later;
+    while ((behind = PyException_GetContext(last)) != NULL) {
+        Py_DECREF(behind);
+        last = behind;
+    }
+    PyException_SetContext(last, why);
+    PyErr_Restore(later_type, later, later_trace);
+    Py_DECREF(type);
+    Py_XDECREF(trace);
+}
+
+/* Calls a method for those who watch, and gives what the call found. What the call raised stays, unless the method raises too. */
+static PyObject *watched(Handle *handle, const char *method, PyObject *found)
+{
+    PyObject *type, *why, *trace;
+    PyErr_Fetch(&type, &why, &trace);
+    PyObject *done = PyObject_CallMethod((PyObject *)handle, method, NULL);
+    if (done != NULL) {
+        Py_DECREF(done);
+        PyErr_Restore(type, why, trace);
+        return found;
+    }
+    Py_XDECREF(found);
+    if (type != NULL)
+        put_behind(type, why, trace);
+    return NULL;
+}
+
+/* Ends the turn of a call that may have changed rows, of which those who watch are told. */
+static PyObject *ended_and_told(Handle *handle, PyObject *found)
+{
+    handle->has_changed = 0;
+    found = watched(handle, "_note", found);
+    give(handle->turn);
+    return watched(handle, "_tell", found);
+}
+
 /* Ends the turn of a call, and gives what it found: rows with those columns read as other types that are to be. */
 static PyObject *ended(Handle *handle, PyObject *found)
 {
+    if (handle->has_changed && handle->is_watched)
+        return ended_and_told(handle, found);
     PyObject *shape = handle->converting, *read = found;
     handle->converting = NULL;
     give(handle->turn);
@@ -333,6 +383,19 @@ static mmdb_bytes content_of(PyObject *bytes)
     return (mmdb_bytes){ (const unsigned char *)at, (size_t)length };
 }
 
+/* Gives an answer, once its changes are noted for those who watch. What is refused has changed nothing, and its reason may be asked for
+   next. */
+static PyObject *noted(Handle *handle, PyObject *answer)
+{
+    static const char refusal[] = "error ";
+    if (answer == NULL || !handle->is_watched)
+        return answer;
+    mmdb_bytes content = content_of(answer);
+    if (content.length >= sizeof refusal - 1 && memcmp(content.at, refusal, sizeof refusal - 1) == 0)
+        return answer;
+    return watched(handle, "_note", answer);
+}
+
 static PyObject *handle_command(PyObject *self, PyObject *given)
 {
     Handle *handle = (Handle *)self;
@@ -347,7 +410,7 @@ static PyObject *handle_command(PyObject *self, PyObject *given)
     Py_BEGIN_ALLOW_THREADS
     status = mmdb_command(&handle->db, request.at, request.length, &answer);
     Py_END_ALLOW_THREADS
-    return told(handle, status, answer);
+    return noted(handle, told(handle, status, answer));
 }
 
 static PyObject *handle_load(PyObject *self, PyObject *given)
@@ -363,7 +426,7 @@ static PyObject *handle_load(PyObject *self, PyObject *given)
     Py_BEGIN_ALLOW_THREADS
     status = mmdb_load(&handle->db, request.at, request.length, rows.at, rows.length, &answer);
     Py_END_ALLOW_THREADS
-    return told(handle, status, answer);
+    return noted(handle, told(handle, status, answer));
 }
 
 static PyObject *handle_indexes(PyObject *self, PyObject *given)
@@ -476,9 +539,16 @@ static PyObject *handle_commit(PyObject *self, PyObject *Py_UNUSED(none))
 
 static PyObject *handle_rollback(PyObject *self, PyObject *Py_UNUSED(none))
 {
+    Handle *handle = (Handle *)self;
     /* (rows that come back may make a statement last that was quick) */
-    ((Handle *)self)->commands++;
-    return stepped(self, mmdb_rollback);
+    handle->commands++;
+    PyObject *done = stepped(self, mmdb_rollback);
+    if (done != NULL && handle->is_watched)
+        done = watched(handle, "_note", done);
+    if (done == NULL)
+        return NULL;
+    Py_DECREF(done);
+    return PyBool_FromLong(handle->is_watched);
 }
 
 static PyObject *handle_leave(PyObject *self, PyObject *Py_UNUSED(none))
@@ -534,6 +604,21 @@ static PyObject *handle_end_keeping(PyObject *self, PyObject *Py_UNUSED(none))
     return none();
 }
 
+static PyObject *handle_be_watched(PyObject *self, PyObject *is_watched)
+{
+    int is_true = PyObject_IsTrue(is_watched);
+    if (is_true < 0)
+        return NULL;
+    ((Handle *)self)->is_watched = is_true;
+    ((Handle *)self)->has_changed = 0;
+    return none();
+}
+
+static PyObject *handle_is_kept(PyObject *self, void *Py_UNUSED(none))
+{
+    return PyBool_FromLong(((Handle *)self)->turn->keeper == PyThread_get_thread_ident());
+}
+
 static PyObject *handle_forget(PyObject *self, PyObject *Py_UNUSED(none))
 {
     ((Handle *)self)->declarations++;
@@ -567,10 +652,11 @@ static PyMethodDef handle_methods[] = {
     { "_begin", handle_begin, METH_NOARGS, "Begins a transaction." },
     { "_commit", handle_commit, METH_NOARGS, "Ends the innermost transaction, and keeps what was done in it." },
     { "_rollback", handle_rollback, METH_NOARGS,
-      "Ends the innermost transaction, and restores the tables that it began with." },
+      "Ends the innermost transaction, and restores the tables that it began with. Gives whether somebody is to be told." },
     { "_transactions", handle_transactions, METH_NOARGS, "How many transactions are open." },
     { "_keep", handle_keep, METH_NOARGS, "Has other threads wait with their calls. It wants no turn." },
     { "_end_keeping", handle_end_keeping, METH_NOARGS, "Ends that." },
+    { "_be_watched", handle_be_watched, METH_O, "Has changes noted and told from now on, or no more." },
     { "_renew_turn", handle_renew_turn, METH_NOARGS,
       "Gives a new turn in a child of fork, where the threads that had the turn aren't, but for this one." },
     { "_share", handle_share, METH_VARARGS, "Has another handle share the tables, in the place of its own." },
@@ -583,6 +669,7 @@ static PyMethodDef handle_methods[] = {
 static PyGetSetDef handle_members[] = {
     { "closed", handle_closed, NULL, "Whether it is closed.", NULL },
     { "_turn", handle_turn, NULL, "The turn of its calls.", NULL },
+    { "_is_kept", handle_is_kept, NULL, "Whether this thread has others wait with their calls.", NULL },
     { NULL, NULL, NULL, NULL, NULL },
 };
 

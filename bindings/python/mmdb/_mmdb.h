@@ -2,7 +2,8 @@
 
    The extension does what library.py does by ctypes, over the library's archive. What goes well is done in it. What
    wants to be put in order, doesn't fit, or is refused is handed to the Python class that is made of the one here, by
-   its methods `_perform`, `_stored_values`, `_stored_rows`, `_shaped`, `_refuse` and `_failed`.
+   its methods `_perform`, `_stored_values`, `_stored_rows`, `_shaped`, `_refuse` and `_failed`, and by `_note` and `_tell` where
+   somebody watches its changes.
 
    Each call has its turn, so that they come one after another. The interpreter's lock is released while the library is in
    a call that may last, so that other threads go on; those that call the same database wait for their turn. What may
@@ -69,6 +70,8 @@ typedef struct {
     PyObject *converting;  /* the shape of the rows just found, where columns of it are read as other types; or null */
     uint32_t *let_go;      /* the numbers of statements that were let go while another call had its turn */
     size_t let_go_count;
+    int is_watched;  /* whether changes are noted and told */
+    int has_changed; /* whether a statement may have changed rows since that was done last */
 } Handle;
 
 /* Of a call that gives int or a pointer, -1 or null says that something was raised, where nothing else is told. Those

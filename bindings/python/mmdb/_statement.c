@@ -375,7 +375,10 @@ static int execute(Handle *handle, Statement *statement, PyObject *const *values
     } else {
         status = execute_slowly(handle, statement, pace, rows);
     }
-    return status == MMDB_DONE ? 0 : refused(handle, statement, status, values, count);
+    if (status != MMDB_DONE)
+        return refused(handle, statement, status, values, count);
+    handle->has_changed |= !statement->is_select;
+    return 0;
 }
 
 /* Does a select whose values are bound. It is done once more where its rows have other columns than those known. */

@@ -26,7 +26,7 @@ from typing import (
     Union,
 )
 
-from . import dumps
+from . import dumps, watching
 from .chosen import extension
 from .conversions import Converter, converter_of
 from .csvs import Picked, Readable, Watch, cut, front_of, pieces_of
@@ -67,6 +67,8 @@ def _begin_child() -> None:
     """Renews the turns of all databases in a child of fork, which has none of the threads that had them."""
     for database in list(_DATABASES):
         database._renew_turn()
+        if database._watches:
+            database._watches.keep_one_thread()
 
 
 if hasattr(os, "register_at_fork"):
@@ -91,6 +93,8 @@ class Database(Handle):
         self._declared: Optional[Dict[str, List[Column]]] = None
         self._converters: Dict[str, Converter] = {}
         self._block = block
+        #: The functions that are told of changes, if there ever was one.
+        self._watches: Optional[watching.Watches] = None
         super().__init__(POLICIES.index(policy), rows, block)
         _DATABASES.add(self)
 
@@ -232,7 +236,9 @@ class Database(Handle):
         Raises `NoTransaction` if none is open.
         """
         with self._turn:
-            self._undo()
+            is_watched = self._undo()
+        if is_watched:
+            self._tell()
 
     @property
     def in_transaction(self) -> bool:
@@ -255,6 +261,8 @@ class Database(Handle):
         except BaseException:
             with self._turn:
                 self._end(depth, self._undo)
+            if self._watches:
+                self._tell()
             raise
         with self._turn:
             if self._transactions() < depth:
@@ -340,8 +348,11 @@ class Database(Handle):
                 return None
             with self._turn:
                 before, columns = columns, self._columns(table)
-                if columns == before:
-                    return self._loaded(table, blocks[0])
+                count = self._loaded(table, blocks[0]) if columns == before else None
+            if self._watches:
+                self._tell()
+            if count is not None:
+                return count
 
     def _load_file(self, table: str, pieces: Iterator[bytes], watch: Watch) -> int:
         """Puts in a CSV that is in the form of a load."""
@@ -349,7 +360,10 @@ class Database(Handle):
         if len(front) <= self._block:
             watch.look(front, 0)
             with self._turn:
-                return self._loaded(table, front)
+                count = self._loaded(table, front)
+            if self._watches:
+                self._tell()
+            return count
         count, names = 0, b""
         with self._alone(), self.transaction():
             names_of_others = encoded(header_of(self._known(table))) + b"\n"
@@ -391,6 +405,8 @@ class Database(Handle):
             yield
         finally:
             self._end_keeping()
+            if self._watches:
+                self._tell()
 
     def convert(self, column: str, to: Union[None, type, Converter]) -> None:
         """Has a column read as a type, in the rows of selects and dumps from now on.
@@ -447,6 +463,23 @@ class Database(Handle):
                 # (a dump is refused for the same reason)
                 raise refusal_of(version, name, self._reason(b"dump " + name, b""))
         return version
+
+    def watch(self, function: Callable[[int], object], table: str = "") -> watching.Watch:
+        """Has a function told of the changes of a table, or of any if none is named, until the `Watch` that it gives is closed.
+
+        After each call that raised the number which `version` gives, and before it returns or raises, the function is called with the
+        newest one. That is so within a transaction too, and of a rollback. A table that is dropped or that a rollback takes away is
+        told by the number of all; until it is declared again nothing is told of it, nor before there is one of that name.
+
+        The function is called by the thread that made the call, while other threads may make theirs, and perhaps call it too. It may
+        use the database; what it changes is told by a further call of it, once it has returned. What it raises is raised by the call,
+        whose changes stand.
+        """
+        name = encoded(table)
+        with self._turn:
+            if self._watches is None:
+                self._watches = watching.Watches()
+            return self._watches.begin(self, function, name)
 
     def plan(self, line: str, /, *parameters: Any, **named: Any) -> List[str]:
         """The plan of a select, in words for people: a step in each line. The select is not done.
@@ -519,7 +552,10 @@ class Database(Handle):
         another length than the one given.
         """
         with self._turn:
-            return self._answer(as_bytes(line), None if block is None else as_bytes(block))
+            answer = self._answer(as_bytes(line), None if block is None else as_bytes(block))
+        if self._watches:
+            self._tell()
+        return answer
 
     def reason(self, line: Union[str, bytes], block: Optional[bytes] = None) -> Optional[str]:
         """Why `answer` was a refusal of this line with its block, in a line of words for people.
@@ -543,7 +579,10 @@ class Database(Handle):
             return self._done(str.__str__(line), at, values)
         sent = encoded(at.filled(values))
         with self._turn:
-            return _outcome(one_line(line), self._accepted(sent, written=None if at.places else at.given))
+            outcome = _outcome(one_line(line), self._accepted(sent, written=None if at.places else at.given))
+        if self._watches:
+            self._tell()
+        return outcome
 
     def _stored_values(self, values: Iterable[Any]) -> Tuple[Value, ...]:
         """Values as columns store them. Raises what is wrong with one of them."""
@@ -597,17 +636,29 @@ class Database(Handle):
         with self._turn:
             return self._accepted(as_bytes(line), block)
 
+    def _tell(self) -> None:
+        """Tells those who watch of the changes by this thread, unless it has other threads wait: then it does at the end of that.
+        It wants no turn."""
+        if self._watches and not self._is_kept:
+            self._watches.tell()
+
     # The calls below need their turn held.
 
-    def _end(self, depth: int, end: Callable[[], None]) -> None:
+    def _note(self) -> None:
+        """Takes note of changes, of which those who watch are told at the end of the call."""
+        if self._watches:
+            self._watches.note(self)
+
+    def _end(self, depth: int, end: Callable[[], object]) -> None:
         """Ends the transactions from this one on, the innermost first."""
         while self._transactions() >= depth:
             end()
 
-    def _undo(self) -> None:
-        """Ends the innermost transaction, and restores the tables that it began with, whose columns may be others."""
+    def _undo(self) -> bool:
+        """Ends the innermost transaction, and restores the tables that it began with, whose columns may be others. Gives whether
+        somebody is to be told."""
         try:
-            self._rollback()
+            return self._rollback()
         finally:
             self._forget_columns()
 
@@ -704,6 +755,10 @@ class Reader(Database):
     def reader(self) -> NoReturn:
         """Raises ValueError: readers are made by the database."""
         raise WrongUse("mmdb: a reader has no readers: its database has")
+
+    def watch(self, function: Callable[[int], object], table: str = "") -> NoReturn:
+        """Raises ValueError: changes are the database's."""
+        raise WrongUse("mmdb: a reader changes nothing: its database is watched")
 
     def share(self, reader: Reader) -> NoReturn:
         """Raises ValueError: readers share the tables of a database."""

@@ -167,6 +167,8 @@ class Connection:
                 raise
         finally:
             database._end_keeping()
+            if database._watches:
+                database._tell()
 
     def _end_all(self, end: Callable[[], None]) -> None:
         """Ends all transactions that are open, as savepoints may be."""

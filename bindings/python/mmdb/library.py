@@ -157,6 +157,8 @@ class Handle:
     _shaped: Any
     _refuse: Any
     _failed: Any
+    _note: Any
+    _tell: Any
 
     def __init__(self, policy: int, rows: int, block: int) -> None:
         self._lock = threading.Lock()
@@ -177,6 +179,8 @@ class Handle:
         self._let_go: List[int] = []
         #: How many declarations there were: what is known of the columns is of one of these numbers.
         self._declarations = 0
+        #: Whether changes are noted and told.
+        self._is_watched = False
         status = _OPEN(self._at, policy, rows, block)
         if status:
             self._failed(status)
@@ -204,6 +208,15 @@ class Handle:
         if not self._depth:
             self._keeper = 0
             self._lock.release()
+
+    @property
+    def _is_kept(self) -> bool:
+        """Whether this thread has others wait."""
+        return self._keeper == threading.get_ident()
+
+    def _be_watched(self, is_watched: bool) -> None:
+        """Has changes noted and told from now on, or no more."""
+        self._is_watched = is_watched
 
     def _renew_turn(self) -> None:
         """Gives a new turn in a child of fork, where the threads that had the turn aren't, but for this one."""
@@ -243,13 +256,19 @@ class Handle:
                 shape = statement.shape
         except _Unstored:
             return self._done(line, placed, stored_values(values))
+        if self._is_watched:
+            self._tell()
         return found if shape is None or shape.converters is None else shape.converted(found)
 
     def _done_many(self, line: str, placed: Placed, rows: List[Tuple[Any, ...]]) -> int:
         """Does a statement, which is kept by its line, with each of these rows of values."""
         rows = stored_rows(rows)
-        with self._turn:
-            return self._statement(line, placed).done_many(self, rows)
+        try:
+            with self._turn:
+                return self._statement(line, placed).done_many(self, rows)
+        finally:
+            if self._is_watched:
+                self._tell()
 
     def _count(self, line: str, placed: Placed, values: Tuple[Any, ...]) -> int:
         """How many rows a select shows, which is kept by its line, with these values."""
@@ -274,12 +293,19 @@ class Handle:
     def _command(self, line: bytes) -> bytes:
         """What is answered to a line. It is empty for comments and blank lines."""
         status = _COMMAND(self._at, line, len(line), self._told_at)
-        return self._unanswered(status) if status else self._told_bytes()
+        return self._unanswered(status) if status else self._noted(self._told_bytes())
 
     def _load(self, line: bytes, block: bytes) -> bytes:
         """What is answered to a line with its block."""
         status = _LOAD(self._at, line, len(line), block, len(block), self._told_at)
-        return self._unanswered(status) if status else self._told_bytes()
+        return self._unanswered(status) if status else self._noted(self._told_bytes())
+
+    def _noted(self, answer: bytes) -> bytes:
+        """An answer, once its changes are noted for those who watch. (What is refused has changed nothing, and its reason may be asked
+        for next.)"""
+        if self._is_watched and not answer.startswith(b"error "):
+            self._note()
+        return answer
 
     def _indexes(self, table: bytes) -> bytes:
         """What is answered to who asks how the indexes of a table stand."""
@@ -322,9 +348,12 @@ class Handle:
         """Ends the innermost transaction, and keeps what was done in it."""
         self._check(_COMMIT(self._at))
 
-    def _rollback(self) -> None:
-        """Ends the innermost transaction, and restores the tables that it began with."""
+    def _rollback(self) -> bool:
+        """Ends the innermost transaction, and restores the tables that it began with. Gives whether somebody is to be told."""
         self._check(_ROLLBACK(self._at))
+        if self._is_watched:
+            self._note()
+        return self._is_watched
 
     def _transactions(self) -> int:
         """How many transactions are open."""
@@ -465,6 +494,8 @@ class _Statement:
         status = _EXECUTE(handle._at, self.number, handle._cells_at)
         if status:
             self.failed(handle, status, values)
+        if handle._is_watched and not self.placed.is_select:
+            handle._note()
 
     def rows(self, handle: Handle, values: Tuple[Any, ...]) -> Rows:
         """The rows that the execution found. It is done once more where the columns that are known aren't theirs."""
@@ -586,14 +617,20 @@ class Prepared:
                 shape = statement.shape
         except _Unstored:
             return self._done(stored_values(values))
+        if handle._is_watched:
+            handle._tell()
         return found if shape is None or shape.converters is None else shape.converted(found)
 
     def _done_many(self, rows: List[Tuple[Any, ...]]) -> int:
         """Does it with each of these rows of values."""
         rows = stored_rows(rows)
         handle = self._open_handle()
-        with handle._turn:
-            return self._statement.done_many(handle, rows)
+        try:
+            with handle._turn:
+                return self._statement.done_many(handle, rows)
+        finally:
+            if handle._is_watched:
+                handle._tell()
 
     def _count(self, values: Tuple[Any, ...]) -> int:
         """How many rows it shows with these values."""

@@ -26,7 +26,9 @@ with mmdb.Database() as database:
         names: Tuple[str, ...] = statement.names
         first: mmdb.Row = statement.execute(1)[0]
         print(count, names, first.name, first[0], {first: 1}, hired(database, datetime.date(2027, 1, 1)))
-    with database.transaction():
+    told: List[int] = []
+    watch: mmdb.Watch = database.watch(told.append, table="emp")
+    with watch, database.transaction():
         count += database.load("emp", iter([(100, "Di", "2026-01-04", 4)]), ("pay", "name", "hired", "id"))
     with database.reader() as reader:
         found: mmdb.Rows = reader.select("select name from emp where id > ?", 1)
