@@ -16,8 +16,9 @@ use crate::params::Params;
 use crate::readers::Readers;
 use crate::row::Row;
 use crate::rows::{MappedRows, Rows, RowsRef};
-use crate::session::Session;
+use crate::session::{Session, ERROR};
 use crate::statement::Statement;
+use crate::watch::Watches;
 
 /// A database in main memory, without tables at first, until it is dropped.
 pub struct Database {
@@ -26,6 +27,10 @@ pub struct Database {
     limits: Limits,
     /// The statements of the lines that were executed and queried.
     lines: Lines,
+    /// Who is told of changes.
+    watches: Watches,
+    /// The answer that is lent where somebody was told of a change behind it.
+    lent: Vec<u8>,
 }
 
 impl Database {
@@ -139,15 +144,15 @@ impl Database {
     /// [`dump`](Database::dump) and [`command`](Database::command) give what these answer.
     pub fn execute<P: Params>(&self, line: &str, params: P) -> Result<usize> {
         if let Some(mut kept) = self.lines.find(self.handle(), line) {
-            return kept.change(self.handle(), params);
+            return self.told_change(&mut kept, params);
         }
         match first_word(line) {
             "select" | "dump" | "tables" => Err(Error::NotAChange),
             "insert" | "update" | "delete" => self.change_anew(line, params),
-            _ => self.session.ask(line, params, |answer| {
+            _ => self.told(self.session.ask(line, params, |answer| {
                 self.known.heed(answer.as_bytes());
                 count_of(answer).unwrap_or(0)
-            }),
+            })),
         }
     }
 
@@ -263,10 +268,10 @@ impl Database {
         if is_change(line) {
             return self.change(line, params).map(Outcome::Count);
         }
-        self.session.ask(line, params, |answer| {
+        self.told(self.session.ask(line, params, |answer| {
             self.known.heed(answer.as_bytes());
             Outcome::of(line, answer)
-        })
+        }))
     }
 
     /// All rows of a table by rising keys, with the bare names of its columns. They are cells, and no block whose bytes
@@ -383,7 +388,13 @@ impl Database {
     fn heeded(&mut self) -> &[u8] {
         let answer = self.session.handle().answer();
         self.known.heed(answer);
-        answer
+        // (what is refused has changed nothing, and its reason may be asked for next)
+        if self.watches.are_there() && !answer.starts_with(ERROR.as_bytes()) {
+            self.lent = answer.to_vec();
+            self.tell();
+            return &self.lent;
+        }
+        self.session.handle().answer()
     }
 
     /// Why a line isn't done that names no table: as the library says. It takes a name between blanks too, which the
@@ -405,6 +416,8 @@ impl Database {
             known: Known::default(),
             limits,
             lines: Lines::default(),
+            watches: Watches::default(),
+            lent: Vec::new(),
         }
     }
 
@@ -439,6 +452,25 @@ impl Database {
         &self.session.handle
     }
 
+    pub(crate) fn watches(&self) -> &Watches {
+        &self.watches
+    }
+
+    /// Tells those who watch what was changed.
+    #[inline]
+    pub(crate) fn tell(&self) {
+        if self.watches.are_there() {
+            self.watches.tell(self.handle());
+        }
+    }
+
+    /// What a call made, once those who watch were told what it changed.
+    #[inline]
+    pub(crate) fn told<T>(&self, made: T) -> T {
+        self.tell();
+        made
+    }
+
     /// Forgets what is known of the columns, once a rollback may have undone declarations.
     pub(crate) fn forget_columns(&self) {
         self.known.forget();
@@ -449,10 +481,18 @@ impl Database {
         self.known.declared()
     }
 
+    /// Does a change by its statement, and tells those who watch. What is refused has changed nothing.
+    #[inline]
+    pub(crate) fn told_change<P: Params>(&self, kept: &mut Kept, params: P) -> Result<usize> {
+        let changed = kept.change(self.handle(), params)?;
+        self.tell();
+        Ok(changed)
+    }
+
     /// Does an insert, an update or a delete.
     fn change<P: Params>(&self, line: &str, params: P) -> Result<usize> {
         match self.lines.find(self.handle(), line) {
-            Some(mut kept) => kept.change(self.handle(), params),
+            Some(mut kept) => self.told_change(&mut kept, params),
             None => self.change_anew(line, params),
         }
     }
@@ -463,12 +503,12 @@ impl Database {
         let handle = self.handle();
         if has_places(line) {
             match self.lines.keep(handle, line) {
-                Ok(mut kept) => return kept.change(handle, params),
+                Ok(mut kept) => return self.told_change(&mut kept, params),
                 Err(Declined::Refused) => return Err(why_not_kept(handle, line, params, Declined::Refused)),
                 Err(_) => {}
             }
         }
-        self.session.ask(line, params, |answer| count_of(answer).unwrap_or(0))
+        self.told(self.session.ask(line, params, |answer| count_of(answer).unwrap_or(0)))
     }
 
     /// The statement of a select, which is kept by its line, and the parameters for it.

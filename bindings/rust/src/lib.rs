@@ -76,6 +76,7 @@ mod statement;
 mod to_value;
 mod transaction;
 mod value;
+mod watch;
 
 pub use csv_options::CsvOptions;
 pub use database::Database;
@@ -94,6 +95,7 @@ pub use statement::Statement;
 pub use to_value::{ToValue, ToValueOutput};
 pub use transaction::Transaction;
 pub use value::{Value, ValueRef};
+pub use watch::Watch;
 
 /// Parameters of several types, for the places `?` of a line in their order: a slice of references.
 ///

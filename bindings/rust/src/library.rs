@@ -314,7 +314,7 @@ impl Handle {
     /// bytes, which its type sees to.
     pub(crate) fn with_answer<T>(&self, read: impl FnOnce(&[u8]) -> T) -> T {
         // SAFETY: the bytes are good until the next call but those that tell a reason, and no other is made while they are
-        // read: the handle isn't `Sync`, and the functions are those of `session.rs` and `database.rs`.
+        // read: the handle isn't `Sync`, and the functions are those of `session.rs`, `database.rs` and `watch.rs`.
         read(unsafe { self.told.get().bytes() })
     }
 }

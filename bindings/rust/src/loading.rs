@@ -53,7 +53,7 @@ impl Database {
     pub fn load_csv(&self, table: &str, block: impl AsRef<[u8]>) -> Result<usize> {
         let block = block.as_ref();
         match block.len() <= self.limits().block as usize {
-            true => self.load_block(table, block),
+            true => self.told(self.load_block(table, block)),
             false => self.load_csv_from(table, block),
         }
     }
@@ -140,6 +140,7 @@ impl<'d> Load<'d> {
             self.database.commit_to(before)?;
             self.before = None;
         }
+        self.database.tell();
         Ok(self.sent)
     }
 

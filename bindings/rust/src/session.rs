@@ -121,7 +121,7 @@ impl Session {
 }
 
 /// What the answer begins with that is a refusal.
-const ERROR: &str = "error ";
+pub(crate) const ERROR: &str = "error ";
 
 /// The refusal in an answer to a line, which was written so with its places, and the reason.
 pub(crate) fn refused(answer: &str, line: String, written: String, reason: Option<String>) -> Error {

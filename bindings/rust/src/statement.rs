@@ -102,7 +102,7 @@ impl<'db> Statement<'db> {
     /// Executes the insert, the update or the delete, and returns the number of rows.
     /// [`Error::NotAChange`](crate::Error::NotAChange) says that it is a select.
     pub fn execute<P: Params>(&mut self, params: P) -> Result<usize> {
-        self.kept.change(self.db.handle(), params)
+        self.db.told_change(&mut self.kept, params)
     }
 
     /// Executes the insert, the update or the delete with each of these rows of values, all of them or none, and returns the number of
@@ -119,7 +119,7 @@ impl<'db> Statement<'db> {
     /// # Ok::<(), mmdb::Error>(())
     /// ```
     pub fn execute_many<P: Params>(&mut self, rows: impl IntoIterator<Item = P>) -> Result<usize> {
-        self.kept.change_many(self.db, rows)
+        self.db.told(self.kept.change_many(self.db, rows))
     }
 
     /// The rows of the select, which are lent until it is executed again.

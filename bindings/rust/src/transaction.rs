@@ -195,8 +195,8 @@ impl Database {
     /// Ends the innermost transaction, and undoes what was done in it: the tables are those that it began with. It needs no
     /// memory. [`Error::NoTransaction`] says that none is open.
     pub fn rollback(&self) -> Result<()> {
-        self.handle().roll_back()?;
-        self.forget_columns();
+        self.undo()?;
+        self.tell();
         Ok(())
     }
 
@@ -220,7 +220,14 @@ impl Database {
 
     /// Rolls back those behind the first `before`.
     pub(crate) fn roll_back_to(&self, before: usize) -> Result<()> {
-        self.end_to(before, Database::rollback)
+        self.told(self.end_to(before, Database::undo))
+    }
+
+    /// Rolls the innermost one back.
+    fn undo(&self) -> Result<()> {
+        self.handle().roll_back()?;
+        self.forget_columns();
+        Ok(())
     }
 
     fn end_to(&self, before: usize, end: fn(&Database) -> Result<()>) -> Result<()> {
