@@ -24,7 +24,8 @@ pub struct Watch {
 /// is about no row or selects tells nothing, nor does a commit.
 ///
 /// The function has the number alone. It can't have the database, which is in a call, and another thread may be the one that calls. So it
-/// notes that something is old, and whoever reads that next makes it anew. If it panics the call does, and the change stands.
+/// notes that something is old, and whoever reads that next makes it anew. It must ask for no guard of a [`Shared`](crate::Shared) that it
+/// watches, since the writer has one. If it panics the call does, and the change stands; who wasn't told yet is so after the next one.
 impl Database {
     /// Has a function told of each change of any table, until what this returns is dropped.
     ///
@@ -107,7 +108,9 @@ impl Watches {
 
     fn begin(&self, handle: &Handle, table: &str, function: impl FnMut(u64) + Send + 'static) -> Watch {
         let function: Arc<Function> = Arc::new(Mutex::new(function));
-        self.watched.borrow_mut().push(Watched {
+        let mut watched = self.watched.borrow_mut();
+        watched.retain(Watched::is_open);
+        watched.push(Watched {
             table: table.into(),
             number: number_of(handle, table),
             function: Arc::downgrade(&function),
@@ -133,13 +136,17 @@ impl Watches {
     /// Whom to tell next, and what. Those are let go that were dropped.
     fn next(&self, handle: &Handle) -> Option<(Arc<Function>, u64)> {
         let mut watched = self.watched.borrow_mut();
-        watched.retain(|watch| watch.function.strong_count() > 0);
+        watched.retain(Watched::is_open);
         self.are_there.set(!watched.is_empty());
         watched.iter_mut().find_map(|watch| watch.risen(handle))
     }
 }
 
 impl Watched {
+    fn is_open(&self) -> bool {
+        self.function.strong_count() > 0
+    }
+
     /// Who is told of a number that has risen since it was told last, and the number. That of a table that is gone is that of all.
     fn risen(&mut self, handle: &Handle) -> Option<(Arc<Function>, u64)> {
         let number = number_of(handle, &self.table);

@@ -4,7 +4,8 @@ mod common;
 
 use std::cell::RefCell;
 use std::panic::{catch_unwind, AssertUnwindSafe};
-use std::sync::{Arc, Mutex, Weak};
+use std::rc::{Rc, Weak};
+use std::sync::{Arc, Mutex};
 use std::thread;
 
 use common::{number, open, row, selected, with_rows};
@@ -117,6 +118,8 @@ fn statements_that_stay_are_told_each_time() {
         assert_eq!(insert.execute((id, "c")), Ok(1));
         assert_eq!(told.take(), [db.table_version("t").unwrap()]);
         assert_eq!(db.execute("insert t (?, 'd')", [id + 10]), Ok(1));
+        assert_eq!(told.take(), [db.table_version("t").unwrap()]);
+        assert_eq!(db.command("insert t (?, 'd')", [id + 20]), Ok(Outcome::Count(1)));
         assert_eq!(told.take(), [db.table_version("t").unwrap()]);
     }
 }
@@ -309,9 +312,9 @@ fn answers_stay() {
 #[test]
 fn a_function_changes_the_database() {
     thread_local!(static DATABASE: RefCell<Weak<Database>> = RefCell::default());
-    let db = Arc::new(open());
+    let db = Rc::new(open());
     db.execute("table t (id int)", []).unwrap();
-    DATABASE.with(|held| *held.borrow_mut() = Arc::downgrade(&db));
+    DATABASE.with(|held| *held.borrow_mut() = Rc::downgrade(&db));
     let told = Told::default();
     let (mut tell, mut later) = (told.function(), Vec::new());
     let _watch = db.watch(move |number| {
