@@ -4,6 +4,7 @@ import copy
 import gc
 import os
 import threading
+import unittest.mock
 import warnings
 import weakref
 
@@ -233,6 +234,17 @@ class Tables(Told):
         self.assertEqual(of_v[1:], [self.db.version()])
         self.db.execute("insert u (1)")
         self.assertEqual(len(of_v), 2)
+
+    def test_a_number_that_finds_no_memory(self):
+        """A table of which nothing can be asked counts as changed."""
+        ask = self.db._version
+        with unittest.mock.patch.object(self.db, "_version", lambda table: b"error 90 no memory\n" if table else ask(table)):
+            self.db.execute("insert u (1)")
+            self.assertEqual(self.of_t, [self.db.version()])
+            self.db.execute("insert u (2)")
+            self.assertEqual(self.of_t[1:], [self.db.version()])
+        self.db.execute("insert t (3, 'c')")
+        self.assertEqual(self.of_t[2:], [self.db.version("t")])
 
     def test_a_rollback_tells_each_table(self):
         self.db.begin()

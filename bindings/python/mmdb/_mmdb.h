@@ -2,8 +2,8 @@
 
    The extension does what library.py does by ctypes, over the library's archive. What goes well is done in it. What
    wants to be put in order, doesn't fit, or is refused is handed to the Python class that is made of the one here, by
-   its methods `_perform`, `_stored_values`, `_stored_rows`, `_shaped`, `_refuse` and `_failed`, and by `_note` and `_tell` where
-   somebody watches its changes.
+   its methods `_perform`, `_stored_values`, `_stored_rows`, `_shaped`, `_refuse` and `_failed`. Where somebody watches
+   its changes, they are noted and told by its methods `_note` and `_tell`.
 
    Each call has its turn, so that they come one after another. The interpreter's lock is released while the library is in
    a call that may last, so that other threads go on; those that call the same database wait for their turn. What may
