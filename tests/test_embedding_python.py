@@ -51,7 +51,7 @@ class Programs(unittest.TestCase):
         self.assertEqual((ended.err, ended.out, ended.status), ("", printed, 0))
 
     def test_the_programs_of_each_page(self):
-        for page, count in (("README.md", 1), ("docs/python.md", 7)):
+        for page, count in (("README.md", 1), ("docs/python.md", 8)):
             found = embedding.programs(page, "python")
             self.assertEqual(len(found), count)
             for program, printed in found:

@@ -87,7 +87,7 @@ class Cargo(unittest.TestCase):
     def test_the_pieces_of_the_page(self):
         """Those behind the first program are one program."""
         pieces = PIECE.findall((harness.ROOT / "docs" / "rust.md").read_text())[1:]
-        self.assertEqual(len(pieces), 10)
+        self.assertEqual(len(pieces), 11)
         program = f"#![allow(unused)]\nfn main() -> Result<(), mmdb::Error> {{\n{''.join(pieces)}Ok(())\n}}\n"
         refused = "error 42 no referenced row: column 19: dept has no row with the key 99, which column dept names"
         refused += "\n  insert emp (?, ?, ?)\n                    ^"
