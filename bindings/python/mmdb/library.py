@@ -254,9 +254,12 @@ class Handle:
                 statement = self._statement(line, placed)
                 found = statement.done(self, values)
                 shape = statement.shape
+                is_told = self._is_watched and not placed.is_select
+                if is_told:
+                    self._note()
         except _Unstored:
             return self._done(line, placed, stored_values(values))
-        if self._is_watched:
+        if is_told:
             self._tell()
         return found if shape is None or shape.converters is None else shape.converted(found)
 
@@ -419,11 +422,15 @@ class _Statement:
     def done_many(self, handle: Handle, rows: List[Tuple[Any, ...]]) -> int:
         """Does it with each of these rows of values, and gives how many rows all were about."""
         count: int = 0
-        for values in rows:
-            self.prepare(handle, values)
-            self.bind(handle, values)
-            self.execute(handle, values)
-            count += handle._cells.changed
+        try:
+            for values in rows:
+                self.prepare(handle, values)
+                self.bind(handle, values)
+                self.execute(handle, values)
+                count += handle._cells.changed
+        finally:
+            if handle._is_watched:
+                handle._note()
         return count
 
     def count(self, handle: Handle, values: Tuple[Any, ...]) -> int:
@@ -494,8 +501,6 @@ class _Statement:
         status = _EXECUTE(handle._at, self.number, handle._cells_at)
         if status:
             self.failed(handle, status, values)
-        if handle._is_watched and not self.placed.is_select:
-            handle._note()
 
     def rows(self, handle: Handle, values: Tuple[Any, ...]) -> Rows:
         """The rows that the execution found. It is done once more where the columns that are known aren't theirs."""
@@ -615,9 +620,12 @@ class Prepared:
             with handle._turn:
                 found = statement.done(handle, values)
                 shape = statement.shape
+                is_told = handle._is_watched and not statement.placed.is_select
+                if is_told:
+                    handle._note()
         except _Unstored:
             return self._done(stored_values(values))
-        if handle._is_watched:
+        if is_told:
             handle._tell()
         return found if shape is None or shape.converters is None else shape.converted(found)
 
