@@ -454,7 +454,7 @@ class Database(Handle):
         """The number of the newest change of a table's rows, or of all tables if none is named.
 
         Each command that changes rows raises it, so whoever keeps something beside a table sees by it that this is old. A rollback
-        raises that of every table, and what is refused raises none. Raises `Refused` if there is no such table.
+        raises that of every table, and what is refused raises none. `watch` tells of it. Raises `Refused` if there is no such table.
         """
         name = encoded(table)
         with self._turn:
@@ -471,9 +471,9 @@ class Database(Handle):
         newest one. That is so within a transaction too, and of a rollback. A table that is dropped or that a rollback takes away is
         told by the number of all; until it is declared again nothing is told of it, nor before there is one of that name.
 
-        The function is called by the thread that made the call, while other threads may make theirs, and perhaps call it too. It may
-        use the database; what it changes is told by a further call of it, once it has returned. What it raises is raised by the call,
-        whose changes stand.
+        The function is called by the thread that made the call. Other threads go on meanwhile, and may call it with a newer number. It
+        may use the database; what it changes is told by a further call of it, once it has returned. What it raises is raised by the
+        call, whose changes stand.
         """
         name = encoded(table)
         with self._turn:

@@ -320,7 +320,7 @@ impl Database {
     }
 
     /// The number of the newest change of any table. Each command that changes rows raises it, so whoever keeps something beside
-    /// the tables sees by it that this is old. What is refused doesn't raise it.
+    /// the tables sees by it that this is old. What is refused doesn't raise it. [`watch`](Database::watch) tells of it.
     ///
     /// ```
     /// let db = mmdb::Database::open_in_memory()?;
