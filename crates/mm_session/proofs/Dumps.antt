@@ -36,10 +36,6 @@ use Rattle.plain_tables.specs.declared.refusal.Refusal.{Refusal}
 use Rattle.plain_tables.specs.declared.refusal.Refusal.TheVariants as refusal
 use Rattle.mm_session.specs.Dumps.{IsWithin, IsPast, GoesOnWithin, GoesPast, IsGivenUp}
 
--- what holds of each element holds of the one that comes next
-pub holds_next : {A : Type 0} (P : A → Type 0) (all front rest : List A) (x : A) → all ≡ front ++ x ∷ rest → All P all → P x
-holds_next P all front rest x split each = All-head P x rest (All-append_parts P front (x ∷ rest) (subst (All P) split each)).1
-
 -- a row that is held has a value in each column
 pub seen_long : (c : CatalogState) (s : RelationState) (r : TupleRef) → IsSome (finite.get s.rows r) → length (seen_values c s r) ≡ length s.schema.columns
 unfolding values_of row_values

@@ -7,6 +7,7 @@ pub mod ColumnLaws
 pub mod Counts
 pub mod Dumps
 pub mod Each
+pub mod FirstRows
 pub mod Indexes
 pub mod Kept
 pub mod Lines

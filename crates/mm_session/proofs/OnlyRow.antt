@@ -74,7 +74,7 @@ module _ (c : CatalogState) (ok : IsConsistent c) (query : Query) (one : IsMeant
   abbrev n : ℕ
   n = query.source.table.0
 
-  abbrev places : List Place
+  abbrev pub places : List Place
   places = places_shown (tables_at c (n ∷ [])) query.shown
 
   pub columns_same : columns_shown (length s.schema.columns) query.shown ≡ map (λ place. place.column) places
@@ -89,7 +89,7 @@ module _ (c : CatalogState) (ok : IsConsistent c) (query : Query) (one : IsMeant
       subst (All (λ (column : ColumnNumber). column.0 < length s.schema.columns)) (sym columns_same)
       (All-map (λ (column : ColumnNumber). column.0 < length s.schema.columns) (λ (p : Place). p.column) places (columns_over c ok query one s there places refl))
 
-  values_same : (r : TupleRef) → values_shown c s query.shown r ≡ shown_row c s places r
+  pub values_same : (r : TupleRef) → values_shown c s query.shown r ≡ shown_row c s places r
   values_same r = ap (map (λ (column : ColumnNumber). value_in c.relations s column.0 r)) columns_same ∙ sym (placed_shown c s r places)
 
   wide : length (columns_shown (length s.schema.columns) query.shown) ≡ length places

@@ -34,14 +34,6 @@ use Rattle.project_hash.proofs.Tables.{place_alone}
 use Rattle.mm_session.proofs.Queries.{key_source, source_columns, listing_over, singles_rise, single_lead}
 use Rattle.mm_session.proofs.Selects.{described_over, some_places, ordered_shown, names_shown}
 
--- ---- one row more
-
-pub next_passes : {A : Type 0} (p : A → Bool) (xs : List A) (x : A) → p x ≡ true → filter p (xs ++ x ∷ []) ≡ filter p xs ++ x ∷ []
-next_passes p xs x so = filter-append p xs (x ∷ []) ∙ ap (λ b. filter p xs ++ cond b (x ∷ []) []) so
-
-pub next_fails : {A : Type 0} (p : A → Bool) (xs : List A) (x : A) → p x ≡ false → filter p (xs ++ x ∷ []) ≡ filter p xs
-next_fails p xs x so = filter-append p xs (x ∷ []) ∙ ap (λ b. filter p xs ++ cond b (x ∷ []) []) so ∙ append-nil (filter p xs)
-
 -- what a list shows at a place, where it shows the same as another
 pub read_at : {A B C : Type 0} (f : A → C) (g : B → C) (xs : List A) (ys : List B) (k : ℕ) (x : A) (d : B) → map f xs ≡ map g ys → k < length ys → x ≡ get_or xs k x → f x ≡ g (get_or ys k d)
 read_at f g xs ys k x d same within there =

@@ -7,6 +7,7 @@ pub mod Columns
 pub mod Counting
 pub mod Dumps
 pub mod Each
+pub mod First
 pub mod IndexAnswers
 pub mod Judging
 pub mod Kept

@@ -6,6 +6,7 @@ mod cells;
 mod changing;
 mod columns;
 mod counted;
+mod first;
 mod found;
 mod indexes;
 mod listing;

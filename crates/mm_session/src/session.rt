@@ -75,6 +75,7 @@ impl Session {
     ghost use Rattle.mm_session.specs.Columns.{columns_told};
     ghost use Rattle.mm_session.specs.Rooms.{IsBounded};
     ghost use Rattle.mm_session.specs.Counting.{HasRows};
+    ghost use Rattle.mm_session.specs.First.{ShowsFirst};
     ghost use Rattle.mm_session.specs.Told.{IsPlanOf};
     ghost use Rattle.mm_session.specs.Sessions.{State, Gains, Feeds, Finishes, BreaksOff, new_session, tables_of};
 
@@ -306,6 +307,27 @@ impl Session {
             .select_values(executor.tables.catalog(), query, room, cells)
     }
 
+    /// Makes the cells the values of the first rows that a select shows, so many at most, as `select` does of all. Of a table alone no
+    /// more rows are looked at than it takes to find these, where no index finds its rows, or that of its key does.
+    pub fn first(
+        &self,
+        query: &Query,
+        most: usize,
+        room: &mut SelectRoom,
+        cells: &mut Cells,
+    ) -> Result<usize, CellFault>
+        requires { IsMeant self.now.limits self.now.database (resolved.Select query.now) }
+        ensures shown { IfOk result (λ columns. ShowsFirst (done self.now.limits self.now.database (resolved.Select query.now)).outcome most columns (values_of cells.new)) }
+        ensures some { IfOk result (λ columns. 0 < columns) }
+        ensures too_long { IsErrOf result CellFault.TooLong → AreFull (values_of cells.new) }
+        ensures room { IsBounded room.new }
+    {
+        let executor = &self.responder.executor;
+        executor
+            .reading()
+            .first_values(executor.tables.catalog(), query, most, room, cells)
+    }
+
     /// How many rows a select shows. They are counted as they are found, and none of their values is kept.
     pub fn count(&self, query: &Query) -> Result<u64, CountFault>
         requires { IsMeant self.now.limits self.now.database (resolved.Select query.now) }
@@ -360,9 +382,7 @@ impl Session {
         ensures named { IfErr result (λ _. name.now ≢ []) }
     {
         let executor = &self.responder.executor;
-        executor
-            .reading()
-            .version(executor.tables.catalog(), name)
+        executor.reading().version(executor.tables.catalog(), name)
     }
 
     /// Takes the next bytes of the stream, and answers each request that ends in them.

@@ -3,6 +3,7 @@ mod ColumnsTold
 pub mod Counts
 pub mod Executing
 pub mod Finished
+pub mod Firsts
 pub mod Given
 pub mod Headings
 pub mod Lines

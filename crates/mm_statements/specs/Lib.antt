@@ -4,6 +4,7 @@ pub mod Counting
 pub mod Databases
 pub mod Executing
 pub mod Faults
+pub mod First
 pub mod Held
 pub mod LineLaws
 pub mod Many

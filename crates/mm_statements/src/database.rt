@@ -111,6 +111,7 @@ impl Database {
     ghost use Rattle.mm_prepared.specs.Cells.{IsSmall, cell_value};
     ghost use Rattle.mm_prepared.specs.Kept.{KeptStatement};
     ghost use Rattle.mm_statements.specs.Counting.{HasRowsOf, IsUncounted};
+    ghost use Rattle.mm_statements.specs.First.{IsUnshown, ShowsFirstOf};
     ghost use Rattle.mm_statements.specs.Databases.{statement_at, IsUnchanged, KeepsTables, NowNames, SameStatements, SharesMore};
     ghost use Rattle.mm_statements.specs.Executing.{HasGiven, IsDeclined, IsEffectOf, IsUntold, TellsColumns};
     ghost use Rattle.mm_statements.specs.Many.{IsDeclinedWithMany, IsEffectOfMany};
@@ -542,6 +543,30 @@ impl Database {
         };
         push_columns(cells, self.held.catalog(), query)?;
         Ok(())
+    }
+
+    /// Makes the cells the values of the first rows that the select of a number shows with the values that are bound, so many at most, and
+    /// tells how many columns each has. It is refused as an execution is, and what is no select isn't done: it is refused by 20 once its
+    /// names and its values are right. Where it fails the cells may be any. `TooLong` comes only if their texts have 4 GiB or more then.
+    pub fn first(
+        &mut self,
+        number: usize,
+        most: usize,
+        shown: &mut Cells,
+    ) -> Result<usize, ExecuteFault>
+        ensures shown { IfOk result (λ columns. ShowsFirstOf self.old number most columns (values_of shown.new)) }
+        ensures some { IfOk result (λ columns. 0 < columns) }
+        ensures missing { statement_at self.old number ≡ None → result ≡ Err fault.NoSuchStatement }
+        ensures declined { IfErr result (IsUnshown self.old number) }
+        ensures too_long { IsErrOf result ExecuteFault.TooLong → AreFull (values_of shown.new) }
+        ensures unchanged { IsUnchanged self.old self.new }
+    {
+        shown.clear();
+        resolve(&self.held, &mut self.noted, &mut self.statements, number)?;
+        let kept = self.commands.at(number);
+        let lent = command_of(&self.statements, number, kept)?;
+        let query = select_of(&lent)?;
+        Ok(self.held.first(query, most, &mut self.room, shown)?)
     }
 
     /// How many rows the select of a number shows with the values that are bound. They are counted, and none of their values is kept. It is

@@ -12,6 +12,7 @@ ghost use Rattle.mm_cells.specs.Reading.{AreFull};
 ghost use Rattle.mm_cells.specs.Values.{values_of};
 ghost use Rattle.mm_session.specs.Changing.{HasChanged, IsChange, ShowsValues};
 ghost use Rattle.mm_session.specs.Counting.{HasRows};
+ghost use Rattle.mm_session.specs.First.{ShowsFirst};
 ghost use Rattle.mm_session.specs.OneRequest.{AnswersOne, GoesBetween, IsAtSamePlace, StaysInStream};
 ghost use Rattle.mm_session.specs.Reads.{WouldChange};
 ghost use Rattle.mm_session.specs.Rooms.{IsBounded};
@@ -237,6 +238,24 @@ impl SharedSession {
         ensures room { IsBounded room.new }
     {
         self.session().select(query, room, cells)
+    }
+
+    /// Makes the cells the values of the first rows that a select shows, so many at most, as the session does. The rows are found in the
+    /// room.
+    pub fn first(
+        &self,
+        query: &Query,
+        most: usize,
+        room: &mut SelectRoom,
+        cells: &mut Cells,
+    ) -> Result<usize, CellFault>
+        requires { IsMeant self.now.session.limits self.now.session.database (resolved.Select query.now) }
+        ensures shown { IfOk result (λ columns. ShowsFirst (done self.now.session.limits self.now.session.database (resolved.Select query.now)).outcome most columns (values_of cells.new)) }
+        ensures some { IfOk result (λ columns. 0 < columns) }
+        ensures too_long { IsErrOf result CellFault.TooLong → AreFull (values_of cells.new) }
+        ensures room { IsBounded room.new }
+    {
+        self.session().first(query, most, room, cells)
     }
 
     /// How many rows a select shows, as the session counts them.

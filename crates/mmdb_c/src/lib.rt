@@ -24,6 +24,8 @@ mod cloning;
 pub mod count_calls;
 mod counts;
 mod database;
+pub mod first_calls;
+mod firsts;
 mod given;
 mod handle;
 mod many;

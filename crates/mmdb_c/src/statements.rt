@@ -44,8 +44,8 @@ pub enum Unexecuted {
     Shared,
 }
 
-// Makes sure of cells for the values that the statement of a number shows.
-fn make_room(shown: &mut Vec<Cells>, number: usize) -> Result<(), NoMemory>
+/// Makes sure of cells for the values that the statement of a number shows.
+pub fn make_room(shown: &mut Vec<Cells>, number: usize) -> Result<(), NoMemory>
     ensures room { OnOk result (number < length shown.new.items) }
     ensures others { (k : ℕ) (cells : PlainCells) → slice_get shown.old.items k ≡ Some cells → slice_get shown.new.items k ≡ Some cells }
 {

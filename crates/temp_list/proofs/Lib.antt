@@ -4,6 +4,8 @@ pub mod Pairs
 pub mod Lists
 pub mod Ranges
 pub mod Searches
+pub mod Walks
+mod FirstRows
 pub mod Neighbours
 pub mod Keys
 pub mod Slots

@@ -31,8 +31,8 @@ fn place_beside(column: ColumnNumber, test: &Test, value: &StoredValue) -> Order
     }
 }
 
-// Where a value of a column stands beside those that pass each test that bounds it.
-fn place_between(column: ColumnNumber, tests: &[Test], value: &StoredValue) -> Ordering
+/// Where a value of a column stands beside those that pass each test that bounds it.
+pub(crate) fn place_between(column: ColumnNumber, tests: &[Test], value: &StoredValue) -> Ordering
     ensures { result ≡ place_between_so column.0 tests.now value.now }
 {
     for test in tests {

@@ -15,6 +15,7 @@
 #![tactic(auto)]
 
 mod bounds_probe;
+mod first_rows;
 mod keyed;
 pub mod laws;
 mod list;
@@ -28,8 +29,9 @@ mod selecting;
 mod sorting;
 mod standing;
 
+pub use first_rows::find_first_rows;
 pub use keyed::KeySorter;
 pub use list::TempList;
 pub use only_row::find_only_row;
-pub use selecting::{find_few_rows, find_rows, find_rows_into, select};
+pub use selecting::{find_few_rows, find_rows, find_rows_into, most_sorted, select};
 pub use standing::stands;

@@ -18,10 +18,10 @@ use plain_tables::{Op, TableNumber, Test};
 use plan_chooser::SelectPlan;
 use std::alloc::Global;
 
-// How many rows a look at each slot may find, so that to put these into the order of their keys costs less than to walk the tree
-// of the key. Integers are sorted beside their rows, so there may be more of them. With no test all rows are found, so the tree is
-// walked at once.
-fn most_sorted(relation: &Relation, tests: &[Test]) -> u64 {
+/// How many rows a look at each slot may find, so that to put these into the order of their keys costs less than to walk the tree
+/// of the key: an eighth of the table, or a sixteenth where its keys are no integers, since integers are sorted beside their rows. With
+/// no test all rows are found, so the tree is walked at once.
+pub fn most_sorted(relation: &Relation, tests: &[Test]) -> u64 {
     if tests.is_empty() {
         0
     } else if relation.has_integer_keys() {
@@ -50,14 +50,14 @@ fn find_by_scan<R: Relations>(
     }
 }
 
-/// The rows of a table that pass the tests, each once, in any order, found by a look at each slot. None where they are more than an
-/// eighth of the table, or a sixteenth where its keys are no integers, or no test is made: then a walk of the tree of the key, which
-/// gives them in their order, costs less than to sort them.
+/// The rows of a table that pass the tests, each once, in any order, found by a look at each slot. None where they are more than so
+/// many.
 pub fn find_few_rows<R: Relations>(
     alloc: Global,
     tables: &R,
     table: TableNumber,
     tests: &[Test],
+    most: u64,
 ) -> Result<Option<Vec<TupleRef>>, NoMemory>
     requires sound { AreSound (R.tables tables.now) }
     requires there { table.0 < length (R.tables tables.now) }
@@ -65,7 +65,6 @@ pub fn find_few_rows<R: Relations>(
     ensures { IfOk result (λ found. IfSome found (λ rows. OfRelation (R.tables tables.now) table.0 (λ s. AreSelected (R.tables tables.now) s tests.now rows.items))) }
 {
     let relation = tables.at(table);
-    let most = most_sorted(relation, tests);
     passing_in_slots(alloc, tables, relation, tests, most)
 }
 

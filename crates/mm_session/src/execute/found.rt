@@ -14,7 +14,7 @@ ghost use Rattle.mm_session.specs.Walked.{IsOrdered, rows_shown};
 
 use super::ReadExecutor;
 use super::only_row::shown_width;
-use super::rows::push_shown;
+use super::rows::push_each;
 use super::sink::RowSink;
 use crate::room::SelectRoom;
 use mm_catalog::Catalog;
@@ -24,8 +24,8 @@ use no_memory::NoMemory;
 use plain_tables::Query;
 
 impl ReadExecutor {
-    // Puts the rows that a select of one table found into the order in which it shows them. A failure may leave any rows in the room.
-    fn put_in_order(
+    /// Puts the rows that a select of one table found into the order in which it shows them. A failure may leave any rows in the room.
+    pub fn put_in_order(
         &self,
         catalog: &Catalog,
         query: &Query,
@@ -57,9 +57,7 @@ impl ReadExecutor {
     {
         a_catalog_is_consistent(catalog);
         let relation = catalog.at(query.source.table);
-        for r in rows {
-            push_shown(sink, catalog, relation, *r, &query.shown)?;
-        }
+        push_each(sink, catalog, relation, rows, &query.shown)?;
         Ok(shown_width(relation, &query.shown))
     }
 

@@ -1,6 +1,6 @@
 //! Rows that are put into a sink, value by value, from where they lie.
 
-ghost use Rattle.std.specs.Prelude.{◌≡◌, ◌∷◌, ◌<◌, ℕ, [], Some, IsSome, IfErr, OnOk, length, map, slice_get, slice_index_or};
+ghost use Rattle.std.specs.Prelude.{◌≡◌, ◌∷◌, ◌<◌, ℕ, [], Some, IsSome, IfErr, OnOk, length, map, slice_get, slice_index_or, take};
 ghost use Rattle.std.specs.FinMap as finite;
 ghost use Rattle.std.specs.List.{All};
 ghost use Rattle.mm_catalog.specs.Picked.{seen_values};
@@ -105,6 +105,27 @@ pub fn push_shown<'a, S: RowSink<'a>>(
     sink.end_row()
 }
 
+/// Puts rows of one table into a sink: of each the values that are shown.
+pub fn push_each<'a, S: RowSink<'a>>(
+    sink: &mut S,
+    catalog: &'a Catalog,
+    relation: &'a Relation,
+    rows: &[TupleRef],
+    shown: &Shown,
+) -> Result<(), S::Fault>
+    requires lent { (n : ℕ) × (slice_get catalog.now.relations n ≡ Some relation.now) }
+    requires held { All (λ r. IsSome (finite.get relation.now.rows r)) rows.now }
+    requires columns { All (λ column. column.0 < length relation.now.schema.columns) (columns_shown (length relation.now.schema.columns) shown.now) }
+    requires some { 0 < length (columns_shown (length relation.now.schema.columns) shown.now) }
+    ensures put { OnOk result (PutsRows S.received sink.old sink.new (map (values_shown catalog.now relation.now shown.now) rows.now)) }
+    ensures declined { IfErr result (S.declines sink.new) }
+{
+    for r in rows {
+        push_shown(sink, catalog, relation, *r, shown)?;
+    }
+    Ok(())
+}
+
 // Puts a row of a list over one table into a sink: the values at these places. Its row is looked up once.
 #[inline]
 fn push_single<'a, S: RowSink<'a>>(
@@ -170,6 +191,26 @@ fn push_row<'a, S: RowSink<'a>>(
     }
 }
 
+/// Puts the first rows of a list into a sink, so many at most: of each the values at these places.
+pub fn push_front<'a, S: RowSink<'a>>(
+    sink: &mut S,
+    catalog: &'a Catalog,
+    list: &TempList,
+    places: &[Place],
+    most: usize,
+) -> Result<(), S::Fault>
+    requires over { IsOver catalog.now.relations list.now }
+    requires places { All (HasPlace catalog.now.relations list.now.sources) places.now }
+    requires some { 0 < length places.now }
+    ensures put { OnOk result (PutsRows S.received sink.old sink.new (map (placed_values catalog.now list.now.sources places.now) (take most list.now.rows))) }
+    ensures declined { IfErr result (S.declines sink.new) }
+{
+    for row in 0..most.min(list.len()) {
+        push_row(sink, catalog, list, row, places)?;
+    }
+    Ok(())
+}
+
 /// Puts the rows of a list into a sink: of each the values at these places.
 pub fn push_list<'a, S: RowSink<'a>>(
     sink: &mut S,
@@ -183,8 +224,5 @@ pub fn push_list<'a, S: RowSink<'a>>(
     ensures put { OnOk result (PutsRows S.received sink.old sink.new (map (placed_values catalog.now list.now.sources places.now) list.now.rows)) }
     ensures declined { IfErr result (S.declines sink.new) }
 {
-    for row in 0..list.len() {
-        push_row(sink, catalog, list, row, places)?;
-    }
-    Ok(())
+    push_front(sink, catalog, list, places, list.len())
 }

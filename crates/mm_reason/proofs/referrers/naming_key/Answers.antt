@@ -3,7 +3,7 @@ use Rattle.std.specs.FinMap as finite
 use Rattle.part_raw.specs.declared.tuple_ref.TupleRef.{TupleRef}
 use Rattle.ttree.specs.Held.{rest_of}
 use Rattle.mm_relation.specs.State.{tree_list}
-use Rattle.mm_session.proofs.Dumps.{holds_next}
+use Rattle.temp_list.proofs.Walks.{holds_next}
 use Rattle.mm_reason.proofs.referrers.naming_key.Goals as goal
 
 pub row-requires : goal.row-requires

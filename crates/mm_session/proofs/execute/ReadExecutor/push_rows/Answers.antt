@@ -6,7 +6,8 @@ use Rattle.std.specs.FinMap as finite
 use Rattle.part_raw.specs.declared.tuple_ref.TupleRef.{TupleRef}
 use Rattle.ttree.specs.Held.{rest_of}
 use Rattle.mm_catalog.specs.Picked.{seen_values}
-use Rattle.mm_session.proofs.Dumps.{holds_next, records_more, refused_at, handed_on}
+use Rattle.temp_list.proofs.Walks.{holds_next}
+use Rattle.mm_session.proofs.Dumps.{records_more, refused_at, handed_on}
 use Rattle.mm_session.proofs.execute.ReadExecutor.push_rows.Goals as goal
 use Rattle.mm_relation.specs.State.{tree_list}
 

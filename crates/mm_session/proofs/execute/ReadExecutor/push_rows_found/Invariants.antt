@@ -1,7 +1,0 @@
-use Rattle.std.proofs.Common.{map, take}
-use Rattle.mm_session.specs.OnlyRow.{values_shown}
-use Rattle.mm_session.specs.Sinks.{PutsRows}
-use Rattle.mm_session.proofs.execute.ReadExecutor.push_rows_found.Given as goal
-
-abbrev pub invariant-loop-r : goal.invariant-loop-r
-invariant-loop-r g l = PutsRows g.S.RowSink.received l.fn.sink l.sink (map (values_shown l.catalog l.relation l.query.shown) (take l.r-index l.rows))
