@@ -158,7 +158,28 @@ impl Database {
 
     /// The rows of a select. [`Error::NotASelect`] says that the line is none, and then it isn't done.
     pub fn query<P: Params>(&self, line: &str, params: P) -> Result<Rows> {
-        self.select(line, params, |rows| Ok(rows.to_rows()))
+        self.select(line, params, None, |rows| Ok(rows.to_rows()))
+    }
+
+    /// The first rows of a select, so many at most, in the order in which [`query`](Database::query) returns all of them.
+    /// [`Error::NotASelect`] says that the line is none.
+    ///
+    /// Of one table no more rows are looked at than it takes, unless an index on another column finds them. With `distinct` and
+    /// with joins all are found first. So a large table is read page by page, and may change between two pages:
+    ///
+    /// ```
+    /// let db = mmdb::Database::open_in_memory()?;
+    /// db.execute("table t (id int, s text)", [])?;
+    /// db.load("t", (1..=1000).map(|id| (id, "a")))?;
+    ///
+    /// let page = db.first(100, "select * from t", [])?;
+    /// let last: i64 = page.get(99).expect("a row").get("id")?;
+    /// let next = db.first(100, "select * from t where id > ?", [last])?;
+    /// assert_eq!((next.len(), next.get(0).expect("a row").get("id")), (100, Ok(101)));
+    /// # Ok::<(), mmdb::Error>(())
+    /// ```
+    pub fn first<P: Params>(&self, most: usize, line: &str, params: P) -> Result<Rows> {
+        self.select(line, params, Some(most), |rows| Ok(rows.to_rows()))
     }
 
     /// What a function makes of each row of a select, in order.
@@ -241,7 +262,7 @@ impl Database {
         P: Params,
         F: FnOnce(&Row<'_>) -> Result<T>,
     {
-        self.select(line, params, |rows| rows.first(read))
+        self.select(line, params, None, |rows| rows.first(read))
     }
 
     /// How many rows a select shows, which are counted and not made. [`Error::NotASelect`] says that the line is none.
@@ -524,14 +545,21 @@ impl Database {
         }
     }
 
-    /// What is made of the rows of a select, which its statement lends. Where they are many, their room isn't kept.
-    fn select<P, T>(&self, line: &str, params: P, make: impl FnOnce(RowsRef<'_>) -> Result<T>) -> Result<T>
+    /// What is made of the rows of a select, which its statement lends, or of the first of them. Where they are many, their room
+    /// isn't kept.
+    fn select<P, T>(
+        &self,
+        line: &str,
+        params: P,
+        most: Option<usize>,
+        make: impl FnOnce(RowsRef<'_>) -> Result<T>,
+    ) -> Result<T>
     where
         P: Params,
     {
         let handle = self.handle();
         let (mut kept, params) = self.kept_select(line, params)?;
-        let rows = kept.rows(handle, params, self.known.declared())?;
+        let rows = kept.rows(handle, params, self.known.declared(), most)?;
         let are_many = rows.are_many();
         let made = make(rows);
         if are_many {

@@ -131,12 +131,14 @@ impl Kept {
         many.in_the_whole(self.written.why(handle, number, declined))
     }
 
-    /// The rows of a select, which are lent. The names of its columns are asked for where the declarations are others.
+    /// The rows of a select, which are lent: all of them, or only the first, so many at most. The names of its columns are asked
+    /// for where the declarations are others.
     pub(crate) fn rows<'k, P: Params>(
         &'k mut self,
         handle: &'k Handle,
         params: P,
         declared: u64,
+        most: Option<usize>,
     ) -> Result<RowsRef<'k>> {
         if !self.is_select {
             return Err(Error::NotASelect);
@@ -148,8 +150,12 @@ impl Kept {
             self.names = Arc::new(names.map_err(|declined| self.written.why(handle, number, declined))?);
             self.named_at = Some(declared);
         }
-        match handle.execute(&mut self.prepared) {
-            Ok(executed) => Ok(RowsRef::new(&self.names, executed.cells)),
+        let found = match most {
+            None => handle.execute(&mut self.prepared).map(|executed| executed.cells),
+            Some(most) => handle.first(&mut self.prepared, most),
+        };
+        match found {
+            Ok(cells) => Ok(RowsRef::new(&self.names, cells)),
             Err(declined) => Err(self.written.why(handle, number, declined)),
         }
     }

@@ -119,6 +119,7 @@ extern "C" {
     ) -> u32;
     fn mmdb_columns(db: *mut Inside, statement: u32, columns: *mut Found) -> u32;
     fn mmdb_count(db: *mut Inside, statement: u32, count: *mut u64) -> u32;
+    fn mmdb_first(db: *mut Inside, statement: u32, most: usize, rows: *mut Found) -> u32;
     fn mmdb_finalize(db: *mut Inside, statement: u32) -> u32;
     fn mmdb_indexes(db: *mut Inside, table: *const u8, length: usize, answer: *mut Told) -> u32;
     fn mmdb_version(db: *mut Inside, table: *const u8, length: usize, version: *mut u64) -> u32;
@@ -349,11 +350,20 @@ impl Handle {
         // SAFETY: the handle is open.
         done(unsafe { mmdb_execute(self.inside.get(), statement.0, &mut found) })?;
         Ok(Executed {
-            // SAFETY: the rows are good until the statement is executed again or finalised, or the handle is closed.
-            // Both are lent as long as the rows are. The library has UTF-8 texts alone.
+            // SAFETY: the rows are good until the statement is executed again, asked for its first rows or finalised, or the
+            // handle is closed. Both are lent as long as the rows are. The library has UTF-8 texts alone.
             cells: unsafe { found.cells() },
             changed: found.changed,
         })
+    }
+
+    /// The first rows that a statement of this handle shows, so many at most, in the place of those that it has shown.
+    pub(crate) fn first<'s>(&'s self, statement: &'s mut Prepared, most: usize) -> Result<Cells<'s>, Declined> {
+        let mut found = Found::NOTHING;
+        // SAFETY: as of `execute`.
+        done(unsafe { mmdb_first(self.inside.get(), statement.0, most, &mut found) })?;
+        // SAFETY: the rows are good as long as those of `execute`.
+        Ok(unsafe { found.cells() })
     }
 
     /// Does what a statement of this handle says with rows of values, all of them or none, and returns how many rows were changed.

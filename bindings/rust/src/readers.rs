@@ -76,6 +76,11 @@ impl Reader<'_> {
         self.database.query(line, params)
     }
 
+    /// The first rows of a select, so many at most.
+    pub fn first<P: Params>(&self, most: usize, line: &str, params: P) -> Result<Rows> {
+        self.database.first(most, line, params)
+    }
+
     /// What a function makes of each row of a select, in order.
     pub fn query_map<T, P, F>(&self, line: &str, params: P, map: F) -> Result<MappedRows<F>>
     where

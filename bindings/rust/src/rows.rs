@@ -105,7 +105,7 @@ impl Rows {
     }
 }
 
-/// The rows of a [`Statement`](crate::Statement), which lends them until it is executed again.
+/// The rows of a [`Statement`](crate::Statement), which lends them until it is executed again or asked for its first rows.
 #[derive(Clone, Copy)]
 pub struct RowsRef<'r> {
     names: &'r Arc<Vec<String>>,

@@ -122,7 +122,7 @@ impl<'db> Statement<'db> {
         self.db.told(self.kept.change_many(self.db, rows))
     }
 
-    /// The rows of the select, which are lent until it is executed again.
+    /// The rows of the select, which are lent until it is executed again or asked for its first rows.
     /// [`Error::NotASelect`](crate::Error::NotASelect) says that it is none.
     ///
     /// ```
@@ -139,7 +139,27 @@ impl<'db> Statement<'db> {
     /// # Ok::<(), mmdb::Error>(())
     /// ```
     pub fn query<P: Params>(&mut self, params: P) -> Result<RowsRef<'_>> {
-        self.kept.rows(self.db.handle(), params, self.db.declared())
+        self.kept.rows(self.db.handle(), params, self.db.declared(), None)
+    }
+
+    /// The first rows of the select, so many at most, in the order in which [`query`](Statement::query) returns all of them. They
+    /// are lent as those are, and found as those of [`Database::first`].
+    ///
+    /// ```
+    /// # let db = mmdb::Database::open_in_memory()?;
+    /// # db.execute("table t (id int)", [])?;
+    /// # db.load("t", (1..=7).map(|id| [id]))?;
+    /// let mut next = db.prepare("select id from t where id > ?")?;
+    /// let (mut last, mut lasts) = (0, Vec::new());
+    /// while let Some(row) = next.first(3, [last])?.iter().last() {
+    ///     last = row.get(0)?;
+    ///     lasts.push(last);
+    /// }
+    /// assert_eq!(lasts, [3, 6, 7]);
+    /// # Ok::<(), mmdb::Error>(())
+    /// ```
+    pub fn first<P: Params>(&mut self, most: usize, params: P) -> Result<RowsRef<'_>> {
+        self.kept.rows(self.db.handle(), params, self.db.declared(), Some(most))
     }
 
     /// What a function makes of each row of the select, in order.

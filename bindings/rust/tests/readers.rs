@@ -63,6 +63,8 @@ fn a_reader_has_the_calls_of_selects() {
     );
     assert_eq!(reader.count("select s from t where id > ?", [1]), Ok(1));
     assert_eq!(reader.count("delete t", []), Err(Error::NotASelect));
+    assert_eq!(reader.first(1, "select * from t", []).unwrap().to_vec(), [row(1, "a")]);
+    assert_eq!(reader.first(1, "delete t", []).unwrap_err(), Error::NotASelect);
     assert_eq!(reader.prepare("select nothing from t").unwrap_err().number(), Some(32));
     for line in [
         "insert t (3, 'c')",
