@@ -364,6 +364,14 @@ static PyObject *handle_count(PyObject *self, PyObject *words)
     return done_anyhow(self, &given, "_stored_values", statement_count);
 }
 
+static PyObject *handle_first(PyObject *self, PyObject *words)
+{
+    Given given;
+    if (!PyArg_ParseTuple(words, "OO!O!", &given.line, &PyTuple_Type, &given.placed, &PyTuple_Type, &given.values))
+        return NULL;
+    return done_anyhow(self, &given, "_stored_values", statement_first);
+}
+
 /* The bytes of an answer, or none of an empty line; or null, and what a status says is raised. */
 static PyObject *told(Handle *handle, uint32_t status, mmdb_bytes answer)
 {
@@ -642,6 +650,8 @@ static PyMethodDef handle_methods[] = {
       "Does a statement, which is kept by its line, with each of these rows of values." },
     { "_count", handle_count, METH_VARARGS,
       "How many rows a select shows, which is kept by its line, with these values." },
+    { "_first", handle_first, METH_VARARGS,
+      "The first rows of a select, which is kept by its line: how many at most comes before its values." },
     { "_command", handle_command, METH_VARARGS, "What is answered to a line." },
     { "_load", handle_load, METH_VARARGS, "What is answered to a line with its block." },
     { "_indexes", handle_indexes, METH_VARARGS, "What is answered to who asks how the indexes of a table stand." },
@@ -867,6 +877,11 @@ static PyObject *prepared_count(PyObject *self, PyObject *values)
     return prepared_done_anyhow(self, values, "_stored_values", statement_count);
 }
 
+static PyObject *prepared_first(PyObject *self, PyObject *asked)
+{
+    return prepared_done_anyhow(self, asked, "_stored_values", statement_first);
+}
+
 static PyObject *prepared_names(PyObject *self, PyObject *Py_UNUSED(none))
 {
     Prepared *prepared = (Prepared *)self;
@@ -887,6 +902,7 @@ static PyMethodDef prepared_methods[] = {
     { "_done", prepared_done, METH_O, "Does it with these values." },
     { "_done_many", prepared_done_many, METH_O, "Does it with each of these rows of values." },
     { "_count", prepared_count, METH_O, "How many rows it shows with these values." },
+    { "_first", prepared_first, METH_O, "The first rows that it shows: how many at most comes before its values." },
     { "_names", prepared_names, METH_NOARGS, "The names of its columns, whatever its parameters are." },
     { NULL, NULL, 0, NULL },
 };

@@ -112,6 +112,10 @@ PyObject *statement_done_by(Handle *handle, Statement *statement, PyObject *cons
    isn't stored as it is. */
 PyObject *statement_count(Handle *handle, Statement *statement, PyObject *values);
 
+/* The first rows that a select shows, by a tuple of how many at most and of its values. Gives null, and nothing is raised, where one
+   of the values isn't stored as it is. */
+PyObject *statement_first(Handle *handle, Statement *statement, PyObject *asked);
+
 /* Does an insert, an update or a delete with each row of a list of tuples, and gives how many rows all were about. Gives
    null, and nothing is raised or done, where one of the values isn't stored as it is. */
 PyObject *statement_done_many(Handle *handle, Statement *statement, PyObject *rows);

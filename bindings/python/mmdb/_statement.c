@@ -11,6 +11,9 @@
 /* How many bytes a statement that waits may hold. */
 #define HELD ((size_t)1 << 16)
 
+/* How many rows of a select are wanted where all are. */
+#define ALL SIZE_MAX
+
 /* How many values are put in order without asking for memory. No command that is accepted has as many places. */
 #define MOST_VALUES 64
 
@@ -381,12 +384,29 @@ static int execute(Handle *handle, Statement *statement, PyObject *const *values
     return 0;
 }
 
-/* Does a select whose values are bound. It is done once more where its rows have other columns than those known. */
-static PyObject *selected(Handle *handle, Statement *statement, PyObject *const *values, Py_ssize_t count, size_t *size)
+/* Finds the first rows of a select, so many at most, while other threads go on. */
+static int find_first(Handle *handle, Statement *statement, PyObject *const *values, Py_ssize_t count, size_t most,
+                      mmdb_rows *rows)
+{
+    uint32_t number = statement->given.number, status;
+    Py_BEGIN_ALLOW_THREADS
+    status = mmdb_first(&handle->db, number, most, rows);
+    Py_END_ALLOW_THREADS
+    return status == MMDB_DONE ? 0 : refused(handle, statement, status, values, count);
+}
+
+/* Does a select whose values are bound, or finds only its first rows where they are fewer than ALL. It is done once more where its
+   rows have other columns than those known. */
+static PyObject *selected(Handle *handle, Statement *statement, PyObject *const *values, Py_ssize_t count, size_t most,
+                          size_t *size)
 {
     mmdb_rows rows;
     for (int tries = 0; tries < 2; tries++) {
-        if (statement_know_shape(handle, statement) < 0 || execute(handle, statement, values, count, &rows) < 0)
+        if (statement_know_shape(handle, statement) < 0)
+            return NULL;
+        int status = most == ALL ? execute(handle, statement, values, count, &rows)
+                                 : find_first(handle, statement, values, count, most, &rows);
+        if (status < 0)
             return NULL;
         if (statement->shape != NULL && statement->columns == rows.columns) {
             if (PyTuple_GetItem(statement->shape, 4) != Py_None)
@@ -414,7 +434,7 @@ static PyObject *done(Handle *handle, Statement *statement, PyObject *const *val
     if (status != MMDB_DONE)
         return NULL;
     if (statement->is_select)
-        given = selected(handle, statement, values, count, &size);
+        given = selected(handle, statement, values, count, ALL, &size);
     else if (execute(handle, statement, values, count, &rows) < 0)
         given = NULL;
     else
@@ -514,6 +534,26 @@ PyObject *statement_count(Handle *handle, Statement *statement, PyObject *tuple)
         return NULL;
     if (prepare(handle, statement, values, count) == 0 && bind_all(handle, statement, values, count, &size) == MMDB_DONE)
         given = counted(handle, statement, values, count);
+    if (size > HELD)
+        statement_finalize(handle, statement);
+    if (values != room)
+        PyMem_Free(values);
+    return given;
+}
+
+PyObject *statement_first(Handle *handle, Statement *statement, PyObject *asked)
+{
+    PyObject *room[MOST_VALUES], *given = NULL, *wanted = PyTuple_GetItem(asked, 0);
+    Py_ssize_t count;
+    size_t size = 0, most = wanted == NULL ? 0 : PyLong_AsSize_t(wanted);
+    PyObject **values = PyErr_Occurred() ? NULL : values_of(asked, room, &count);
+    if (values == NULL)
+        return NULL;
+    PyObject *const *parameters = values + 1;
+    count--;
+    if (prepare(handle, statement, parameters, count) == 0 &&
+        bind_all(handle, statement, parameters, count, &size) == MMDB_DONE)
+        given = selected(handle, statement, parameters, count, most, &size);
     if (size > HELD)
         statement_finalize(handle, statement);
     if (values != room)

@@ -37,7 +37,7 @@ from .indexes import Index, indexes_of
 from .lines import CHANGES, CHANGING, Placed, check_kind, check_line, filled_table, one_line, placed
 from .loads import CHUNK, MANY, Arrange, blocks_of_rows, by_name, by_order, chunked, header_of, in_whole, kept_names, plain_blocks
 from .quotes import Form, form_of
-from .rows import Rows, Shape, shape_of
+from .rows import Rows, Shape, most_rows, shape_of
 from .statement import Statement
 from .values import Column, Value, as_bytes, columns_of, encoded, stored_rows, stored_values
 
@@ -172,6 +172,19 @@ class Database(Handle):
         at = placed(line)
         count: int = self._count(str.__str__(line), at, at.fitting(parameters, named))
         return count
+
+    def first(self, most: int, line: str, /, *parameters: Any, **named: Any) -> Rows:
+        """The first rows of a select, so many at most, in the order in which `select` returns all of them.
+
+        Of one table no more rows are looked at than it takes, unless an index on another column finds them. So a large table
+        is read page by page, by `where id > ?` and the last key of a page, and it may change between two pages.
+
+        Raises what `select` raises, and ValueError if `most` is less than 0.
+        """
+        check_kind("first", line, "select")
+        count, at = most_rows(most), placed(line)
+        rows: Rows = self._first(str.__str__(line), at, (count, *at.fitting(parameters, named)))
+        return rows
 
     def executemany(self, line: str, rows: Iterable[Parameters]) -> int:
         """Executes an insert, an update or a delete with each row of parameters, and returns the number of all rows.

@@ -138,6 +138,7 @@ _BIND_NULL = _call(_LIBRARY, "mmdb_bind_null", _NUMBER, _ADDRESS, _NUMBER, _NUMB
 _EXECUTE = _call(_LIBRARY, "mmdb_execute", _NUMBER, _ADDRESS, _NUMBER, _ADDRESS)
 _COLUMNS = _call(_LIBRARY, "mmdb_columns", _NUMBER, _ADDRESS, _NUMBER, _ADDRESS)
 _COUNT = _call(_LIBRARY, "mmdb_count", _NUMBER, _ADDRESS, _NUMBER, _ADDRESS)
+_FIRST = _call(_LIBRARY, "mmdb_first", _NUMBER, _ADDRESS, _NUMBER, _SIZE, _ADDRESS)
 _FINALIZE = _call(_LIBRARY, "mmdb_finalize", _NUMBER, _ADDRESS, _NUMBER)
 
 
@@ -247,21 +248,25 @@ class Handle:
         """Executes an insert, an update or a delete, and returns the number of rows."""
         return self._perform("change", line, parameters, named)
 
-    def _done(self, line: str, placed: Placed, values: Tuple[Any, ...]) -> Any:
-        """Does a statement, which is kept by its line, with these values."""
+    def _done(self, line: str, placed: Placed, values: Tuple[Any, ...], most: Optional[int] = None) -> Any:
+        """Does a statement, which is kept by its line, with these values. Of a select at most so many rows are found."""
         try:
             with self._turn:
                 statement = self._statement(line, placed)
-                found = statement.done(self, values)
+                found = statement.done(self, values, most)
                 shape = statement.shape
                 is_told = self._is_watched and not placed.is_select
                 if is_told:
                     self._note()
         except _Unstored:
-            return self._done(line, placed, stored_values(values))
+            return self._done(line, placed, stored_values(values), most)
         if is_told:
             self._tell()
         return found if shape is None or shape.converters is None else shape.converted(found)
+
+    def _first(self, line: str, placed: Placed, asked: Tuple[Any, ...]) -> Any:
+        """The first rows of a select, which is kept by its line: how many at most comes before its values."""
+        return self._done(line, placed, asked[1:], asked[0])
 
     def _done_many(self, line: str, placed: Placed, rows: List[Tuple[Any, ...]]) -> int:
         """Does a statement, which is kept by its line, with each of these rows of values."""
@@ -407,14 +412,14 @@ class _Statement:
         #: The number of declarations at which the shape was asked for.
         self.declarations = 0
 
-    def done(self, handle: Handle, values: Tuple[Any, ...]) -> Any:
-        """Executes it with these values, and returns its rows, or their number."""
+    def done(self, handle: Handle, values: Tuple[Any, ...], most: Optional[int] = None) -> Any:
+        """Executes it with these values, and returns its rows, or only so many of the first, or their number."""
         self.prepare(handle, values)
         size = self.bind(handle, values)
         if self.placed.is_select:
             self.know_shape(handle)
-        self.execute(handle, values)
-        found = self.rows(handle, values) if self.placed.is_select else handle._cells.changed
+        self.execute(handle, values, most)
+        found = self.rows(handle, values, most) if self.placed.is_select else handle._cells.changed
         if size + handle._cells.rows * handle._cells.columns * _CELL.size > _HELD:
             self.finalize(handle)
         return found
@@ -497,17 +502,18 @@ class _Statement:
         if not status:
             self.shape = handle._shaped(*map(tuple, _columns_of(handle._cells)))
 
-    def execute(self, handle: Handle, values: Tuple[Any, ...]) -> None:
-        status = _EXECUTE(handle._at, self.number, handle._cells_at)
+    def execute(self, handle: Handle, values: Tuple[Any, ...], most: Optional[int] = None) -> None:
+        at, number, cells = handle._at, self.number, handle._cells_at
+        status = _EXECUTE(at, number, cells) if most is None else _FIRST(at, number, most, cells)
         if status:
             self.failed(handle, status, values)
 
-    def rows(self, handle: Handle, values: Tuple[Any, ...]) -> Rows:
+    def rows(self, handle: Handle, values: Tuple[Any, ...], most: Optional[int]) -> Rows:
         """The rows that the execution found. It is done once more where the columns that are known aren't theirs."""
         if self.shape is None or handle._cells.columns != len(self.shape.names):
             self.shape = None
             self.know_shape(handle)
-            self.execute(handle, values)
+            self.execute(handle, values, most)
         if self.shape is None:
             handle._failed(_REFUSED)
         assert self.shape is not None
@@ -613,21 +619,25 @@ class Prepared:
         """Executes it with these parameters, and returns its rows, or their number."""
         return self._perform(parameters, named)
 
-    def _done(self, values: Tuple[Any, ...]) -> Any:
-        """Does it with these values."""
+    def _done(self, values: Tuple[Any, ...], most: Optional[int] = None) -> Any:
+        """Does it with these values. Of a select at most so many rows are found."""
         handle, statement = self._open_handle(), self._statement
         try:
             with handle._turn:
-                found = statement.done(handle, values)
+                found = statement.done(handle, values, most)
                 shape = statement.shape
                 is_told = handle._is_watched and not statement.placed.is_select
                 if is_told:
                     handle._note()
         except _Unstored:
-            return self._done(stored_values(values))
+            return self._done(stored_values(values), most)
         if is_told:
             handle._tell()
         return found if shape is None or shape.converters is None else shape.converted(found)
+
+    def _first(self, asked: Tuple[Any, ...]) -> Any:
+        """The first rows that it shows: how many at most comes before its values."""
+        return self._done(asked[1:], asked[0])
 
     def _done_many(self, rows: List[Tuple[Any, ...]]) -> int:
         """Does it with each of these rows of values."""

@@ -5,11 +5,12 @@ from __future__ import annotations
 import collections
 import functools
 import operator
+import sys
 from typing import TYPE_CHECKING, Any, Callable, ClassVar, Dict, Iterable, List, NamedTuple, Optional, Sequence, Tuple, Type
 
 from .chosen import extension
 from .conversions import Converter
-from .errors import WrongType, WrongValue
+from .errors import WrongType, WrongUse, WrongValue
 
 if TYPE_CHECKING:
     _Values = Tuple[Any, ...]
@@ -261,3 +262,11 @@ def _converted(name: str, converter: Converter, values: Iterable[Any]) -> List[A
 def shape_of(names: Tuple[str, ...], kinds: Tuple[int, ...]) -> Shape:
     """The shape of columns that have these names, and kinds by the numbers of mmdb.h: 1 of integers, 2 of texts."""
     return Shape(Rows, names, tuple(str if kind == 2 else int for kind in kinds), row_type(names))
+
+
+def most_rows(most: int) -> int:
+    """How many rows are wanted at most, as the library takes it. Raises WrongUse where it is less than 0."""
+    count = operator.index(most)
+    if count < 0:
+        raise WrongUse(f"mmdb: the first rows are 0 or more, not {count}")
+    return min(count, sys.maxsize)

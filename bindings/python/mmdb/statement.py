@@ -7,6 +7,7 @@ from typing import TYPE_CHECKING, Any, Iterable, Mapping, Tuple
 from .errors import WrongUse
 from .handles import Prepared
 from .lines import CHANGES, STATEMENTS, check_kind, placed
+from .rows import Rows, most_rows
 
 if TYPE_CHECKING:
     from .database import Database, Parameters
@@ -45,6 +46,17 @@ class Statement(Prepared):
         self._check()
         count: int = self._count(self._placed.fitting(parameters, named))
         return count
+
+    def first(self, most: int, /, *parameters: Any, **named: Any) -> Rows:
+        """The first rows that the select shows with these parameters, so many at most.
+
+        It works as `Database.first`.
+        """
+        check_kind("first", self.line, "select")
+        count = most_rows(most)
+        self._check()
+        rows: Rows = self._first((count, *self._placed.fitting(parameters, named)))
+        return rows
 
     def executemany(self, rows: Iterable[Parameters]) -> int:
         """Executes an insert, an update or a delete with each row of parameters, and returns the number of all rows.
