@@ -68,6 +68,7 @@ class Readers(binding.WithDatabase):
             self.assertEqual((handle.version(), handle.version("t")), (self.db.version(), self.db.version("t")))
             self.assertEqual(handle.plan("select s from t where id = ?", 3)[0], "search of t by the key, 10 rows")
             self.assertEqual((handle.count(ALL), handle.count("select s from t where id < ?", 3)), (10, 3))
+            self.assertEqual(handle.first(2, "select id from t where id > ?", 3), [(4,), (5,)])
             self.refused(30, handle.select, "select * from u")
             self.assertEqual(handle.execute("tables"), "table t (id int, s text)\n")
             self.assertEqual(handle.execute("dump t")[:16], "load t 85\nid,s\n0")
