@@ -95,7 +95,7 @@ fn what_has_no_first_rows() {
     let why = db.first(1, "select * from t where id > ?", ["a"]).unwrap_err();
     assert_eq!(
         (why.number(), why.line()),
-        (Some(35), Some("select * from t where id > 'a'"))
+        (Some(35), Some("select * from t where id > 'a' "))
     );
     assert!(why.reason().unwrap().starts_with("column 28: "));
     let lacking = db.first(1, "select * from t where id > ?", []).unwrap_err();
