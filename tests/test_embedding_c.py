@@ -15,7 +15,7 @@ EXAMPLES = harness.ROOT / "examples" / "c"
 PAGE = harness.ROOT / "docs" / "c.md"
 STATEMENTS = {
     *("mmdb_prepare", "mmdb_bind_integer", "mmdb_bind_text", "mmdb_bind_null"),
-    *("mmdb_execute", "mmdb_execute_many", "mmdb_columns", "mmdb_count", "mmdb_finalize"),
+    *("mmdb_execute", "mmdb_execute_many", "mmdb_columns", "mmdb_count", "mmdb_first", "mmdb_finalize"),
 }
 LINES = {
     *("mmdb_command", "mmdb_load", "mmdb_query", "mmdb_feed", "mmdb_answer", "mmdb_refusal"),
@@ -167,6 +167,9 @@ class Embedding(compiling.Programs):
 
     def test_each_select_is_counted(self):
         self.check_program("counts")
+
+    def test_each_select_has_first_rows(self):
+        self.check_program("firsts")
 
     def test_changes_raise_the_numbers_of_tables(self):
         self.check_program("versions")

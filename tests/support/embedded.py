@@ -75,6 +75,7 @@ BIND_NULL = call("mmdb_bind_null", NUMBER, ADDRESS, NUMBER, NUMBER)
 EXECUTE = call("mmdb_execute", NUMBER, ADDRESS, NUMBER, ADDRESS)
 COLUMNS = call("mmdb_columns", NUMBER, ADDRESS, NUMBER, ADDRESS)
 COUNT = call("mmdb_count", NUMBER, ADDRESS, NUMBER, ADDRESS)
+FIRST = call("mmdb_first", NUMBER, ADDRESS, NUMBER, SIZE, ADDRESS)
 FINALIZE = call("mmdb_finalize", NUMBER, ADDRESS, NUMBER)
 QUERY = call("mmdb_query", NUMBER, ADDRESS, ADDRESS, SIZE, ADDRESS)
 BEGIN = call("mmdb_begin", NUMBER, ADDRESS)
@@ -199,6 +200,11 @@ class Handle:
         count = ctypes.c_uint64()
         self.done(COUNT(self.at, statement.number, ctypes.addressof(count)))
         return count.value
+
+    def first(self, statement, most):
+        """The first rows that a statement has, so many at most, or None where it is refused."""
+        rows = Rows()
+        return rows if self.is_done(FIRST(self.at, statement.number, most, ctypes.addressof(rows))) else None
 
     def finalize(self, statement):
         self.done(FINALIZE(self.at, statement.number))

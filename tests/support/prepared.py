@@ -1,6 +1,6 @@
 """Lines as statements of the library: values are taken out of a line and bound to its places, and rows are read as cells.
 
-What must hold: a line and its statement have the same answer, byte for byte.
+What must hold: a line and its statement have the same answer, byte for byte, and the first rows of a statement are the front of its rows.
 """
 
 from . import embedded, model
@@ -8,6 +8,11 @@ from . import embedded, model
 BEGINNINGS = (b"insert", b"update", b"delete", b"select")
 TAKEN_OUT = 0.7
 ENDED = 0.1
+# How often a statement is asked for its first rows before it is executed, and how many of them at most.
+ASKED = 0.3
+MOSTS = (0, 1, 2, 5, 2**64 - 1)
+# The number of a refusal.
+NO_MEMORY = 90
 TYPES = {embedded.INTEGER: int, embedded.TEXT: bytes}
 
 
@@ -48,6 +53,11 @@ def parted(draw, line):
     return (text, values) if symbols and len(text) <= model.LONGEST_LINE else (line, None if b"?" in line and not symbols else [])
 
 
+def is_front(most, front, rows):
+    """Whether these are the first of the rows of an execution, so many at most. Where that has none, these are None too."""
+    return front is None if rows is None else front == rows.values()[:most]
+
+
 class Statements:
     """Statements of a handle. Most are kept by their lines, and used again with other values, whatever has become of the
     tables; some are ended."""
@@ -75,14 +85,26 @@ class Statements:
             return self.handle.answer()
         self.rows.pop(text, None)
         self.handle.bind(statement, values)
+        asked = self.asked(statement) if self.draw.random() < ASKED else None
+        if asked and self.handle.refusal() == NO_MEMORY:
+            return self.handle.answer()
         rows = self.handle.execute(statement)
         self.count["statements", "refused when executed" if rows is None else "done"] += 1
         if rows is None:
             self.why = text, self.handle.statement_reason(statement)
         answer = self.handle.answer() if rows is None else self.told(text, statement, rows)
+        if asked and not is_front(*asked, rows if text.startswith(b"select") else None):
+            answer = b"the first rows are others\n"
         if self.draw.random() < ENDED:
             self.end(text)
         return answer
+
+    def asked(self, statement):
+        """A drawn number, and so many of a statement's first rows at most; or None where it is refused, as each change is."""
+        most = self.draw.choice(MOSTS)
+        rows = self.handle.first(statement, most)
+        self.count["statements", "asked for first rows"] += 1
+        return most, None if rows is None else rows.values()
 
     def prepared(self, text):
         """The statement of that line, or None where it is refused."""

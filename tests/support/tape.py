@@ -63,6 +63,7 @@ class Tape:
             "BIND_NULL": lambda at, *numbers: self.add(b"null", *numbers),
             "EXECUTE": lambda at, of, to: self.add(b"execute", of),
             "COLUMNS": lambda at, of, to: self.add(b"columns", of),
+            "FIRST": lambda at, of, most, to: self.add(b"first", of, most),
             "COUNT": lambda at, of, to: self.add(b"count", of),
             "FINALIZE": lambda at, of: self.add(b"finalize", of),
             "BEGIN": lambda at: self.add(b"begin"),

@@ -42,6 +42,17 @@ static inline int is_text(const mmdb_rows *rows, size_t row, size_t column, cons
     return is_bytes(rows, row, column, text, strlen(text));
 }
 
+/* Whether two cells, each of its rows, hold the same value. */
+static inline int are_same(const mmdb_rows *of, const mmdb_cell *cell, const mmdb_rows *other_of, const mmdb_cell *other)
+{
+    const mmdb_bytes text = mmdb_text(of, cell), as = mmdb_text(other_of, other);
+    if (cell->kind != other->kind)
+        return 0;
+    if (cell->kind == MMDB_TEXT)
+        return text.length == as.length && memcmp(text.at, as.at, as.length) == 0;
+    return cell->kind == MMDB_NULL || cell->integer == other->integer;
+}
+
 /* Whether the last call was refused by this number, as is told by the answer and beside it. */
 static inline int is_refused_by(mmdb *db, const char *answer)
 {

@@ -3,8 +3,8 @@
    closed, null or open. The words are the SEED and the number of CALLS.
 
    Each status must be one that the header names, and NOT_OPEN, NO_LINE, NO_SUCH_STATEMENT and NO_SUCH_PLACE come exactly where they
-   must, and NOT_ROWS of null. So do IN_TRANSACTION, and SHARED of a piece and of a transaction. Answers are read to their end. The rows of each statement stay until it is
-   executed again, and those of a line until the next query. */
+   must, and NOT_ROWS of null. So do IN_TRANSACTION, and SHARED of a piece and of a transaction. Answers are read to their end. The rows of each
+   statement stay until it is executed again or asked for its first rows, and those of a line until the next query. */
 #include "checking.h"
 
 #include <inttypes.h>
@@ -432,6 +432,17 @@ static void binds(handle *of)
     free(text.at);
 }
 
+/* The rows of a statement, if there is one, are those that a call has just told. */
+static void takes_rows(statement *to, mmdb_status status, mmdb_rows rows)
+{
+    const uint64_t sum = sum_of(&rows);
+    if (!to)
+        return;
+    to->has_rows = status == MMDB_DONE;
+    to->rows = rows;
+    to->sum = sum;
+}
+
 static void executes(handle *of)
 {
     statement *to = any_statement(of);
@@ -440,11 +451,19 @@ static void executes(handle *of)
     const mmdb_status status = mmdb_execute(&of->db, number, &rows);
     const uint32_t allowed = to ? of_statement(of) : only(MMDB_NO_SUCH_STATEMENT);
     is_within(status, of->is_open ? allowed : only(MMDB_NOT_OPEN), "execute");
-    if (!to)
-        return;
-    to->has_rows = status == MMDB_DONE;
-    to->rows = rows;
-    to->sum = sum_of(&rows);
+    takes_rows(to, status, rows);
+}
+
+static void asks_first(handle *of)
+{
+    statement *to = any_statement(of);
+    const size_t most = is_drawn(80) ? (size_t)drawn(6) : SIZE_MAX - (size_t)drawn(3);
+    mmdb_rows rows;
+    const mmdb_status status = mmdb_first(&of->db, to ? to->of.number : no_statement(of), most, &rows);
+    const uint32_t allowed = to ? only(MMDB_DONE) | only(MMDB_REFUSED) : only(MMDB_NO_SUCH_STATEMENT);
+    is_within(status, of->is_open ? allowed : only(MMDB_NOT_OPEN), "first");
+    CHECK(rows.rows <= most);
+    takes_rows(to, status, rows);
 }
 
 /* A cell of any kind, whose text may lie elsewhere. */
@@ -626,6 +645,7 @@ static void calls_on_null(void)
     CHECK(mmdb_columns(NULL, 0, NULL) == MMDB_NOT_OPEN && mmdb_finalize(NULL, 0) == MMDB_NOT_OPEN);
     CHECK(mmdb_count(NULL, 0, &count) == MMDB_NOT_OPEN && count == 0 && mmdb_count(NULL, 0, NULL) == MMDB_NOT_OPEN);
     CHECK(mmdb_execute_many(NULL, 0, NULL, 1, NULL, 1, NULL) == MMDB_NOT_OPEN);
+    CHECK(mmdb_first(NULL, 0, 1, &rows) == MMDB_NOT_OPEN && rows.rows == 0 && mmdb_first(NULL, 0, SIZE_MAX, NULL) == MMDB_NOT_OPEN);
     CHECK(mmdb_bind_null(NULL, 0, 0) == MMDB_NOT_OPEN && mmdb_bind_text(NULL, 0, 0, NULL, 7) == MMDB_NOT_OPEN);
     CHECK(mmdb_reason(NULL, NULL, 1, NULL, 1, &answer) == MMDB_NOT_OPEN && mmdb_indexes(NULL, "", 0, NULL) == MMDB_NOT_OPEN);
     CHECK(mmdb_prepare_reason(NULL, NULL, 1, &answer) == MMDB_NOT_OPEN && mmdb_statement_reason(NULL, 0, NULL) == MMDB_NOT_OPEN);
@@ -644,7 +664,7 @@ static const maker MAKERS[] = {
     commands, commands, commands, commands, loads,    loads,     feeds,    feeds,        prepares,     prepares,      prepares,
     binds,    binds,    binds,    binds,    executes, executes,  executes, asks_columns, asks_columns, looks_at_rows, tells,
     queries,  queries,  asks_why, asks_plan, counts,  begins,    leaves,   commits_or_rolls_back, commits_or_rolls_back,
-    executes_many, executes_many, tells_the_version,
+    executes_many, executes_many, tells_the_version, asks_first, asks_first,
 };
 
 /* One call. Handles are seldom opened, closed and shared, so that much becomes of what they have. */

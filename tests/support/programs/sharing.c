@@ -145,6 +145,8 @@ static void it_reads(mmdb *db)
     CHECK(finds_one(db, find, &rows));
     GIVES(mmdb_count(db, find.number, &count), MMDB_DONE);
     CHECK(count == 1);
+    GIVES(mmdb_first(db, find.number, 5, &rows), MMDB_DONE);
+    CHECK(shows_one(&rows));
     GIVES(mmdb_columns(db, find.number, &columns), MMDB_DONE);
     CHECK(columns.rows == 1 && reads(mmdb_text(&columns, mmdb_cell_at(&columns, 0, 0)), "t.s"));
     GIVES(mmdb_indexes(db, "t", 1, &answer), MMDB_DONE);

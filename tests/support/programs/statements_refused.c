@@ -2,6 +2,7 @@
    was none, and everything is as it was, the values that are bound too; or it is done as ever. What was refused is done
    when it is called again. A second handle, which is never refused anything, tells what is as ever. */
 #include "allocations.h"
+#include "cells.h"
 #include "checking.h"
 
 enum { MANY = 20 };
@@ -16,6 +17,7 @@ typedef struct kept {
     mmdb_statement erase;
     mmdb_statement select;
     mmdb_statement join;
+    mmdb_statement find;
 } kept;
 
 static mmdb_statement prepared(mmdb *db, const char *line)
@@ -27,7 +29,7 @@ static mmdb_statement prepared(mmdb *db, const char *line)
 
 static void open_kept(kept *to)
 {
-    const kept fresh = { MMDB_CLOSED, { 0, 0 }, { 0, 0 }, { 0, 0 }, { 0, 0 }, { 0, 0 } };
+    const kept fresh = { MMDB_CLOSED, { 0, 0 }, { 0, 0 }, { 0, 0 }, { 0, 0 }, { 0, 0 }, { 0, 0 } };
     mmdb *db = &to->db;
     *to = fresh;
     GIVES(mmdb_open(db, MMDB_AUTO, MMDB_MOST, MMDB_MOST), MMDB_DONE);
@@ -42,6 +44,7 @@ static void open_kept(kept *to)
     to->erase = prepared(db, "delete t where s <> ?");
     to->select = prepared(db, "select * from t where id >= ?");
     to->join = prepared(db, "select distinct t.s, u.k from t join u on t.c = u.k where t.s <> ?");
+    to->find = prepared(db, "select s, id from t where s = ?");
     GIVES(mmdb_bind_integer(db, to->insert.number, 0, 4), MMDB_DONE);
     GIVES(mmdb_bind_text(db, to->insert.number, 1, LONG, strlen(LONG)), MMDB_DONE);
     GIVES(mmdb_bind_text(db, to->update.number, 0, LONG, strlen(LONG)), MMDB_DONE);
@@ -49,6 +52,7 @@ static void open_kept(kept *to)
     GIVES(mmdb_bind_text(db, to->erase.number, 0, "a", 1), MMDB_DONE);
     GIVES(mmdb_bind_integer(db, to->select.number, 0, 1), MMDB_DONE);
     GIVES(mmdb_bind_text(db, to->join.number, 0, "a", 1), MMDB_DONE);
+    GIVES(mmdb_bind_text(db, to->find.number, 0, "another text", 12), MMDB_DONE);
 }
 
 /* The calls, each of which can be made again where it wasn't done. So many statements are prepared that room is made for
@@ -93,6 +97,21 @@ static mmdb_status selects(kept *of, mmdb_rows *rows)
 static mmdb_status joins(kept *of, mmdb_rows *rows)
 {
     return mmdb_execute(&of->db, of->join.number, rows);
+}
+
+static mmdb_status shows_first(kept *of, mmdb_rows *rows)
+{
+    return mmdb_first(&of->db, of->select.number, 2, rows);
+}
+
+static mmdb_status shows_first_by_hash(kept *of, mmdb_rows *rows)
+{
+    return mmdb_first(&of->db, of->find.number, 2, rows);
+}
+
+static mmdb_status shows_first_joined(kept *of, mmdb_rows *rows)
+{
+    return mmdb_first(&of->db, of->join.number, 1, rows);
 }
 
 static mmdb_status query(kept *of, const char *line, mmdb_rows *rows)
@@ -182,6 +201,9 @@ static const struct {
     { selects, MMDB_REFUSED },
     { joins, MMDB_REFUSED },
     { tells_columns, MMDB_REFUSED },
+    { shows_first, MMDB_REFUSED },
+    { shows_first_by_hash, MMDB_REFUSED },
+    { shows_first_joined, MMDB_REFUSED },
     { counts, MMDB_REFUSED },
     { counts_joined, MMDB_REFUSED },
     { queries, MMDB_REFUSED },
@@ -193,15 +215,8 @@ static const struct {
 static int are_alike(const mmdb_rows *one, const mmdb_rows *other)
 {
     int alike = one->rows == other->rows && one->columns == other->columns && one->changed == other->changed;
-    for (size_t i = 0; alike && i < one->rows * one->columns; i++) {
-        const mmdb_bytes text = mmdb_text(one, one->cells + i), as = mmdb_text(other, other->cells + i);
-        const uint16_t kind = one->cells[i].kind;
-        alike = kind == other->cells[i].kind;
-        if (alike && kind == MMDB_INTEGER)
-            alike = one->cells[i].integer == other->cells[i].integer;
-        if (alike && kind == MMDB_TEXT)
-            alike = text.length == as.length && memcmp(text.at, as.at, as.length) == 0;
-    }
+    for (size_t i = 0; alike && i < one->rows * one->columns; i++)
+        alike = are_same(one, one->cells + i, other, other->cells + i);
     return alike;
 }
 

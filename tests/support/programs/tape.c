@@ -113,6 +113,8 @@ static int states(mmdb *db, const call *of)
         mmdb_execute(db, number, &rows);
     else if (is(of, "columns"))
         mmdb_columns(db, number, &rows);
+    else if (is(of, "first"))
+        mmdb_first(db, number, (size_t)of->numbers[1], &rows);
     else if (is(of, "count"))
         mmdb_count(db, number, &count);
     else if (is(of, "why"))
