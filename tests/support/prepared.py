@@ -11,8 +11,7 @@ ENDED = 0.1
 # How often a statement is asked for its first rows before it is executed, and how many of them at most.
 ASKED = 0.3
 MOSTS = (0, 1, 2, 5, 2**64 - 1)
-# The number of a refusal.
-NO_MEMORY = 90
+OUT_OF_MEMORY = b"error 90 no memory\n"
 TYPES = {embedded.INTEGER: int, embedded.TEXT: bytes}
 
 
@@ -86,14 +85,14 @@ class Statements:
         self.rows.pop(text, None)
         self.handle.bind(statement, values)
         asked = self.asked(statement) if self.draw.random() < ASKED else None
-        if asked and self.handle.refusal() == NO_MEMORY:
-            return self.handle.answer()
+        if asked and self.handle.answer() == OUT_OF_MEMORY:
+            return OUT_OF_MEMORY
         rows = self.handle.execute(statement)
         self.count["statements", "refused when executed" if rows is None else "done"] += 1
         if rows is None:
             self.why = text, self.handle.statement_reason(statement)
         answer = self.handle.answer() if rows is None else self.told(text, statement, rows)
-        if asked and not is_front(*asked, rows if text.startswith(b"select") else None):
+        if asked and answer != OUT_OF_MEMORY and not is_front(*asked, rows if text.startswith(b"select") else None):
             answer = b"the first rows are others\n"
         if self.draw.random() < ENDED:
             self.end(text)
