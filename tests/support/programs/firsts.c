@@ -1,5 +1,5 @@
-/* The first rows of selects: each status of the call; worked rows of each way to find them; under each policy, of each kind of select and
-   of drawn ones, that they are the front of what an execution shows; and what the call leaves as it was. */
+/* The first rows of selects: each status of the call, worked rows of each way to find them, and what the call leaves as it was. Under
+   each policy those of each kind of select, and of drawn ones, are the front of what an execution shows. */
 #include "allocations.h"
 #include "cells.h"
 #include "checking.h"
