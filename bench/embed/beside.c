@@ -13,18 +13,18 @@
 #include <string.h>
 
 enum { ROUNDS = 7, STATEMENTS = 10000, SELECTS = 100, MOST_NEW = 2000, LINE = 200 };
-enum { ROWS_OF_A_SELECT = 1000, ROWS_OF_A_BLOCK = 100000, INSERTS = 100000, LONGEST_ROW = 64 };
+enum { ROWS_OF_A_SELECT = 1000, FIRST_ROWS = 100, ROWS_OF_A_BLOCK = 100000, INSERTS = 100000, LONGEST_ROW = 64 };
 
-typedef enum kind { SELECT, INSERT, UPDATE, DELETE, RANGE, COUNT, KINDS } kind;
+typedef enum kind { SELECT, INSERT, UPDATE, DELETE, RANGE, COUNT, FIRST, KINDS } kind;
 
 /* Both are asked by a new text each time, and by statements that are prepared once. */
 typedef enum way { OUR_TEXT, THEIR_TEXT, OUR_STATEMENT, THEIR_STATEMENT, WAYS } way;
 
 static const char *const NAMES[KINDS] = { "select by key", "insert by key", "update by key", "delete by key",
-                                          "select of 1,000", "count of 1,000" };
+                                          "select of 1,000", "count of 1,000", "first 100 of 1,000" };
 
-/* The statements of both: a key, a number and a text of eight letters go into each, or the keys of a range. A count is asked by a
-   statement alone. */
+/* The statements of both: a key, a number and a text of eight letters go into each, or the keys of a range. A count and the first
+   rows are asked by a statement alone. */
 static const char *const OUR_TEXTS[COUNT] = {
     "select * from t where id = %1$" PRId64,
     "insert t (%1$" PRId64 ", %2$" PRId64 ", '%3$s')",
@@ -46,6 +46,7 @@ static const char *const OUR_STATEMENTS[KINDS] = {
     "delete t where id = ?",
     "select * from t where id >= ? and id < ?",
     "select * from t where id >= ? and id < ?",
+    "select * from t where id >= ? and id < ?",
 };
 static const char *const THEIR_STATEMENTS[KINDS] = {
     "select * from t where id = ?",
@@ -54,6 +55,7 @@ static const char *const THEIR_STATEMENTS[KINDS] = {
     "delete from t where id = ?",
     "select * from t where id >= ? and id < ?",
     "select count(*) from t where id >= ? and id < ?",
+    "select * from t where id >= ? and id < ? order by id limit 100",
 };
 
 /* Both databases, and what was read of their rows, so that nothing is left out. */
@@ -72,7 +74,7 @@ typedef struct values {
 
 static int is_range(kind of)
 {
-    return of == RANGE || of == COUNT;
+    return of == RANGE || of == COUNT || of == FIRST;
 }
 
 static values values_of(kind of, int64_t key)
@@ -134,6 +136,7 @@ static void do_our_statement(kind of, const values *with)
 {
     const uint32_t statement = prepared[of].number;
     mmdb_rows rows;
+    mmdb_status status;
     uint64_t counted;
     uint32_t key = of == UPDATE ? 2 : 0, number = of == UPDATE ? 0 : 1;
     mmdb_bind_integer(&ours, statement, key, with->key);
@@ -146,7 +149,8 @@ static void do_our_statement(kind of, const values *with)
         sums[OUR_STATEMENT] += counted;
         return;
     }
-    insist(mmdb_execute(&ours, statement, &rows) == MMDB_DONE, OUR_STATEMENTS[of]);
+    status = of == FIRST ? mmdb_first(&ours, statement, FIRST_ROWS, &rows) : mmdb_execute(&ours, statement, &rows);
+    insist(status == MMDB_DONE, OUR_STATEMENTS[of]);
     if (is_read(of))
         read_rows(&rows);
 }
@@ -240,7 +244,7 @@ static void tell(const char *what, const char *by, double of_ours, double of_the
 
 static void compare(kind of, int64_t rows)
 {
-    const way first = of == COUNT ? OUR_STATEMENT : OUR_TEXT;
+    const way first = of == COUNT || of == FIRST ? OUR_STATEMENT : OUR_TEXT;
     double best[WAYS] = { 1e9, 1e9, 1e9, 1e9 };
     for (int round = 0; round < ROUNDS; round++) {
         for (way by = first; by < WAYS; by++) {
@@ -395,7 +399,7 @@ static void compare_all(int64_t rows)
     free(keys);
     for (kind of = SELECT; of <= DELETE; of++)
         compare(of, rows);
-    for (kind of = RANGE; of <= COUNT && rows >= ROWS_OF_A_SELECT; of++)
+    for (kind of = RANGE; of < KINDS && rows >= ROWS_OF_A_SELECT; of++)
         compare(of, rows);
     compare_copies();
     for (way by = OUR_TEXT; by < WAYS; by++)
