@@ -96,7 +96,7 @@ impl Model for Database {
 }
 
 impl Database {
-    ghost use Rattle.std.specs.Prelude.{◌≡◌, ◌≢◌, ◌≤◌, ◌↔◌, ◌⊎◌, ℕ, Err, None, Some, false, true, [], IsErrOf, IsSome, IsTrue, IfErr, IfOk, MatchOption, OnErr, OnOk, length, replicate, slice_set};
+    ghost use Rattle.std.specs.Prelude.{◌≡◌, ◌<◌, ◌≢◌, ◌≤◌, ◌↔◌, ◌⊎◌, ℕ, Err, None, Some, false, true, [], IsErrOf, IsSome, IsTrue, IfErr, IfOk, MatchOption, OnErr, OnOk, length, replicate, slice_set};
     ghost use Rattle.std.specs.Io.KnownBytes.{Keeps};
     ghost use Rattle.plain_tables.specs.declared.value.Value.TheVariants as value;
     ghost use Rattle.plain_streams.specs.Division.{IsWhole};
