@@ -118,10 +118,10 @@ typedef enum mmdb_status {
     MMDB_NO_SUCH_STATEMENT = 9,  /* the number names no statement, or one that was finalised */
     MMDB_NO_SUCH_PLACE = 10,     /* the statement has no place of that number */
     MMDB_NOT_UTF8 = 11,          /* mmdb_bind_text, mmdb_execute_many: a text is not UTF-8 */
-    MMDB_REFUSED = 12,           /* mmdb_prepare, mmdb_execute, mmdb_execute_many, mmdb_columns, mmdb_count, mmdb_query,
-                                    mmdb_plan, mmdb_version: refused. mmdb_answer and mmdb_refusal tell why, as
-                                    `error 41 key exists` and a line feed; nothing changed */
-    MMDB_TOO_LARGE = 13,         /* mmdb_execute, mmdb_query: the texts of the rows are more than 4 GiB together;
+    MMDB_REFUSED = 12,           /* mmdb_prepare, mmdb_execute, mmdb_execute_many, mmdb_first, mmdb_columns, mmdb_count,
+                                    mmdb_query, mmdb_plan, mmdb_version: refused. mmdb_answer and mmdb_refusal tell why,
+                                    as `error 41 key exists` and a line feed; nothing changed */
+    MMDB_TOO_LARGE = 13,         /* mmdb_execute, mmdb_first, mmdb_query: the texts of the rows are more than 4 GiB together;
                                     mmdb_prepare: the database has 4294967296 statements; mmdb_count, mmdb_execute_many: there
                                     are 2^64 rows or more. Nothing changed */
     MMDB_SHARED = 14,            /* mmdb_command, mmdb_load, mmdb_execute, mmdb_execute_many and mmdb_query of a change;
@@ -185,11 +185,11 @@ uint32_t mmdb_bind_text(mmdb *db, uint32_t statement, uint32_t place, const void
 uint32_t mmdb_bind_null(mmdb *db, uint32_t statement, uint32_t place);
 
 /* Does what the command with the bound values does.
-   Gives MMDB_DONE: and of a select its rows, which are good until this statement is executed again or finalised, or the
-   handle is closed; of the others `changed`, and no rows. Or gives MMDB_REFUSED as the line with these values would be,
-   in the same order, and by 90 when out of memory; MMDB_TOO_LARGE where the texts of its rows are more than 4 GiB
-   together; MMDB_SHARED where it is no select, its names and values are right, and another handle shares the tables; or
-   MMDB_NOT_OPEN or MMDB_NO_SUCH_STATEMENT. */
+   Gives MMDB_DONE: and of a select its rows, which are good until this statement is executed again, asked for its first
+   rows or finalised, or the handle is closed; of the others `changed`, and no rows. Or gives MMDB_REFUSED as the line
+   with these values would be, in the same order, and by 90 when out of memory; MMDB_TOO_LARGE where the texts of its rows
+   are more than 4 GiB together; MMDB_SHARED where it is no select, its names and values are right, and another handle
+   shares the tables; or MMDB_NOT_OPEN or MMDB_NO_SUCH_STATEMENT. */
 uint32_t mmdb_execute(mmdb *db, uint32_t statement, mmdb_rows *rows);
 
 /* Does what an insert, an update or a delete does with many rows of values: all of them, or none. There are `count` cells,
@@ -218,6 +218,17 @@ uint32_t mmdb_columns(mmdb *db, uint32_t statement, mmdb_rows *columns);
    statement is no select, which is not done; or MMDB_TOO_LARGE where there are 2^64 rows or more; or MMDB_NOT_OPEN or
    MMDB_NO_SUCH_STATEMENT. */
 uint32_t mmdb_count(mmdb *db, uint32_t statement, uint64_t *count);
+
+/* The first rows that a select shows with the bound values, so many at most, in the order in which mmdb_execute gives all.
+   They come in the place of what this statement has shown, and are good as long. Where most is 0 there are none, and the
+   number of columns is given. Rows of one table are walked in the order of their keys, from the first that the conditions
+   let pass, and no more are looked at than it takes, unless an index on another column finds them. (Where few pass, each
+   row may be looked at first.) With `distinct` and with joins all are found first. So `where id > ?` with the last key of
+   one page gives the next, and nothing is held between two pages, while the tables may change.
+   Gives MMDB_DONE and the rows; or MMDB_REFUSED as mmdb_execute would be, in the same order, or else by 20 where the
+   statement is no select, which is not done; or MMDB_TOO_LARGE where the texts of these rows are more than 4 GiB together;
+   or MMDB_NOT_OPEN or MMDB_NO_SUCH_STATEMENT. */
+uint32_t mmdb_first(mmdb *db, uint32_t statement, size_t most, mmdb_rows *rows);
 
 /* Frees a statement: its rows are good no longer, and its number may be given to another. It needs no memory. The
    answers are left as they are.
@@ -273,8 +284,8 @@ uint32_t mmdb_plan(mmdb *db, const void *line, size_t length, mmdb_bytes *answer
 
 /* The answers of the last call that was done or refused, one behind the other: of the piece that was fed, or of the
    line. Of a piece whose answers found no room it is a front of them. Where a statement was prepared, executed, counted or
-   asked for its columns, or a line queried, they are its refusal, or no bytes. Any other call leaves them as they are: one
-   that binds or finalises, and one that can't be answered, as of a number that names no statement.
+   asked for its first rows or columns, or a line queried, they are its refusal, or no bytes. Any other call leaves them as
+   they are: one that binds or finalises, and one that can't be answered, as of a number that names no statement.
    Gives MMDB_DONE, and bytes that are good until the next call but this one, mmdb_refusal and those that tell a reason;
    or MMDB_NOT_OPEN. */
 uint32_t mmdb_answer(mmdb *db, mmdb_bytes *answer);
@@ -299,10 +310,10 @@ uint32_t mmdb_reason(mmdb *db, const void *line, size_t length, const void *bloc
    Gives MMDB_DONE and the words, as mmdb_reason does; or MMDB_NOT_OPEN, MMDB_NO_LINE or MMDB_NO_MEMORY. */
 uint32_t mmdb_prepare_reason(mmdb *db, const void *line, size_t length, mmdb_bytes *reason);
 
-/* Why a statement was refused by mmdb_execute, mmdb_columns or mmdb_count, in words as those of mmdb_reason. It is asked
-   right behind that call, with the values still bound. Where a value is to blame that was bound to a ?, the words begin with the
-   column at which this ? stands in the line that was prepared, as `column 11: t has a row with the key 1`. Tables,
-   statements, rows and answers stay as they are.
+/* Why a statement was refused by mmdb_execute, mmdb_columns, mmdb_count or mmdb_first, in words as those of mmdb_reason. It
+   is asked right behind that call, with the values still bound. Where a value is to blame that was bound to a ?, the words
+   begin with the column at which this ? stands in the line that was prepared, as `column 11: t has a row with the key 1`.
+   Tables, statements, rows and answers stay as they are.
    Gives MMDB_DONE and the words, which are good until the next call on this handle: no bytes where the last answers begin
    with no refusal, or it is none of this statement. Or gives MMDB_NOT_OPEN, MMDB_NO_SUCH_STATEMENT, or MMDB_NO_MEMORY
    where none was found for the words. */
@@ -326,7 +337,7 @@ size_t mmdb_transactions(mmdb *db);
 /* Has a second handle share the tables of a first, and its stream, in the place of its own. A closed reader is open then,
    without statements. Where it was open, its statements with their values, its rows and its answers stay. All is as it
    was of db. While two handles share tables, each reads them by mmdb_command, mmdb_execute and mmdb_query of a select, by
-   mmdb_command of `tables` and `dump`, and by mmdb_columns, mmdb_count, mmdb_plan, mmdb_indexes, mmdb_version and
+   mmdb_command of `tables` and `dump`, and by mmdb_columns, mmdb_count, mmdb_first, mmdb_plan, mmdb_indexes, mmdb_version and
    mmdb_clone; neither changes them (MMDB_SHARED). Both are in a call here.
    Gives MMDB_DONE; or MMDB_NOT_OPEN where db is closed or a handle is null, MMDB_IN_TRANSACTION where a transaction of
    either is open, or MMDB_NO_MEMORY, and then reader is as it was. */
@@ -563,6 +574,13 @@ static inline mmdb_status mmdb_checked_count(mmdb *db, uint32_t statement, uint6
     return mmdb_checked_is_closed(db) ? MMDB_NOT_OPEN : mmdb_checked_status(mmdb_count(db, statement, to));
 }
 
+static inline mmdb_status mmdb_checked_first(mmdb *db, uint32_t statement, size_t most, mmdb_rows *rows)
+{
+    mmdb_rows unwanted;
+    mmdb_rows *to = mmdb_checked_rows_at(rows, &unwanted);
+    return mmdb_checked_is_closed(db) ? MMDB_NOT_OPEN : mmdb_checked_status(mmdb_first(db, statement, most, to));
+}
+
 static inline mmdb_status mmdb_checked_finalize(mmdb *db, uint32_t statement)
 {
     return mmdb_checked_is_closed(db) ? MMDB_NOT_OPEN : mmdb_checked_status(mmdb_finalize(db, statement));
@@ -720,6 +738,7 @@ static inline void mmdb_checked_close(mmdb *db)
 #define mmdb_execute_many mmdb_checked_execute_many
 #define mmdb_columns mmdb_checked_columns
 #define mmdb_count mmdb_checked_count
+#define mmdb_first mmdb_checked_first
 #define mmdb_finalize mmdb_checked_finalize
 #define mmdb_query mmdb_checked_query
 #define mmdb_feed mmdb_checked_feed
