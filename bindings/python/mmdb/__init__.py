@@ -12,7 +12,7 @@ beside it, else from where the system keeps libraries.
 """
 
 from .conversions import Adapter, Converter, register_adapter, register_converter
-from .database import MOST, POLICIES, Database, Parameters, Reader
+from .database import MOST, POLICIES, Database, Parameters
 from .dbapi import (
     BINARY,
     DATETIME,
@@ -53,6 +53,7 @@ from .errors import (
 )
 from .handles import implementation
 from .indexes import Index
+from .readers import Reader
 from .rows import Row, Rows
 from .statement import Statement
 from .values import Value

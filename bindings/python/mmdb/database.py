@@ -34,12 +34,15 @@ from .errors import InTransaction, NoMemory, NoTransaction, OperationalError, Re
 from .files import written
 from .handles import Handle
 from .indexes import Index, indexes_of
-from .lines import CHANGES, CHANGING, Placed, check_kind, check_line, filled_table, one_line, placed
+from .lines import CHANGES, Placed, check_kind, check_line, filled_table, one_line, placed
 from .loads import CHUNK, MANY, Arrange, blocks_of_rows, by_name, by_order, chunked, header_of, in_whole, kept_names, plain_blocks
 from .quotes import Form, form_of
 from .rows import Rows, Shape, most_rows, shape_of
 from .statement import Statement
 from .values import Column, Value, as_bytes, columns_of, encoded, stored_rows, stored_values
+
+if TYPE_CHECKING:
+    from .readers import Reader
 
 #: How plans are chosen. No policy changes an answer.
 POLICIES = ("auto", "scan", "hash", "tree", "merge")
@@ -546,10 +549,14 @@ class Database(Handle):
 
         While there is one, a change of the tables raises `Shared`. Raises `InTransaction` if a transaction is open.
         """
+        from .readers import Reader
+
         return Reader(self)
 
     def share(self, reader: Reader) -> None:
         """Has a reader that has left its tables share these. Its statements stay. Raises what `reader` raises."""
+        from .readers import Reader
+
         if not isinstance(reader, Reader):
             raise WrongType(f"mmdb: a reader shares tables, not a {type(reader).__name__}")
         with self._turn, reader._turn:
@@ -727,64 +734,6 @@ class Database(Handle):
         if self._declared is None:
             self._declared = columns_of(self._accepted(b"tables").decode())
         return self._declared.get(table, [])
-
-
-class Reader(Database):
-    """A handle that shares the tables of a database, to read them in another thread at the same time.
-
-    `Database.reader` makes one. It has the calls of a database, but changes nothing: these raise `Shared`, also for a line
-    that begins as one that declares, drops or loads. It reads columns as that database did when it was made. Used as a
-    context manager, it is closed at the end.
-    """
-
-    def __init__(self, database: Database) -> None:
-        super().__init__()
-        self._block = database._block
-        if database._converters:
-            self._read_by(database._converters)
-        try:
-            database.share(self)
-        except BaseException:
-            self.close()
-            raise
-
-    def __enter__(self) -> Reader:
-        return self
-
-    def leave(self) -> None:
-        """Leaves the tables, so that they can be changed once all readers have. It has none until it shares some again.
-
-        Its rows and its statements stay. A call of it that is under way is waited for.
-        """
-        with self._turn:
-            self._leave()
-            self._forget_columns()
-
-    @classmethod
-    def restore(cls, *_: Any, **__: Any) -> NoReturn:
-        """Raises ValueError: a database is restored."""
-        raise WrongUse("mmdb: a file is restored by mmdb.Database")
-
-    def reader(self) -> NoReturn:
-        """Raises ValueError: readers are made by the database."""
-        raise WrongUse("mmdb: a reader has no readers: its database has")
-
-    def watch(self, function: Callable[[int], object], table: str = "") -> NoReturn:
-        """Raises ValueError: changes are the database's."""
-        raise WrongUse("mmdb: a reader changes nothing: its database is watched")
-
-    def share(self, reader: Reader) -> NoReturn:
-        """Raises ValueError: readers share the tables of a database."""
-        raise WrongUse("mmdb: a reader has no readers: its database has")
-
-    def _command(self, line: bytes) -> bytes:
-        # (it would be done where nobody else shares the tables)
-        if CHANGING.match(line):
-            self._failed(_NOT_OPEN if self.closed else _SHARED)
-        return super()._command(line)
-
-    def _load(self, line: bytes, block: bytes) -> bytes:
-        self._failed(_NOT_OPEN if self.closed else _SHARED)
 
 
 def _shape_with(converters: Dict[str, Converter], names: Tuple[str, ...], kinds: Tuple[int, ...]) -> Shape:
