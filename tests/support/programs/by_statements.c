@@ -321,7 +321,7 @@ static void execute(mmdb *db, uint32_t number, const written *line)
 }
 
 /* Does a line by a statement. */
-static void does(mmdb *db, const written *line)
+static void performs(mmdb *db, const written *line)
 {
     mmdb_statement statement;
     const mmdb_status status = line->is_kept ? keep(db, line, &statement) : prepare(db, line, &statement);
@@ -352,7 +352,7 @@ static void answers(mmdb *db, written *line, call of)
         begin(line, is_call(of, "kept"));
         put(line, of.bytes, of.length);
     } else if (is_call(of, "execute") || (is_on_rows(of) && write_with_places(line, of))) {
-        does(db, line);
+        performs(db, line);
     } else if (is_call(of, "open")) {
         begin_anew(db, of);
     } else if (!put_told(line, of)) {

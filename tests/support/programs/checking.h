@@ -38,6 +38,20 @@ static inline mmdb_status command(mmdb *db, const char *line, mmdb_bytes *answer
     return mmdb_command(db, line, strlen(line), answer);
 }
 
+/* Does a line that must not be refused. */
+static inline void does(mmdb *db, const char *line)
+{
+    GIVES(command(db, line, NULL), MMDB_DONE);
+    GIVES(mmdb_refusal(db), 0);
+}
+
+static inline mmdb_statement prepared(mmdb *db, const char *line)
+{
+    mmdb_statement statement = { 0, 0 };
+    GIVES(mmdb_prepare(db, line, strlen(line), &statement), MMDB_DONE);
+    return statement;
+}
+
 static inline mmdb_status load(mmdb *db, const char *line, const char *block, mmdb_bytes *answer)
 {
     return mmdb_load(db, line, strlen(line), block, strlen(block), answer);

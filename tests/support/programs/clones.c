@@ -7,12 +7,6 @@ enum { ROWS = 1000 };
 
 static const char *const TABLES[] = { "t", "u" };
 
-static void does(mmdb *db, const char *line)
-{
-    GIVES(command(db, line, NULL), MMDB_DONE);
-    GIVES(mmdb_refusal(db), 0);
-}
-
 /* Whether two handles answer a line alike. */
 static int answer_alike(mmdb *one, mmdb *other, const char *line)
 {

@@ -28,19 +28,6 @@ static const char *const SELECTS[] = {
     "select distinct u.k from t join u on t.c = u.k join w on w.n = t.g where w.n < ?",
 };
 
-static mmdb_statement prepared(mmdb *db, const char *line)
-{
-    mmdb_statement statement;
-    GIVES(mmdb_prepare(db, line, strlen(line), &statement), MMDB_DONE);
-    return statement;
-}
-
-static void does(mmdb *db, const char *line)
-{
-    GIVES(command(db, line, NULL), MMDB_DONE);
-    GIVES(mmdb_refusal(db), 0);
-}
-
 /* Tables with so many rows: of u and of w there are as many as groups. */
 static mmdb opened(uint32_t policy, int64_t rows)
 {

@@ -17,13 +17,6 @@ static inline void answers(mmdb *db, const char *line, const char *expected)
     CHECK(reads(answer, expected));
 }
 
-static inline mmdb_statement prepared(mmdb *db, const char *line)
-{
-    mmdb_statement statement = { 0, 0 };
-    GIVES(mmdb_prepare(db, line, strlen(line), &statement), MMDB_DONE);
-    return statement;
-}
-
 static inline void declare(mmdb *db, const char *line)
 {
     answers(db, line, "ok\n");

@@ -35,19 +35,6 @@ static const char *const SELECTS[] = {
     "select distinct u.k from t join u on t.c = u.k join w on w.n = t.g where w.n < ?",
 };
 
-static mmdb_statement prepared(mmdb *db, const char *line)
-{
-    mmdb_statement statement;
-    GIVES(mmdb_prepare(db, line, strlen(line), &statement), MMDB_DONE);
-    return statement;
-}
-
-static void does(mmdb *db, const char *line)
-{
-    GIVES(command(db, line, NULL), MMDB_DONE);
-    GIVES(mmdb_refusal(db), 0);
-}
-
 static void binds(mmdb *db, mmdb_statement to, uint32_t place, int64_t value)
 {
     GIVES(mmdb_bind_integer(db, to.number, place, value), MMDB_DONE);

@@ -50,19 +50,6 @@ static mmdb_status execute_many(mmdb *db, mmdb_statement statement, const batch 
     return mmdb_execute_many(db, statement.number, of->cells, of->count, of->texts, of->length, changed);
 }
 
-static mmdb_statement prepared(mmdb *db, const char *line)
-{
-    mmdb_statement statement;
-    GIVES(mmdb_prepare(db, line, strlen(line), &statement), MMDB_DONE);
-    return statement;
-}
-
-static void does(mmdb *db, const char *line)
-{
-    GIVES(command(db, line, NULL), MMDB_DONE);
-    GIVES(mmdb_refusal(db), 0);
-}
-
 static mmdb opened(uint32_t rows)
 {
     mmdb db = MMDB_CLOSED;

@@ -76,13 +76,6 @@ static const struct {
     { "select \377 from emp", 11, "at byte 8 no character begins" },
 };
 
-static mmdb_statement prepared(mmdb *db, const char *line)
-{
-    mmdb_statement statement;
-    GIVES(mmdb_prepare(db, line, strlen(line), &statement), MMDB_DONE);
-    return statement;
-}
-
 static void bind(mmdb *db, mmdb_statement to, uint32_t place, const value *bound)
 {
     if (bound->kind == MMDB_INTEGER)

@@ -13,13 +13,6 @@ static const char YOUNG[] = "select id from emp where age = ?";
 static const char BETWEEN[] = "select id from emp where age >= ? and age < ?";
 static const char OF_DEPT[] = "select id from emp where dept = ?";
 
-static mmdb_statement prepared(mmdb *db, const char *line)
-{
-    mmdb_statement statement;
-    GIVES(mmdb_prepare(db, line, strlen(line), &statement), MMDB_DONE);
-    return statement;
-}
-
 static void bind(mmdb *db, mmdb_statement to, size_t place, int value)
 {
     GIVES(mmdb_bind_integer(db, to.number, place, value), MMDB_DONE);

@@ -12,13 +12,6 @@ static mmdb_status query(mmdb *db, const char *line, mmdb_rows *rows)
     return mmdb_query(db, line, strlen(line), rows);
 }
 
-static mmdb_statement prepared(mmdb *db, const char *line)
-{
-    mmdb_statement statement;
-    GIVES(mmdb_prepare(db, line, strlen(line), &statement), MMDB_DONE);
-    return statement;
-}
-
 /* A database with the table t, which has the row 1, 'one'. */
 static mmdb opened(void)
 {

@@ -14,13 +14,6 @@ static mmdb_status prepare(mmdb *db, const char *line, mmdb_statement *statement
     return mmdb_prepare(db, line, strlen(line), statement);
 }
 
-static mmdb_statement prepared(mmdb *db, const char *line)
-{
-    mmdb_statement statement;
-    GIVES(prepare(db, line, &statement), MMDB_DONE);
-    return statement;
-}
-
 static mmdb_status bind_text(mmdb *db, mmdb_statement statement, uint32_t place, const char *text)
 {
     return mmdb_bind_text(db, statement.number, place, text, strlen(text));

@@ -20,13 +20,6 @@ typedef struct kept {
     mmdb_statement find;
 } kept;
 
-static mmdb_statement prepared(mmdb *db, const char *line)
-{
-    mmdb_statement statement;
-    GIVES(mmdb_prepare(db, line, strlen(line), &statement), MMDB_DONE);
-    return statement;
-}
-
 static void open_kept(kept *to)
 {
     const kept fresh = { MMDB_CLOSED, { 0, 0 }, { 0, 0 }, { 0, 0 }, { 0, 0 }, { 0, 0 }, { 0, 0 } };

@@ -44,13 +44,6 @@ static mmdb_status query(mmdb *db, const char *line, mmdb_rows *rows)
     return mmdb_query(db, line, strlen(line), rows);
 }
 
-static mmdb_statement prepared(mmdb *db, const char *line)
-{
-    mmdb_statement statement;
-    GIVES(mmdb_prepare(db, line, strlen(line), &statement), MMDB_DONE);
-    return statement;
-}
-
 /* ---- plain lists */
 
 static void put(list *of, int key, enum text text)

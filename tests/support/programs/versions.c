@@ -4,12 +4,6 @@
 
 #define LONG_NAME "a_name_of_many_letters"
 
-static void does(mmdb *db, const char *line)
-{
-    GIVES(command(db, line, NULL), MMDB_DONE);
-    GIVES(mmdb_refusal(db), 0);
-}
-
 static void is_refused(mmdb *db, const char *line, uint32_t number)
 {
     GIVES(command(db, line, NULL), MMDB_DONE);
