@@ -5,6 +5,7 @@
 
 mod cells;
 mod fault;
+mod progress;
 
 pub use cells::{Cells, INTEGER, NULL, ResultCell, TEXT};
 pub use fault::CellFault;
