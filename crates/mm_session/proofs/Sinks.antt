@@ -38,13 +38,18 @@ module _ {S : Type 0} (received : S → List Row → Row → S → Type 0) where
 
 -- ---- what the two sinks have then
 
--- rows that came into cells that were none
-pub cells_shown : {E : Type 0} (result : Result ℕ E) (old new : Cells) (rows : List Row) (n : ℕ) → values_of old ≡ []
-    → OnOk result (PutsRows (λ (start : Cells) rows part now. values_of now ≡ values_of start ++ (flat_map (λ row. row) rows ++ part)) old new rows) → IfOk result (λ k. k ≡ n)
-    → IfOk result (λ k. (k ≡ n) × (values_of new ≡ flat_map (λ row. row) rows))
-cells_shown (Ok k) old new rows n none puts counted =
-    (counted, puts old [] (sym (append-nil (values_of old))) ∙ ap (λ (values : List Value). values ++ (flat_map (λ row. row) rows ++ [])) none ∙ append-nil (flat_map (λ row. row) rows))
-cells_shown (Err e) old new rows n none puts counted = tt
+-- the values of rows that came into a sink of values, which had none
+pub values_put : {S : Type 0} (values : S → List Value) (old new : S) (rows : List Row) → values old ≡ []
+    → PutsRows (λ (start : S) rows part now. values now ≡ values start ++ (flat_map (λ row. row) rows ++ part)) old new rows → values new ≡ flat_map (λ row. row) rows
+values_put values old new rows none puts =
+    puts old [] (sym (append-nil (values old))) ∙ ap (λ (front : List Value). front ++ (flat_map (λ row. row) rows ++ [])) none ∙ append-nil (flat_map (λ row. row) rows)
+
+-- and how many columns they have
+pub cells_shown : {S E : Type 0} (values : S → List Value) (result : Result ℕ E) (old new : S) (rows : List Row) (n : ℕ) → values old ≡ []
+    → OnOk result (PutsRows (λ (start : S) rows part now. values now ≡ values start ++ (flat_map (λ row. row) rows ++ part)) old new rows) → IfOk result (λ k. k ≡ n)
+    → IfOk result (λ k. (k ≡ n) × (values new ≡ flat_map (λ row. row) rows))
+cells_shown values (Ok k) old new rows n none puts counted = (counted, values_put values old new rows none puts)
+cells_shown values (Err e) old new rows n none puts counted = tt
 
 -- rows that were written behind others
 pub rows_written : (old new : Written) (rows : List Row) → old.part ≡ [] → PutsRows IsBehind old new rows → IsBehind old rows [] new

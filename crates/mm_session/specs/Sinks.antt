@@ -4,6 +4,10 @@ use Rattle.std.specs.List.{flat_map}
 use Rattle.std.specs.Io.KnownBytes.{Appends}
 use Rattle.plain_tables.specs.Csv.{row_record}
 use Rattle.plain_tables.specs.Tables.{Row}
+use Rattle.mm_cells.specs.declared.fault.CellFault.{CellFault}
+use Rattle.mm_cells.specs.declared.fault.CellFault.TheVariants as cells
+use Rattle.mm_session.specs.declared.fault.SelectFault.{SelectFault}
+use Rattle.mm_session.specs.declared.fault.SelectFault.TheVariants as fault
 
 -- Values come behind those of the row that has not ended. What a sink has received since a state are rows, and such values.
 abbrev pub PutsValues : {S : Type 0} → (S → List Row → Row → S → Type 0) → S → S → Row → Type 0
@@ -31,3 +35,8 @@ pub record IsBehind (start : Written) (rows : List Row) (values : Row) (now : Wr
   pub written : Appends start.bytes now.bytes (flat_map row_record rows)
   pub waits : now.part ≡ values
   pub counted : now.count ≡ start.count + length rows
+
+-- why a select is not shown whose values are not put into cells
+abbrev pub select_fault_of : CellFault → SelectFault
+select_fault_of (cells.NoMemory refused) = fault.NoMemory refused
+select_fault_of cells.TooLong = fault.TooLong

@@ -1,5 +1,7 @@
-//! Why a session or a run stopped, what is no request, and why rows were not counted.
+//! Why a session or a run stopped, what is no request, and why rows were not shown or counted.
 
+use mm_cells::CellFault;
+use mm_interrupts::Interrupted;
 use no_memory::NoMemory;
 use thiserror::Error;
 
@@ -45,6 +47,56 @@ pub enum ReadFault {
     Changes,
 }
 
+/// Why the rows that a select shows were not put into cells.
+#[derive(Clone, Copy, Debug, PartialEq, Eq, Error)]
+pub enum SelectFault {
+    /// A growth was refused.
+    #[error("no memory")]
+    NoMemory(NoMemory),
+    /// Their texts have 4 GiB or more: a cell has no number for one behind them.
+    #[error("too long")]
+    TooLong,
+    /// The select was asked to end.
+    #[error("interrupted")]
+    Interrupted,
+}
+
+impl From<NoMemory> for SelectFault {
+    ghost use Rattle.std.specs.Prelude.{◌≡◌};
+    ghost use Rattle.mm_session.specs.declared.fault.SelectFault.TheVariants as fault;
+
+    ghost from_gives = { λ refused e. e ≡ fault.NoMemory refused };
+
+    fn from(refused: NoMemory) -> SelectFault {
+        SelectFault::NoMemory(refused)
+    }
+}
+
+impl From<Interrupted> for SelectFault {
+    ghost use Rattle.std.specs.Prelude.{◌≡◌};
+    ghost use Rattle.mm_session.specs.declared.fault.SelectFault.TheVariants as fault;
+
+    ghost from_gives = { λ _ e. e ≡ fault.Interrupted };
+
+    fn from(_: Interrupted) -> SelectFault {
+        SelectFault::Interrupted
+    }
+}
+
+impl From<CellFault> for SelectFault {
+    ghost use Rattle.std.specs.Prelude.{◌≡◌};
+    ghost use Rattle.mm_session.specs.Sinks.{select_fault_of};
+
+    ghost from_gives = { λ why e. e ≡ select_fault_of why };
+
+    fn from(why: CellFault) -> SelectFault {
+        match why {
+            CellFault::NoMemory(refused) => SelectFault::NoMemory(refused),
+            CellFault::TooLong => SelectFault::TooLong,
+        }
+    }
+}
+
 /// Why the rows that a select shows were not counted.
 #[derive(Clone, Copy, Debug, PartialEq, Eq, Error)]
 pub enum CountFault {
@@ -54,6 +106,20 @@ pub enum CountFault {
     /// They are 2^64 or more.
     #[error("too many rows")]
     TooMany,
+    /// The select was asked to end.
+    #[error("interrupted")]
+    Interrupted,
+}
+
+impl From<Interrupted> for CountFault {
+    ghost use Rattle.std.specs.Prelude.{◌≡◌};
+    ghost use Rattle.mm_session.specs.declared.fault.CountFault.TheVariants as fault;
+
+    ghost from_gives = { λ _ e. e ≡ fault.Interrupted };
+
+    fn from(_: Interrupted) -> CountFault {
+        CountFault::Interrupted
+    }
 }
 
 impl From<NoMemory> for CountFault {

@@ -35,7 +35,7 @@ mod stream;
 pub use answer::Answer;
 pub use execute::search::rows_passing;
 pub use execute::told::{NextJoin, ToldPlan, Way};
-pub use fault::{CountFault, NotOneRequest, ReadFault, RunFault, SessionFault};
+pub use fault::{CountFault, NotOneRequest, ReadFault, RunFault, SelectFault, SessionFault};
 pub use room::SelectRoom;
 pub use session::Session;
 pub use stream::lines::{Judged, LONGEST_LINE, judge_line, split_line};

@@ -5,12 +5,13 @@ ghost use Rattle.std.specs.Io.KnownBytes.{Keeps};
 
 use crate::answer::Answer;
 use crate::execute::told::ToldPlan;
-use crate::fault::{CountFault, NotOneRequest, ReadFault, SessionFault};
+use crate::fault::{CountFault, NotOneRequest, ReadFault, SelectFault, SessionFault};
 use crate::room::SelectRoom;
 use crate::stream::outlet::{Lent, Outlet};
 use crate::stream::responder::Responder;
 use mm_catalog::Catalog;
 use mm_cells::{CellFault, Cells};
+use mm_interrupts::Interrupts;
 use mm_transactions::NoTransaction;
 use plain_tables::{Limits, NoMemory, Query, Refusal, Resolved, Sequence, TableNumber, Value};
 use plan_chooser::Policy;
@@ -289,22 +290,26 @@ impl Session {
     /// Makes the cells the values that a select shows, a row behind the other, and tells how many columns each row has. A failure
     /// may leave any cells there; `TooLong` comes only if their texts have 4 GiB or more then. The rows are found in the room, of which
     /// at most 64 KiB are kept.
+    ///
+    /// At each row that is walked, joined with others or shown the select goes on, or ends where it is asked to. It isn't asked while an
+    /// index is searched, found rows are put into order, or equal ones are told apart.
     pub fn select(
         &self,
         query: &Query,
         room: &mut SelectRoom,
         cells: &mut Cells,
-    ) -> Result<usize, CellFault>
+        interrupts: Interrupts<'_>,
+    ) -> Result<usize, SelectFault>
         requires { IsMeant self.now.limits self.now.database (resolved.Select query.now) }
         ensures shown { IfOk result (λ columns. ShowsValues (done self.now.limits self.now.database (resolved.Select query.now)).outcome columns (values_of cells.new)) }
         ensures some { IfOk result (λ columns. 0 < columns) }
-        ensures too_long { IsErrOf result CellFault.TooLong → AreFull (values_of cells.new) }
+        ensures too_long { IsErrOf result SelectFault.TooLong → AreFull (values_of cells.new) }
         ensures room { IsBounded room.new }
     {
         let executor = &self.responder.executor;
         executor
             .reading()
-            .select_values(executor.tables.catalog(), query, room, cells)
+            .select_values(executor.tables.catalog(), query, room, cells, interrupts)
     }
 
     /// Makes the cells the values of the first rows that a select shows, so many at most, as `select` does of all. Of a table alone no
@@ -315,21 +320,27 @@ impl Session {
         most: usize,
         room: &mut SelectRoom,
         cells: &mut Cells,
-    ) -> Result<usize, CellFault>
+        interrupts: Interrupts<'_>,
+    ) -> Result<usize, SelectFault>
         requires { IsMeant self.now.limits self.now.database (resolved.Select query.now) }
         ensures shown { IfOk result (λ columns. ShowsFirst (done self.now.limits self.now.database (resolved.Select query.now)).outcome most columns (values_of cells.new)) }
         ensures some { IfOk result (λ columns. 0 < columns) }
-        ensures too_long { IsErrOf result CellFault.TooLong → AreFull (values_of cells.new) }
+        ensures too_long { IsErrOf result SelectFault.TooLong → AreFull (values_of cells.new) }
         ensures room { IsBounded room.new }
     {
         let executor = &self.responder.executor;
-        executor
-            .reading()
-            .first_values(executor.tables.catalog(), query, most, room, cells)
+        executor.reading().first_values(
+            executor.tables.catalog(),
+            query,
+            most,
+            room,
+            cells,
+            interrupts,
+        )
     }
 
     /// How many rows a select shows. They are counted as they are found, and none of their values is kept.
-    pub fn count(&self, query: &Query) -> Result<u64, CountFault>
+    pub fn count(&self, query: &Query, interrupts: Interrupts<'_>) -> Result<u64, CountFault>
         requires { IsMeant self.now.limits self.now.database (resolved.Select query.now) }
         ensures counted { IfOk result (λ count. HasRows (done self.now.limits self.now.database (resolved.Select query.now)).outcome (λ n. count ≡ n)) }
         ensures too_many { IsErrOf result CountFault.TooMany → HasRows (done self.now.limits self.now.database (resolved.Select query.now)).outcome (λ n. 2 ^ 64 ≤ n) }
@@ -337,7 +348,7 @@ impl Session {
         let executor = &self.responder.executor;
         executor
             .reading()
-            .count_rows(executor.tables.catalog(), query)
+            .count_rows(executor.tables.catalog(), query, interrupts)
     }
 
     /// Makes the cells the columns of what a select shows: of each its name, behind its table's, and then the number of the kind of

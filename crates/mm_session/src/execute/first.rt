@@ -21,15 +21,18 @@ ghost use Rattle.mm_session.specs.Walked.{IsOrdered, rows_shown};
 use super::ReadExecutor;
 use super::only_row::shown_width;
 use super::rows::{push_each, push_front};
-use super::sink::RowSink;
+use super::sink::{RowSink, ShownCells};
+use crate::fault::SelectFault;
 use crate::room::SelectRoom;
 use mm_catalog::Catalog;
 use mm_catalog::laws::a_catalog_is_consistent;
-use mm_cells::{CellFault, Cells};
+use mm_cells::Cells;
+use mm_interrupts::Interrupts;
 use mm_relation::{Relation, Relations, TupleRef};
 use no_memory::NoMemory;
 use plain_tables::{Query, Test};
 use plan_chooser::SelectPlan;
+use std::mem;
 use temp_list::{find_first_rows, most_sorted};
 
 // How many rows a look at each slot may find, so that to sort them is sooner done than to walk the tree of the key to the first so many.
@@ -139,7 +142,7 @@ impl ReadExecutor {
         ensures declined { IfErr result (S.declines sink.new) }
         ensures columns { IfOk result (λ columns. columns ≡ length (headings (joined_tables (database_of catalog.now) query.now.source query.now.joins) query.now.shown)) }
     {
-        let members = self.found(catalog, query, plan, room)?;
+        let members = self.found(catalog, query, plan, room, sink)?;
         let list = self.as_shown(catalog, query, members)?;
         push_front(sink, catalog, &list, list.columns(), most)?;
         Ok(list.columns().len())
@@ -177,16 +180,22 @@ impl ReadExecutor {
         most: usize,
         room: &mut SelectRoom,
         cells: &mut Cells,
-    ) -> Result<usize, CellFault>
+        interrupts: Interrupts<'_>,
+    ) -> Result<usize, SelectFault>
         requires { IsMeant catalog.now.limits (database_of catalog.now) (resolved.Select query.now) }
         ensures shown { IfOk result (λ columns. ShowsFirst (done catalog.now.limits (database_of catalog.now) (resolved.Select query.now)).outcome most columns (values_of cells.new)) }
         ensures some { IfOk result (λ columns. 0 < columns) }
-        ensures too_long { IsErrOf result CellFault.TooLong → AreFull (values_of cells.new) }
+        ensures too_long { IsErrOf result SelectFault.TooLong → AreFull (values_of cells.new) }
         ensures room { IsBounded room.new }
     {
         a_catalog_is_consistent(catalog);
         cells.clear();
-        let columns = self.push_first(catalog, query, most, room, cells);
+        let mut shown = ShownCells {
+            cells: mem::replace(cells, Cells::new(self.alloc)),
+            interrupts,
+        };
+        let columns = self.push_first(catalog, query, most, room, &mut shown);
+        *cells = shown.cells;
         room.empty();
         columns
     }

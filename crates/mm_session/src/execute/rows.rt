@@ -105,7 +105,7 @@ pub fn push_shown<'a, S: RowSink<'a>>(
     sink.end_row()
 }
 
-/// Puts rows of one table into a sink: of each the values that are shown.
+/// Puts rows of one table into a sink: of each the values that are shown. At each it goes on, or ends.
 pub fn push_each<'a, S: RowSink<'a>>(
     sink: &mut S,
     catalog: &'a Catalog,
@@ -121,6 +121,7 @@ pub fn push_each<'a, S: RowSink<'a>>(
     ensures declined { IfErr result (S.declines sink.new) }
 {
     for r in rows {
+        sink.go_on()?;
         push_shown(sink, catalog, relation, *r, shown)?;
     }
     Ok(())
@@ -191,7 +192,7 @@ fn push_row<'a, S: RowSink<'a>>(
     }
 }
 
-/// Puts the first rows of a list into a sink, so many at most: of each the values at these places.
+/// Puts the first rows of a list into a sink, so many at most: of each the values at these places. At each it goes on, or ends.
 pub fn push_front<'a, S: RowSink<'a>>(
     sink: &mut S,
     catalog: &'a Catalog,
@@ -206,6 +207,7 @@ pub fn push_front<'a, S: RowSink<'a>>(
     ensures declined { IfErr result (S.declines sink.new) }
 {
     for row in 0..most.min(list.len()) {
+        sink.go_on()?;
         push_row(sink, catalog, list, row, places)?;
     }
     Ok(())

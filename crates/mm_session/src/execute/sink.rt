@@ -1,4 +1,4 @@
-//! Where the rows go that a select shows: into an answer, as records, or into cells.
+//! Where the rows go that a select shows: into an answer, as records, or into cells. What takes them says whether the select goes on.
 
 ghost use Rattle.std.specs.Prelude.{◌≡◌, ◌++◌, ◌∷◌, [], Some, IfErr, IfOk, OnOk};
 ghost use Rattle.std.specs.Io.KnownBytes.{Keeps};
@@ -7,20 +7,20 @@ ghost use Rattle.plain_tables.specs.ResolvedLaws.{IsStorable};
 ghost use Rattle.mm_session.specs.Sinks.{PutsValues, EndsRow};
 
 use crate::answer::Answer;
+use crate::fault::SelectFault;
 use mm_cells::{CellFault, Cells};
 use mm_csv::RecordWriter;
+use mm_interrupts::{Interrupts, Progress};
 use no_memory::NoMemory;
 use plain_tables::StoredValue;
 use std::alloc::Global;
 use std::marker::Model;
 
-/// What takes the rows of a select, value by value, from where they lie.
-pub trait RowSink<'a> {
+/// What takes the rows of a select, value by value, from where they lie. A value isn't taken where a growth was refused, or where
+/// something else keeps it out.
+pub trait RowSink<'a>: Progress {
     ghost use Rattle.std.specs.Prelude.{List};
     ghost use Rattle.plain_tables.specs.Tables.{Row};
-
-    /// Why a value is not taken: a growth was refused, or what else keeps it out.
-    type Fault: From<NoMemory>;
 
     // Since a state, these rows were received, and these values of one that has not ended.
     ghost received: { Self → List Row → Row → Self → Type 0 };
@@ -41,6 +41,9 @@ pub trait RowSink<'a> {
 
     // A growth that was refused is a reason at any time.
     ghost by_memory: { (sink : Self) (refused : PlainNoMemory) (why : Self.Fault) → Self.Fault.from_gives refused why → declines sink why };
+
+    // So is what ends the select.
+    ghost by_end: { (sink : Self) (why : Self.Fault) → Self.ends sink why → declines sink why };
 }
 
 impl<'a> RowSink<'a> for Cells {
@@ -50,13 +53,13 @@ impl<'a> RowSink<'a> for Cells {
     ghost use Rattle.mm_cells.specs.Values.{values_of};
     ghost use Rattle.mm_cells.specs.declared.fault.CellFault.TheVariants as fault;
 
-    type Fault = CellFault;
-
     ghost received = { λ start rows part now. values_of now ≡ values_of start ++ (flat_map (λ row. row) rows ++ part) };
 
     ghost declines = { λ now why. why ≡ fault.TooLong → AreFull (values_of now) };
 
     ghost by_memory = { Prim.search rules };
+
+    ghost by_end = { λ sink why other is. absurd (other is) };
 
     #[inline(always)]
     fn push_value(&mut self, value: &'a StoredValue) -> Result<(), CellFault> {
@@ -65,6 +68,56 @@ impl<'a> RowSink<'a> for Cells {
 
     #[inline(always)]
     fn end_row(&mut self) -> Result<(), CellFault> {
+        Ok(())
+    }
+}
+
+/// Cells that take the rows of a select until it is asked to end.
+#[derive(Drop)]
+pub struct ShownCells<'i> {
+    pub cells: Cells,
+    pub interrupts: Interrupts<'i>,
+}
+
+impl<'i> Progress for ShownCells<'i> {
+    ghost use Rattle.std.proofs.Common.{rules};
+    ghost use Rattle.std.specs.Prelude.{◌≢◌};
+    ghost use Rattle.mm_session.specs.declared.fault.SelectFault.TheVariants as fault;
+
+    type Fault = SelectFault;
+
+    ghost ends = { λ now why. why ≢ fault.TooLong };
+
+    ghost out_of_memory = { Prim.search rules };
+
+    #[inline(always)]
+    fn go_on(&self) -> Result<(), SelectFault> {
+        Ok(self.interrupts.check()?)
+    }
+}
+
+impl<'a, 'i> RowSink<'a> for ShownCells<'i> {
+    ghost use Rattle.std.proofs.Common.{rules};
+    ghost use Rattle.std.specs.List.{flat_map};
+    ghost use Rattle.mm_cells.specs.Reading.{AreFull};
+    ghost use Rattle.mm_cells.specs.Values.{values_of};
+    ghost use Rattle.mm_session.specs.declared.fault.SelectFault.TheVariants as fault;
+
+    ghost received = { λ start rows part now. values_of now.cells ≡ values_of start.cells ++ (flat_map (λ row. row) rows ++ part) };
+
+    ghost declines = { λ now why. why ≡ fault.TooLong → AreFull (values_of now.cells) };
+
+    ghost by_memory = { Prim.search rules };
+
+    ghost by_end = { λ sink why other is. absurd (other is) };
+
+    #[inline(always)]
+    fn push_value(&mut self, value: &'a StoredValue) -> Result<(), SelectFault> {
+        Ok(self.cells.push(value)?)
+    }
+
+    #[inline(always)]
+    fn end_row(&mut self) -> Result<(), SelectFault> {
         Ok(())
     }
 }
@@ -124,16 +177,29 @@ impl<'a> Records<'a> {
     }
 }
 
+impl<'a> Progress for Records<'a> {
+    type Fault = NoMemory;
+
+    ghost ends = { λ now why. Unit {0} };
+
+    ghost out_of_memory = { λ search refused why gives. tt };
+
+    #[inline(always)]
+    fn go_on(&self) -> Result<(), NoMemory> {
+        Ok(())
+    }
+}
+
 impl<'a> RowSink<'a> for Records<'a> {
     ghost use Rattle.mm_session.specs.Sinks.{IsBehind};
-
-    type Fault = NoMemory;
 
     ghost received = { IsBehind };
 
     ghost declines = { λ now why. Unit {0} };
 
     ghost by_memory = { λ sink refused why gives. tt };
+
+    ghost by_end = { λ sink why ends. tt };
 
     #[inline]
     fn push_value(&mut self, value: &'a StoredValue) -> Result<(), NoMemory> {

@@ -1,26 +1,18 @@
-use Rattle.std.proofs.Common.{arith, length}
+use Rattle.std.proofs.Common.{arith}
 use Rattle.std.proofs.lemmas.Result.{IfOk-weaker}
-use Rattle.plain_tables.specs.Doing.{headings, joined_tables}
-use Rattle.mm_catalog.specs.Seen.{database_of}
-use Rattle.mm_cells.specs.Reading.{AreFull}
 use Rattle.mm_cells.specs.Values.{values_of}
-use Rattle.mm_cells.specs.declared.fault.CellFault.TheVariants as fault
 use Rattle.mm_session.specs.Walked.{rows_shown}
 use Rattle.mm_session.proofs.Placed.{heads_some}
-use Rattle.mm_session.proofs.Sinks.{cells_shown, declined_so}
+use Rattle.mm_session.proofs.Sinks.{values_put}
 use Rattle.mm_session.proofs.execute.ReadExecutor.select_values.Goals as goal
 
-pub returns-clause-shown : goal.returns-clause-shown
-returns-clause-shown c =
-    let catalog = c.args.catalog.now in
-    let query = c.args.query.now in
-    cells_shown c.push_select-columns.result c.clear.new.self c.push_select-columns.new.sink (rows_shown catalog query)
-    (length (headings (joined_tables (database_of catalog) query.source query.joins) query.shown)) c.clear.ensures c.push_select-columns.ensures.shown c.push_select-columns.ensures.columns
+pub returns-in-Some-clause-shown : goal.returns-in-Some-clause-shown
+returns-in-Some-clause-shown c = (
+  c.in_ok-push_only.ensures.columns,
+  values_put values_of c.clear.new.self c.push_only.new.sink (rows_shown c.args.catalog.now c.args.query.now) c.clear.ensures c.in_ok-push_only.ensures.shown,
+)
 
 pub returns-clause-some : goal.returns-clause-some
 returns-clause-some c =
     let some = heads_some c.args.catalog.now c.a_catalog_is_consistent.ensures c.args.query.now c.requires in
-    IfOk-weaker c.push_select-columns.result _ _ (λ k is. omega (arith, is, some)) c.push_select-columns.ensures.columns
-
-pub returns-clause-too_long : goal.returns-clause-too_long
-returns-clause-too_long c = declined_so c.push_select-columns.result fault.TooLong (AreFull (values_of c.push_select-columns.new.sink)) c.push_select-columns.ensures.declined
+    IfOk-weaker c.fill-columns.result _ _ (λ k is. omega (arith, is.0, some)) c.fill-columns.ensures.shown
