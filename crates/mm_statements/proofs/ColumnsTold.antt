@@ -269,6 +269,7 @@ pub unresolved-untold : (held : Held) (statements : Statements) (number : ℕ) (
     → IsUnresolved held.session.database statements number e → IsUntold (state_of held statements) number e
 unresolved-untold held statements number fault.TooLong never = never
 unresolved-untold held statements number fault.Shared never = never
+unresolved-untold held statements number fault.Interrupted never = never
 unresolved-untold held statements number fault.NoSuchStatement none = statement-seen held statements number ∙ ap (option_map seen) none
 unresolved-untold held statements number (fault.Refused why) says = λ other.
     let r = says other in

@@ -12,7 +12,9 @@ use Rattle.plain_tables.specs.ResolvedLaws.{HasWidth, IsMeant, emptied}
 use Rattle.plain_tables.specs.declared.command.Limits.{Limits}
 use Rattle.plain_tables.specs.declared.refusal.Refusal.{Refusal}
 use Rattle.plain_tables.specs.declared.refusal.Refusal.TheVariants as refusal
+use Rattle.plain_tables.specs.declared.resolved.Query.{Query}
 use Rattle.plain_tables.specs.declared.resolved.Resolved.{Resolved}
+use Rattle.plain_tables.specs.declared.resolved.Resolved.TheVariants as resolved
 use Rattle.plain_tables.proofs.ResolvedCommands.{resolved_are_meant}
 use Rattle.plain_statements.specs.declared.resolution.Resolution.{Resolution}
 use Rattle.plain_statements.specs.declared.statement.Statement.{Statement}
@@ -20,15 +22,15 @@ use Rattle.plain_statements.specs.Filling.{filled}
 use Rattle.plain_statements.specs.Finishing.{finished}
 use Rattle.plain_statements.specs.Laws.{Refuses, Resolves}
 use Rattle.plain_statements.specs.StatementSpelling.{SpellsStatement}
-use Rattle.mm_cells.specs.declared.fault.CellFault.{CellFault}
-use Rattle.mm_cells.specs.declared.fault.CellFault.TheVariants as cells
 use Rattle.mm_session.specs.Changing.{HasChanged, HasDeclined, IsChange}
 use Rattle.mm_session.specs.Sessions.{State}
+use Rattle.mm_session.specs.declared.fault.SelectFault.{SelectFault}
+use Rattle.mm_session.specs.declared.fault.SelectFault.TheVariants as selecting
 use Rattle.mm_prepared.specs.Kept.{KeptStatement}
 use Rattle.mm_statements.specs.Databases.{DatabaseState, IsUnchanged}
-use Rattle.mm_statements.specs.Executing.{IsChangeOf, IsDeclined, IsEffectOf}
+use Rattle.mm_statements.specs.Executing.{IsChangeOf, IsDeclined, IsEffectOf, IsSelectOf}
 use Rattle.mm_statements.specs.Held.{Held}
-use Rattle.mm_statements.specs.Faults.{IsUndone, execute_fault_of, execute_fault_of_change}
+use Rattle.mm_statements.specs.Faults.{IsUndone, execute_fault_of_change, execute_fault_of_select}
 use Rattle.mm_statements.specs.declared.faults.ChangeFault.{ChangeFault}
 use Rattle.mm_statements.specs.declared.faults.ChangeFault.TheVariants as changing
 use Rattle.mm_prepared.specs.Kept.{IsKnown, NamesNow, SameSeen, named, seen}
@@ -85,6 +87,7 @@ pub unresolved-unfinished : (tables : Database) (statements : Statements) (numbe
 unresolved-unfinished tables statements number fault.NoSuchStatement none = none
 unresolved-unfinished tables statements number fault.TooLong never = never
 unresolved-unfinished tables statements number fault.Shared never = never
+unresolved-unfinished tables statements number fault.Interrupted never = never
 unresolved-unfinished tables statements number (fault.Refused why) says = λ other.
     let r = says other in
     record { prepared = r.prepared; there = r.there; statement = r.statement; spelled = r.spelled; means = r.refuses r.prepared.bound }
@@ -145,6 +148,7 @@ pub same-unresolved : (tables : Database) (old new : Statements) (number : ℕ) 
 same-unresolved tables old new number fault.NoSuchStatement same none = none-seen-before (named old number) (named new number) (same number) none
 same-unresolved tables old new number fault.TooLong same never = never
 same-unresolved tables old new number fault.Shared same never = never
+same-unresolved tables old new number fault.Interrupted same never = never
 same-unresolved tables old new number (fault.Refused why) same says = λ other.
     let r = says other in
     refusing-as tables old number why r.prepared r.statement r.spelled r.refuses (named old number) refl (ap (option_map seen) (sym r.there) ∙ same number)
@@ -171,6 +175,7 @@ pub unfinished-declined : (held : Held) (statements : Statements) (number : ℕ)
     → IsUnfinished held.session.database statements number e → IsDeclined (state_of held statements) number e
 unfinished-declined held statements number fault.TooLong never = tt
 unfinished-declined held statements number fault.Shared never = absurd never
+unfinished-declined held statements number fault.Interrupted never = absurd never
 unfinished-declined held statements number fault.NoSuchStatement none = statement-seen held statements number ∙ ap (option_map seen) none
 unfinished-declined held statements number (fault.Refused why) says = λ other. effect-of held statements number (Err why) (says other)
 
@@ -238,17 +243,26 @@ on-err (Err e) h = h
 
 -- ---- what the cells of a select don't take
 
-pub cells-declined : (database : DatabaseState) (number : ℕ) (f : CellFault) → IsDeclined database number (execute_fault_of f)
-cells-declined database number (cells.NoMemory refused) = λ other. absurd (other refl)
-cells-declined database number cells.TooLong = tt
+-- the statement is a select
+pub select-of : (held : Held) (statements : Statements) (number : ℕ) (query : Query) → IsFinished held.session.database statements number (Ok (resolved.Select query))
+    → IsSelectOf (state_of held statements) number
+select-of held statements number query finished =
+    (done held.session.limits held.session.database (resolved.Select query), effect-of held statements number (Ok (resolved.Select query)) finished, tt)
+
+pub select-declined : (held : Held) (statements : Statements) (number : ℕ) (query : Query) → IsFinished held.session.database statements number (Ok (resolved.Select query))
+    → (f : SelectFault) → IsDeclined (state_of held statements) number (execute_fault_of_select f)
+select-declined held statements number query finished (selecting.NoMemory refused) = λ other. absurd (other refl)
+select-declined held statements number query finished selecting.TooLong = tt
+select-declined held statements number query finished selecting.Interrupted = select-of held statements number query finished
 
 refused-apart : (why : Refusal) → fault.Refused why ≢ fault.TooLong
 refused-apart why is = cc
 
 -- a value is too long where it was for the cells
-pub full-cells : (f : CellFault) (P : Type 0) → (f ≡ cells.TooLong → P) → execute_fault_of f ≡ fault.TooLong → P
-full-cells (cells.NoMemory refused) P full is = absurd (refused-apart refusal.NoMemory is)
-full-cells cells.TooLong P full is = full refl
+pub full-cells : (f : SelectFault) (P : Type 0) → (f ≡ selecting.TooLong → P) → execute_fault_of_select f ≡ fault.TooLong → P
+full-cells (selecting.NoMemory refused) P full is = absurd (refused-apart refusal.NoMemory is)
+full-cells selecting.TooLong P full is = full refl
+full-cells selecting.Interrupted P full is = cc
 
 -- and never where a statement is not resolved
 pub unresolved-apart : (tables : Database) (statements : Statements) (number : ℕ) (e : ExecuteFault) → IsUnresolved tables statements number e → e ≢ fault.TooLong
@@ -256,3 +270,4 @@ unresolved-apart tables statements number fault.NoSuchStatement none is = cc
 unresolved-apart tables statements number (fault.Refused why) says is = cc
 unresolved-apart tables statements number fault.TooLong never is = never
 unresolved-apart tables statements number fault.Shared never is = never
+unresolved-apart tables statements number fault.Interrupted never is = never

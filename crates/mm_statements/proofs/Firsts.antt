@@ -4,21 +4,23 @@ use Rattle.std.specs.Option.{option_map}
 use Rattle.plain_tables.specs.Doing.{done}
 use Rattle.plain_tables.specs.declared.refusal.Refusal.{Refusal}
 use Rattle.plain_tables.specs.declared.refusal.Refusal.TheVariants as refusal
+use Rattle.plain_tables.specs.declared.resolved.Query.{Query}
 use Rattle.plain_tables.specs.declared.resolved.Resolved.{Resolved}
+use Rattle.plain_tables.specs.declared.resolved.Resolved.TheVariants as resolved
 use Rattle.plain_tables.specs.declared.value.Value.{Value}
-use Rattle.mm_cells.specs.declared.fault.CellFault.{CellFault}
-use Rattle.mm_cells.specs.declared.fault.CellFault.TheVariants as cells
 use Rattle.mm_prepared.specs.Kept.{seen}
 use Rattle.mm_prepared.specs.declared.kept.Statements.{Statements}
 use Rattle.mm_session.specs.Changing.{IsChange}
 use Rattle.mm_session.specs.First.{ShowsFirst}
-use Rattle.mm_statements.specs.Faults.{execute_fault_of}
+use Rattle.mm_session.specs.declared.fault.SelectFault.{SelectFault}
+use Rattle.mm_session.specs.declared.fault.SelectFault.TheVariants as selecting
+use Rattle.mm_statements.specs.Faults.{execute_fault_of_select}
 use Rattle.mm_statements.specs.First.{IsUnshown, ShowsFirstOf}
 use Rattle.mm_statements.specs.Held.{Held}
 use Rattle.mm_statements.specs.Resolving.{IsFinished, IsUnfinished}
 use Rattle.mm_statements.specs.declared.faults.ExecuteFault.{ExecuteFault}
 use Rattle.mm_statements.specs.declared.faults.ExecuteFault.TheVariants as fault
-use Rattle.mm_statements.proofs.Executing.{change-of, effect-of}
+use Rattle.mm_statements.proofs.Executing.{change-of, effect-of, select-of}
 use Rattle.mm_statements.proofs.Seen.{state_of, statement-seen}
 
 module _ (held : Held) (statements : Statements) (number : ℕ) where
@@ -26,6 +28,7 @@ module _ (held : Held) (statements : Statements) (number : ℕ) where
   pub unfinished-unshown : (e : ExecuteFault) → IsUnfinished held.session.database statements number e → IsUnshown (state_of held statements) number e
   unfinished-unshown fault.TooLong never = absurd never
   unfinished-unshown fault.Shared never = never
+  unfinished-unshown fault.Interrupted never = absurd never
   unfinished-unshown fault.NoSuchStatement none = statement-seen held statements number ∙ ap (option_map seen) none
   unfinished-unshown (fault.Refused why) says = λ other. inl (effect-of held statements number (Err why) (says other))
 
@@ -40,6 +43,8 @@ module _ (held : Held) (statements : Statements) (number : ℕ) where
     first-shown most columns values shows = (done held.session.limits held.session.database c, effect-of held statements number (Ok c) finished, shows)
 
 -- cells that were not filled
-pub cells-unshown : (held : Held) (statements : Statements) (number : ℕ) (f : CellFault) → IsUnshown (state_of held statements) number (execute_fault_of f)
-cells-unshown held statements number (cells.NoMemory refused) = λ other. absurd (other refl)
-cells-unshown held statements number cells.TooLong = tt
+pub cells-unshown : (held : Held) (statements : Statements) (number : ℕ) (query : Query) → IsFinished held.session.database statements number (Ok (resolved.Select query))
+    → (f : SelectFault) → IsUnshown (state_of held statements) number (execute_fault_of_select f)
+cells-unshown held statements number query finished (selecting.NoMemory refused) = λ other. absurd (other refl)
+cells-unshown held statements number query finished selecting.TooLong = tt
+cells-unshown held statements number query finished selecting.Interrupted = select-of held statements number query finished

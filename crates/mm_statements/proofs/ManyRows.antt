@@ -170,6 +170,7 @@ module _ (k count : ℕ) (next : ℕ → Database → Effect) (tables : Database
   ends-in-turn o (fault.Refused why) ends = λ other. turn-ends o why (ends other)
   ends-in-turn o fault.TooLong ends = ends
   ends-in-turn o fault.Shared ends = ends
+  ends-in-turn o fault.Interrupted ends = ends
 
 -- ---- the statement of a number, whose meaning is known
 
@@ -219,6 +220,7 @@ failed-declined held old number rows e fault.NoSuchStatement it failed = absurd 
 failed-declined held old number rows e (fault.Refused why) it failed = λ other. subst (IsEffectOfMany (state_of held old) number rows) (failed other) it
 failed-declined held old number rows e fault.TooLong it failed = tt
 failed-declined held old number rows e fault.Shared it failed = tt
+failed-declined held old number rows e fault.Interrupted it failed = failed
 
 -- a statement that is refused whatever is bound is so with some rows
 pub unresolved-many : (held : Held) (old : Statements) (number : ℕ) (rows : List (List Value)) (f : ExecuteFault) → rows ≢ []
@@ -226,6 +228,7 @@ pub unresolved-many : (held : Held) (old : Statements) (number : ℕ) (rows : Li
 unresolved-many held old number rows fault.NoSuchStatement some none = statement-seen held old number ∙ ap (option_map seen) none
 unresolved-many held old number rows fault.TooLong some never = tt
 unresolved-many held old number rows fault.Shared some never = tt
+unresolved-many held old number rows fault.Interrupted some never = never
 unresolved-many held old number rows (fault.Refused why) some says = λ other.
     let s = says other in
     record {

@@ -13,20 +13,22 @@ use Rattle.plain_tables.specs.declared.command.Command.TheVariants as command
 use Rattle.plain_tables.specs.declared.command.Limits.{Limits}
 use Rattle.plain_tables.specs.declared.refusal.Refusal.{Refusal}
 use Rattle.plain_tables.specs.declared.refusal.Refusal.TheVariants as refusal
+use Rattle.plain_tables.specs.declared.resolved.Query.{Query}
 use Rattle.plain_tables.specs.declared.resolved.Resolved.{Resolved}
+use Rattle.plain_tables.specs.declared.resolved.Resolved.TheVariants as resolved
 use Rattle.plain_tables.proofs.Given.{spellable_are_given}
 use Rattle.plain_tables.proofs.Meanings.{satisfies, if_checked, if_numbered}
 use Rattle.plain_tables.proofs.ResolvedCommands.{resolved_are_meant}
 use Rattle.plain_tables.proofs.Spellable.{spelled-spellable}
 use Rattle.plain_tables.proofs.Uniqueness.{spells-one}
 use Rattle.plain_streams.specs.Requests.{IsReadable}
-use Rattle.mm_cells.specs.declared.fault.CellFault.{CellFault}
-use Rattle.mm_cells.specs.declared.fault.CellFault.TheVariants as cells
 use Rattle.mm_lang.specs.Refusals.{refusal_of}
 use Rattle.mm_lang.specs.declared.refusal.ParseRefusal.{ParseRefusal}
 use Rattle.mm_lang.specs.declared.refusal.ParseRefusal.TheVariants as parsing
 use Rattle.mm_session.specs.Changing.{HasDeclined, IsChange}
 use Rattle.mm_session.specs.Sessions.{State}
+use Rattle.mm_session.specs.declared.fault.SelectFault.{SelectFault}
+use Rattle.mm_session.specs.declared.fault.SelectFault.TheVariants as selecting
 use Rattle.mm_statements.specs.Faults.{IsUndone, query_fault_of, query_fault_of_change}
 use Rattle.mm_statements.specs.declared.faults.ChangeFault.{ChangeFault}
 use Rattle.mm_statements.specs.declared.faults.ChangeFault.TheVariants as changing
@@ -120,14 +122,18 @@ change-unanswered old new line r changing.Shared means change undone = (r, means
 
 -- ---- what the cells of a select don't take
 
-pub cells-unanswered : (session : State) (line : List ℕ) (f : CellFault) → IsReadable line → IsUnanswered session line (query_fault_of f)
-cells-unanswered session line (cells.NoMemory refused) readable = querying.no_memory readable
-cells-unanswered session line cells.TooLong readable = readable
+pub select-unanswered : (session : State) (line : List ℕ) (query : Query) (f : SelectFault) → IsMeaningOfLine session.database line (Ok (resolved.Select query))
+    → IsUnanswered session line (query_fault_of f)
+select-unanswered session line query (selecting.NoMemory refused) means = querying.no_memory means.readable
+select-unanswered session line query selecting.TooLong means = means.readable
+select-unanswered session line query selecting.Interrupted means =
+    (done session.limits session.database (resolved.Select query), effect-of-line session line (Ok (resolved.Select query)) means, tt)
 
 refused-apart : (why : Refusal) → fault.Refused why ≢ fault.TooLong
 refused-apart why is = cc
 
 -- a value is too long where it was for the cells
-pub full-cells : (f : CellFault) (P : Type 0) → (f ≡ cells.TooLong → P) → query_fault_of f ≡ fault.TooLong → P
-full-cells (cells.NoMemory refused) P full is = absurd (refused-apart refusal.NoMemory is)
-full-cells cells.TooLong P full is = full refl
+pub full-cells : (f : SelectFault) (P : Type 0) → (f ≡ selecting.TooLong → P) → query_fault_of f ≡ fault.TooLong → P
+full-cells (selecting.NoMemory refused) P full is = absurd (refused-apart refusal.NoMemory is)
+full-cells selecting.TooLong P full is = full refl
+full-cells selecting.Interrupted P full is = cc

@@ -15,6 +15,7 @@ use Rattle.plain_statements.specs.Executing.{executed}
 use Rattle.plain_statements.specs.Laws.{Refuses}
 use Rattle.plain_statements.specs.StatementSpelling.{SpellsStatement}
 use Rattle.mm_session.specs.Changing.{HasChanged, IsChange, ShowsValues}
+use Rattle.mm_session.specs.Counting.{HasRows}
 use Rattle.mm_session.specs.Sessions.{State}
 use Rattle.mm_prepared.specs.Kept.{KeptStatement}
 use Rattle.mm_statements.specs.Databases.{DatabaseState, statement_at}
@@ -47,14 +48,19 @@ pub record IsChangeOf (database : DatabaseState) (number : ℕ) : Type 0 where
   pub means : resolved_of [] database.session.database (filled kept.values statement) ≡ Ok command
   pub change : IsChange command
 
+-- The number names a statement, whose effect with the values that are bound is rows.
+abbrev pub IsSelectOf : DatabaseState → ℕ → Type 0
+IsSelectOf database number = (effect : Effect) × IsEffectOf database number effect × HasRows effect.outcome (λ n. Unit {0})
+
 -- The number names no statement; or the refusal is the effect, unless there was no memory. What it shows may be too long for cells. A
--- change is declined while another database shares the tables.
+-- change is declined while another database shares the tables. What is asked to end is a select.
 abbrev pub IsDeclined : DatabaseState → ℕ → ExecuteFault → Type 0
 IsDeclined database number fault.NoSuchStatement = statement_at database number ≡ None
 IsDeclined database number (fault.Refused why) =
     why ≢ NoMemory → IsEffectOf database number (refused database.session.database why)
 IsDeclined database number fault.TooLong = Unit {0}
 IsDeclined database number fault.Shared = IsChangeOf database number
+IsDeclined database number fault.Interrupted = IsSelectOf database number
 
 -- the columns of what a resolved command shows of these tables
 abbrev pub columns_of : Database → Resolved → List Value
@@ -85,3 +91,4 @@ IsUntold database number fault.NoSuchStatement = statement_at database number �
 IsUntold database number (fault.Refused why) = why ≢ NoMemory → IsRefusedEver database number why
 IsUntold database number fault.TooLong = ⊥
 IsUntold database number fault.Shared = ⊥
+IsUntold database number fault.Interrupted = ⊥

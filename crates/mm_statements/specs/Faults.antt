@@ -1,4 +1,5 @@
--- Faults: what a refusal is among the faults of preparing, a fault of cells among those of executing and of querying, and a fault of a
+-- Faults: what a refusal is among the faults of preparing, a fault of cells or of a select among those of executing
+-- and of querying, and a fault of a
 -- session among those of a request and of a stream.
 use Rattle.plain_tables.specs.Effects.{Effect}
 use Rattle.plain_tables.specs.declared.refusal.Refusal.{Refusal}
@@ -9,6 +10,8 @@ use Rattle.mm_session.specs.Changing.{HasDeclined}
 use Rattle.mm_session.specs.Sessions.{State}
 use Rattle.mm_session.specs.declared.fault.ReadFault.{ReadFault}
 use Rattle.mm_session.specs.declared.fault.ReadFault.TheVariants as reading
+use Rattle.mm_session.specs.declared.fault.SelectFault.{SelectFault}
+use Rattle.mm_session.specs.declared.fault.SelectFault.TheVariants as selecting
 use Rattle.mm_session.specs.declared.fault.SessionFault.{SessionFault}
 use Rattle.mm_session.specs.declared.fault.SessionFault.TheVariants as session
 use Rattle.mm_statements.specs.declared.faults.BeginFault.{BeginFault}
@@ -37,9 +40,16 @@ execute_fault_of (cells.NoMemory refused) = executing.Refused refusal.NoMemory
 execute_fault_of cells.TooLong = executing.TooLong
 
 -- out of memory is a refusal here
-abbrev pub query_fault_of : CellFault → QueryFault
-query_fault_of (cells.NoMemory refused) = querying.Refused refusal.NoMemory
-query_fault_of cells.TooLong = querying.TooLong
+abbrev pub execute_fault_of_select : SelectFault → ExecuteFault
+execute_fault_of_select (selecting.NoMemory refused) = executing.Refused refusal.NoMemory
+execute_fault_of_select selecting.TooLong = executing.TooLong
+execute_fault_of_select selecting.Interrupted = executing.Interrupted
+
+-- out of memory is a refusal here
+abbrev pub query_fault_of : SelectFault → QueryFault
+query_fault_of (selecting.NoMemory refused) = querying.Refused refusal.NoMemory
+query_fault_of selecting.TooLong = querying.TooLong
+query_fault_of selecting.Interrupted = querying.Interrupted
 
 -- a change is declined where the tables are only read
 abbrev pub request_fault_of : ReadFault → RequestFault

@@ -33,6 +33,7 @@ IsDeclinedWithMany database number rows (fault.Refused why) =
     why ≢ NoMemory → IsEffectOfMany database number rows (refused database.session.database why)
 IsDeclinedWithMany database number rows fault.TooLong = Unit {0}
 IsDeclinedWithMany database number rows fault.Shared = Unit {0}
+IsDeclinedWithMany database number rows fault.Interrupted = ⊥
 
 -- the resolution is what a line means of these tables
 abbrev pub IsMeaning : Database → Resolution → Type 0
@@ -44,6 +45,7 @@ HasFailed tables e fault.NoSuchStatement = ⊥
 HasFailed tables e (fault.Refused why) = why ≢ NoMemory → e ≡ refused tables why
 HasFailed tables e fault.TooLong = Unit {0}
 HasFailed tables e fault.Shared = Unit {0}
+HasFailed tables e fault.Interrupted = ⊥
 
 -- the outcome is this refusal, unless there was no memory
 abbrev pub EndsBy : Outcome → ExecuteFault → Type 0
@@ -51,6 +53,7 @@ EndsBy outcome fault.NoSuchStatement = ⊥
 EndsBy outcome (fault.Refused why) = why ≢ NoMemory → outcome ≡ Refused why
 EndsBy outcome fault.TooLong = Unit {0}
 EndsBy outcome fault.Shared = Unit {0}
+EndsBy outcome fault.Interrupted = ⊥
 
 -- the outcome with the number of the record that it is of
 abbrev pub outcome_in_record : ℕ → Outcome → Outcome

@@ -14,6 +14,7 @@ use Rattle.plain_tables.specs.declared.resolved.Resolved.{Resolved}
 use Rattle.plain_streams.specs.Division.{IsUnbroken}
 use Rattle.plain_streams.specs.Requests.{IsReadable, is_silent}
 use Rattle.mm_session.specs.Changing.{IsChange}
+use Rattle.mm_session.specs.Counting.{HasRows}
 use Rattle.mm_session.specs.Sessions.{State}
 use Rattle.mm_statements.specs.declared.faults.QueryFault.{QueryFault}
 use Rattle.mm_statements.specs.declared.faults.QueryFault.TheVariants as fault
@@ -62,9 +63,14 @@ pub record IsMeaningOfLine (tables : Database) (line : List ℕ) (meaning : Resu
 abbrev pub IsChangeOfLine : Database → List ℕ → Type 0
 IsChangeOfLine tables line = (command : Resolved) × IsMeaningOfLine tables line (Ok command) × IsChange command
 
+-- The line can be read, and spells what has rows as its effect.
+abbrev pub IsSelectOfLine : State → List ℕ → Type 0
+IsSelectOfLine session line = (effect : Effect) × IsEffectOfLine session line effect × HasRows effect.outcome (λ n. Unit {0})
+
 -- The refusal is why nothing comes of a line; or the line can be read, and what it shows is too long for cells. A change is declined
--- while another database shares the tables.
+-- while another database shares the tables. What is asked to end is a select.
 abbrev pub IsUnanswered : State → List ℕ → QueryFault → Type 0
 IsUnanswered session line (fault.Refused why) = IsUnqueried session line why
 IsUnanswered session line fault.TooLong = IsReadable line
 IsUnanswered session line fault.Shared = IsChangeOfLine session.database line
+IsUnanswered session line fault.Interrupted = IsSelectOfLine session line

@@ -50,6 +50,7 @@ IsUnresolved tables statements number fault.NoSuchStatement = named statements n
 IsUnresolved tables statements number (fault.Refused why) = why ≢ NoMemory → IsRefusing tables statements number why
 IsUnresolved tables statements number fault.TooLong = ⊥
 IsUnresolved tables statements number fault.Shared = ⊥
+IsUnresolved tables statements number fault.Interrupted = ⊥
 
 -- an insert, an update, a delete or a select
 abbrev pub IsOfRows : Resolved → Type 0
@@ -62,3 +63,4 @@ IsUnfinished tables statements number fault.NoSuchStatement = named statements n
 IsUnfinished tables statements number (fault.Refused why) = why ≢ NoMemory → IsFinished tables statements number (Err why)
 IsUnfinished tables statements number fault.TooLong = ⊥
 IsUnfinished tables statements number fault.Shared = ⊥
+IsUnfinished tables statements number fault.Interrupted = ⊥

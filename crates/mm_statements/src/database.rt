@@ -13,6 +13,7 @@ use crate::reading::{count_marks, meaning, readable};
 use crate::resolving::{command_of, resolution_of, resolve, settle};
 use crate::shared::SharedSession;
 use mm_cells::Cells;
+use mm_interrupts::{Interrupter, Interrupts};
 use mm_prepared::{
     Bound, Commands, Declined, Lent, LentValue, Statements, check_each, may_declare,
 };
@@ -63,6 +64,8 @@ pub struct Database {
     commands: Commands,
     // What a select finds is found here, and the room is kept for the next.
     room: SelectRoom,
+    // What asks selects to end, once somebody wanted it.
+    interrupter: Option<Interrupter>,
 }
 
 // It is written out, so that the crates above don't prove anew how each part of a part is freed.
@@ -75,7 +78,16 @@ impl Drop for Database {
             noted: _,
             commands: _,
             room: _,
+            interrupter: _,
         } = self;
+    }
+}
+
+// A select begins that such an interrupter may ask to end, if there is one.
+fn begin_select(interrupter: &Option<Interrupter>) -> Interrupts<'_> {
+    match interrupter {
+        Some(interrupter) => interrupter.begin(),
+        None => Interrupts::none(),
     }
 }
 
@@ -142,6 +154,7 @@ impl Database {
             noted: NotedTables::new(alloc),
             commands: Commands::new(alloc),
             room: SelectRoom::new(alloc),
+            interrupter: None,
         })
     }
 
@@ -165,6 +178,7 @@ impl Database {
             noted: NotedTables::new(alloc),
             commands: Commands::new(alloc),
             room: SelectRoom::new(alloc),
+            interrupter: None,
         })
     }
 
@@ -189,6 +203,7 @@ impl Database {
             noted: NotedTables::new(alloc),
             commands: Commands::new(alloc),
             room: SelectRoom::new(alloc),
+            interrupter: None,
         })
     }
 
@@ -241,6 +256,19 @@ impl Database {
         ensures refused { IfErr result (IsUnplanned self.now.session (without_return line.now)) }
     {
         plan_of_line(alloc, &self.held, line)
+    }
+
+    /// What asks the select that is under way to end, from another thread. There may be several.
+    pub fn interrupter(&mut self, alloc: Global) -> Result<Interrupter, NoMemory>
+        ensures { self.new ≡ self.old }
+    {
+        if let Some(interrupter) = &self.interrupter {
+            return interrupter.another();
+        }
+        let own = Interrupter::new(alloc)?;
+        let another = own.another()?;
+        self.interrupter = Some(own);
+        Ok(another)
     }
 
     /// The session, lent.
@@ -460,7 +488,7 @@ impl Database {
 
     /// Does what the statement of a number says with the values that are bound, beside the stream. It makes the cells the values of the
     /// rows that it shows, a row behind the other, and none where it shows none; where it fails they may be any. `TooLong` comes only if
-    /// their texts have 4 GiB or more then.
+    /// their texts have 4 GiB or more then. A select that an interrupter asks to end does so.
     pub fn execute(&mut self, number: usize, shown: &mut Cells) -> Result<Executed, ExecuteFault>
         ensures done { IfOk result (λ given. (effect : Effect) × IsEffectOf self.old number effect × HasGiven self.new.session effect given (values_of shown.new)) }
         ensures missing { statement_at self.old number ≡ None → result ≡ Err fault.NoSuchStatement }
@@ -486,7 +514,8 @@ impl Database {
             Lent::Command(command) => command,
         };
         if let Resolved::Select(query) = command {
-            let columns = self.held.select(query, &mut self.room, shown)?;
+            let interrupts = begin_select(&self.interrupter);
+            let columns = self.held.select(query, &mut self.room, shown, interrupts)?;
             return Ok(Executed::Rows { columns });
         }
         let count = self.held.change(command)?;
@@ -566,7 +595,11 @@ impl Database {
         let kept = self.commands.at(number);
         let lent = command_of(&self.statements, number, kept)?;
         let query = select_of(&lent)?;
-        Ok(self.held.first(query, most, &mut self.room, shown)?)
+        let interrupts = begin_select(&self.interrupter);
+        Ok(
+            self.held
+                .first(query, most, &mut self.room, shown, interrupts)?,
+        )
     }
 
     /// How many rows the select of a number shows with the values that are bound. They are counted, and none of their values is kept. It is
@@ -581,7 +614,8 @@ impl Database {
         let kept = self.commands.at(number);
         let lent = command_of(&self.statements, number, kept)?;
         let query = select_of(&lent)?;
-        Ok(self.held.count(query)?)
+        let interrupts = begin_select(&self.interrupter);
+        Ok(self.held.count(query, interrupts)?)
     }
 
     /// Does the insert, the update, the delete or the select that a line spells, beside the stream. No statement is kept, and no
@@ -609,7 +643,8 @@ impl Database {
         cells.clear();
         let command = command_of_line(alloc, &self.held, line)?;
         if let Resolved::Select(query) = &command {
-            let columns = self.held.select(query, &mut self.room, cells)?;
+            let interrupts = begin_select(&self.interrupter);
+            let columns = self.held.select(query, &mut self.room, cells, interrupts)?;
             return Ok(Executed::Rows { columns });
         }
         let count = self.held.change(&command)?;

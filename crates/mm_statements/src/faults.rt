@@ -2,7 +2,7 @@
 //! a transaction neither begins nor ends.
 
 use mm_cells::CellFault;
-use mm_session::{CountFault, NotOneRequest, ReadFault, SessionFault};
+use mm_session::{CountFault, NotOneRequest, ReadFault, SelectFault, SessionFault};
 use no_memory::NoMemory;
 use plain_tables::Refusal;
 
@@ -53,6 +53,8 @@ pub enum ExecuteFault {
     TooLong,
     /// It is an insert, an update or a delete, and another database shares the tables.
     Shared,
+    /// It is a select, which was asked to end.
+    Interrupted,
 }
 
 impl From<Refusal> for ExecuteFault {
@@ -92,6 +94,21 @@ impl From<CellFault> for ExecuteFault {
     }
 }
 
+impl From<SelectFault> for ExecuteFault {
+    ghost use Rattle.std.specs.Prelude.{◌≡◌};
+    ghost use Rattle.mm_statements.specs.Faults.{execute_fault_of_select};
+
+    ghost from_gives = { λ why e. e ≡ execute_fault_of_select why };
+
+    fn from(why: SelectFault) -> ExecuteFault {
+        match why {
+            SelectFault::NoMemory(refused) => ExecuteFault::Refused(Refusal::from(refused)),
+            SelectFault::TooLong => ExecuteFault::TooLong,
+            SelectFault::Interrupted => ExecuteFault::Interrupted,
+        }
+    }
+}
+
 impl From<CountFault> for ExecuteFault {
     ghost use Rattle.std.specs.Prelude.{◌≡◌};
     ghost use Rattle.mm_statements.specs.Counting.{execute_fault_of_count};
@@ -102,6 +119,7 @@ impl From<CountFault> for ExecuteFault {
         match why {
             CountFault::NoMemory(refused) => ExecuteFault::Refused(Refusal::from(refused)),
             CountFault::TooMany => ExecuteFault::TooLong,
+            CountFault::Interrupted => ExecuteFault::Interrupted,
         }
     }
 }
@@ -115,6 +133,8 @@ pub enum QueryFault {
     TooLong,
     /// It is an insert, an update or a delete, and another database shares the tables.
     Shared,
+    /// It is a select, which was asked to end.
+    Interrupted,
 }
 
 impl From<Refusal> for QueryFault {
@@ -128,16 +148,17 @@ impl From<Refusal> for QueryFault {
     }
 }
 
-impl From<CellFault> for QueryFault {
+impl From<SelectFault> for QueryFault {
     ghost use Rattle.std.specs.Prelude.{◌≡◌};
     ghost use Rattle.mm_statements.specs.Faults.{query_fault_of};
 
     ghost from_gives = { λ why e. e ≡ query_fault_of why };
 
-    fn from(why: CellFault) -> QueryFault {
+    fn from(why: SelectFault) -> QueryFault {
         match why {
-            CellFault::NoMemory(refused) => QueryFault::Refused(Refusal::from(refused)),
-            CellFault::TooLong => QueryFault::TooLong,
+            SelectFault::NoMemory(refused) => QueryFault::Refused(Refusal::from(refused)),
+            SelectFault::TooLong => QueryFault::TooLong,
+            SelectFault::Interrupted => QueryFault::Interrupted,
         }
     }
 }

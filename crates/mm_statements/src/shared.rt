@@ -27,8 +27,9 @@ ghost use Rattle.mm_statements.specs.declared.faults.StreamFault.TheVariants as 
 use crate::faults::{BeginFault, ChangeFault, RequestFault, StreamFault};
 use mm_catalog::Catalog;
 use mm_catalog::laws::a_catalog_is_consistent;
-use mm_cells::{CellFault, Cells};
-use mm_session::{Answer, CountFault, SelectRoom, Session};
+use mm_cells::Cells;
+use mm_interrupts::Interrupts;
+use mm_session::{Answer, CountFault, SelectFault, SelectRoom, Session};
 use mm_transactions::NoTransaction;
 use no_memory::NoMemory;
 use plain_tables::{Query, Resolved, Sequence, TableNumber, Value};
@@ -224,20 +225,22 @@ impl SharedSession {
         self.own.rollback()
     }
 
-    /// Makes the cells the values that a select shows, as the session does. The rows are found in the room.
+    /// Makes the cells the values that a select shows, as the session does, until it is asked to end. The rows are found in
+    /// the room.
     pub fn select(
         &self,
         query: &Query,
         room: &mut SelectRoom,
         cells: &mut Cells,
-    ) -> Result<usize, CellFault>
+        interrupts: Interrupts<'_>,
+    ) -> Result<usize, SelectFault>
         requires { IsMeant self.now.session.limits self.now.session.database (resolved.Select query.now) }
         ensures shown { IfOk result (λ columns. ShowsValues (done self.now.session.limits self.now.session.database (resolved.Select query.now)).outcome columns (values_of cells.new)) }
         ensures some { IfOk result (λ columns. 0 < columns) }
-        ensures too_long { IsErrOf result CellFault.TooLong → AreFull (values_of cells.new) }
+        ensures too_long { IsErrOf result SelectFault.TooLong → AreFull (values_of cells.new) }
         ensures room { IsBounded room.new }
     {
-        self.session().select(query, room, cells)
+        self.session().select(query, room, cells, interrupts)
     }
 
     /// Makes the cells the values of the first rows that a select shows, so many at most, as the session does. The rows are found in the
@@ -248,23 +251,24 @@ impl SharedSession {
         most: usize,
         room: &mut SelectRoom,
         cells: &mut Cells,
-    ) -> Result<usize, CellFault>
+        interrupts: Interrupts<'_>,
+    ) -> Result<usize, SelectFault>
         requires { IsMeant self.now.session.limits self.now.session.database (resolved.Select query.now) }
         ensures shown { IfOk result (λ columns. ShowsFirst (done self.now.session.limits self.now.session.database (resolved.Select query.now)).outcome most columns (values_of cells.new)) }
         ensures some { IfOk result (λ columns. 0 < columns) }
-        ensures too_long { IsErrOf result CellFault.TooLong → AreFull (values_of cells.new) }
+        ensures too_long { IsErrOf result SelectFault.TooLong → AreFull (values_of cells.new) }
         ensures room { IsBounded room.new }
     {
-        self.session().first(query, most, room, cells)
+        self.session().first(query, most, room, cells, interrupts)
     }
 
     /// How many rows a select shows, as the session counts them.
-    pub fn count(&self, query: &Query) -> Result<u64, CountFault>
+    pub fn count(&self, query: &Query, interrupts: Interrupts<'_>) -> Result<u64, CountFault>
         requires { IsMeant self.now.session.limits self.now.session.database (resolved.Select query.now) }
         ensures counted { IfOk result (λ count. HasRows (done self.now.session.limits self.now.session.database (resolved.Select query.now)).outcome (λ n. count ≡ n)) }
         ensures too_many { IsErrOf result CountFault.TooMany → HasRows (done self.now.session.limits self.now.session.database (resolved.Select query.now)).outcome (λ n. 2 ^ 64 ≤ n) }
     {
-        self.session().count(query)
+        self.session().count(query, interrupts)
     }
 
     /// Does an insert, an update or a delete, as the session does, where nobody else holds it.

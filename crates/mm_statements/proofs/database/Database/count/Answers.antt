@@ -84,7 +84,7 @@ returns-in_err-count-clause-declined c =
     (rw c.in_ok-query.ensures.select at lent) in
     let e = err_from_is_err_and c.from_residual-in_err-count.result c.from_residual-in_err-count.ensures.1 in
     rw (← c.self.view_is, e.1, e.2)
-    (count-declined s old c.args.number command finished c.in_err-count.field-0.0 (λ many. c.in_err-count.ensures.too_many (ap Err many)))
+    (count-declined s old c.args.number c.in_ok-query.query.now finished c.in_err-count.field-0.0 (λ many. c.in_err-count.ensures.too_many (ap Err many)))
 
 pub returns-in_err-count-clause-unchanged : goal.returns-in_err-count-clause-unchanged
 returns-in_err-count-clause-unchanged c =

@@ -5,10 +5,10 @@ use Rattle.plain_tables.specs.ResolvedLaws.{IsMeant}
 use Rattle.plain_tables.specs.declared.resolved.Resolved.TheVariants as resolved
 use Rattle.mm_cells.specs.Reading.{AreFull}
 use Rattle.mm_cells.specs.Values.{values_of}
-use Rattle.mm_statements.specs.Faults.{execute_fault_of}
+use Rattle.mm_statements.specs.Faults.{execute_fault_of_select}
 use Rattle.mm_statements.specs.Resolving.{IsFinished, IsOfRows}
 use Rattle.mm_statements.specs.declared.faults.ExecuteFault.TheVariants as fault
-use Rattle.mm_statements.proofs.Executing.{cells-declined, change-undone, changed-noted, effect-of, full-cells, on-err, same-finished, same-unfinished, unchanged, unfinished-declined, unresolved-apart, unresolved-unfinished}
+use Rattle.mm_statements.proofs.Executing.{change-undone, changed-noted, effect-of, full-cells, on-err, same-finished, same-unfinished, select-declined, unchanged, unfinished-declined, unresolved-apart, unresolved-unfinished}
 use Rattle.mm_statements.proofs.Finished.{rows-change}
 use Rattle.mm_statements.proofs.Seen.{same-seen, statement-none}
 use Rattle.mm_statements.proofs.database.Database.execute.Goals as goal
@@ -126,15 +126,23 @@ select-requires c =
 
 pub returns-in_err-columns-clause-declined : goal.returns-in_err-columns-clause-declined
 returns-in_err-columns-clause-declined c =
+    let s = c.self.inside.held in
+    let old = c.self.inside.statements in
+    let command = resolved.Select c.in-Select.query in
+    let lent : IsFinished s.session.database c.resolve.new.statements c.args.number (Ok c.in-Command.command.now) =
+    rw c.in-Command.is at (c.in_ok-lent.ensures.finished s.session.database c.in_ok-resolve.ensures.right) in
+    let finished : IsFinished s.session.database c.resolve.new.statements c.args.number (Ok command) = rw c.in-Select.is at lent in
     let e = err_from_is_err_and c.from_residual-in_err-columns.result c.from_residual-in_err-columns.ensures.1 in
-    rw (← c.self.view_is, e.1, e.2) (cells-declined _ c.args.number c.in_err-columns.field-0.0)
+    rw (← c.self.view_is, e.1, e.2)
+    (select-declined s old c.args.number c.in-Select.query
+    (same-finished s.session.database old c.resolve.new.statements c.args.number (Ok command) c.resolve.ensures.same finished) c.in_err-columns.field-0.0)
 
 pub returns-in_err-columns-clause-too_long : goal.returns-in_err-columns-clause-too_long
 returns-in_err-columns-clause-too_long c =
     let e = err_from_is_err_and c.from_residual-in_err-columns.result c.from_residual-in_err-columns.ensures.1 in
     rw (e.1, e.2)
     (λ is.
-    let same : execute_fault_of c.in_err-columns.field-0.0 ≡ fault.TooLong = cc in
+    let same : execute_fault_of_select c.in_err-columns.field-0.0 ≡ fault.TooLong = cc in
     full-cells c.in_err-columns.field-0.0 (AreFull (values_of c.select.new.cells)) (λ long. c.in_err-columns.ensures.too_long (ap Err long)) same)
 
 pub returns-in_err-columns-clause-unchanged : goal.returns-in_err-columns-clause-unchanged

@@ -5,7 +5,7 @@ use Rattle.plain_tables.specs.declared.resolved.Resolved.TheVariants as resolved
 use Rattle.mm_cells.specs.Reading.{AreFull}
 use Rattle.mm_cells.specs.Values.{values_of}
 use Rattle.mm_prepared.specs.Lent.{lent_command}
-use Rattle.mm_statements.specs.Faults.{execute_fault_of}
+use Rattle.mm_statements.specs.Faults.{execute_fault_of_select}
 use Rattle.mm_statements.specs.Resolving.{IsFinished}
 use Rattle.mm_statements.specs.declared.faults.ExecuteFault.TheVariants as fault
 use Rattle.mm_statements.proofs.Executing.{full-cells, same-finished, same-unfinished, unchanged, unresolved-apart, unresolved-unfinished}
@@ -85,15 +85,23 @@ first-requires c =
 
 pub returns-in_err-first-clause-declined : goal.returns-in_err-first-clause-declined
 returns-in_err-first-clause-declined c =
+    let s = c.self.inside.held in
+    let old = c.self.inside.statements in
+    let command = resolved.Select c.in_ok-query.query.now in
+    let lent : IsFinished s.session.database c.resolve.new.statements c.args.number (Ok (lent_command c.in_ok-lent.lent)) =
+    c.in_ok-lent.ensures.finished s.session.database c.in_ok-resolve.ensures.right in
+    let finished : IsFinished s.session.database old c.args.number (Ok command) =
+    same-finished s.session.database old c.resolve.new.statements c.args.number (Ok command) c.resolve.ensures.same
+    (rw c.in_ok-query.ensures.select at lent) in
     let e = err_from_is_err_and c.from_residual-in_err-first.result c.from_residual-in_err-first.ensures.1 in
-    rw (← c.self.view_is, e.1, e.2) (cells-unshown c.self.inside.held c.self.inside.statements c.args.number c.in_err-first.field-0.0)
+    rw (← c.self.view_is, e.1, e.2) (cells-unshown s old c.args.number c.in_ok-query.query.now finished c.in_err-first.field-0.0)
 
 pub returns-in_err-first-clause-too_long : goal.returns-in_err-first-clause-too_long
 returns-in_err-first-clause-too_long c =
     let e = err_from_is_err_and c.from_residual-in_err-first.result c.from_residual-in_err-first.ensures.1 in
     rw (e.1, e.2)
     (λ is.
-    let same : execute_fault_of c.in_err-first.field-0.0 ≡ fault.TooLong = cc in
+    let same : execute_fault_of_select c.in_err-first.field-0.0 ≡ fault.TooLong = cc in
     full-cells c.in_err-first.field-0.0 (AreFull (values_of c.first.new.cells)) (λ long. c.in_err-first.ensures.too_long (ap Err long)) same)
 
 pub returns-in_err-first-clause-unchanged : goal.returns-in_err-first-clause-unchanged

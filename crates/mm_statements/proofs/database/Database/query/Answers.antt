@@ -9,7 +9,7 @@ use Rattle.mm_statements.specs.Querying.{IsMeaningOfLine}
 use Rattle.mm_statements.specs.declared.faults.QueryFault.TheVariants as fault
 use Rattle.mm_statements.proofs.Executing.{changed-noted, on-err, unchanged}
 use Rattle.mm_statements.proofs.Finished.{rows-change}
-use Rattle.mm_statements.proofs.Queries.{cells-unanswered, change-unanswered, effect-of-line, full-cells}
+use Rattle.mm_statements.proofs.Queries.{change-unanswered, effect-of-line, full-cells, select-unanswered}
 use Rattle.mm_statements.proofs.database.Database.query.Goals as goal
 
 pub returns-in_err-command-clause-refused : goal.returns-in_err-command-clause-refused
@@ -19,8 +19,11 @@ returns-in_err-command-clause-refused c =
 
 pub returns-in_err-columns-clause-refused : goal.returns-in_err-columns-clause-refused
 returns-in_err-columns-clause-refused c =
+    let s = c.self.inside.held.session in
+    let command = resolved.Select c.in-Select.query in
+    let means : IsMeaningOfLine s.database _ (Ok command) = rw c.in-Select.is at c.in_ok-command.ensures.spelled in
     let e = err_from_is_err_and c.from_residual-in_err-columns.result c.from_residual-in_err-columns.ensures.1 in
-    rw (← c.self.view_is, e.1, e.2) (cells-unanswered c.self.inside.held.session _ c.in_err-columns.field-0.0 c.in_ok-command.ensures.spelled.readable)
+    rw (← c.self.view_is, e.1, e.2) (select-unanswered s _ c.in-Select.query c.in_err-columns.field-0.0 means)
 
 pub returns-in_err-columns-clause-too_long : goal.returns-in_err-columns-clause-too_long
 returns-in_err-columns-clause-too_long c =
@@ -44,6 +47,13 @@ returns-in_err-count-clause-refused c =
     rw (← c.self.view_is, e.1, e.2)
     (change-unanswered c.self.inside.held.session c.change.new.self.session _ c.in_ok-command.command _ c.in_ok-command.ensures.spelled
     (rows-change c.in_ok-command.command c.in_ok-command.ensures.rows c.in_default.not-Select) c.in_err-count.ensures.refused)
+
+pub returns-in_err-columns-clause-unchanged : goal.returns-in_err-columns-clause-unchanged
+returns-in_err-columns-clause-unchanged c =
+    let held = c.self.inside.held in
+    let statements = c.self.inside.statements in
+    rw (← c.self.view_is)
+    (on-err c.from_residual-in_err-columns.result (unchanged held held statements statements refl (λ number. refl)))
 
 pub returns-in_err-count-clause-unchanged : goal.returns-in_err-count-clause-unchanged
 returns-in_err-count-clause-unchanged c =
