@@ -3,11 +3,12 @@
 ghost use Rattle.std.specs.Prelude.{◌≡◌, ◌≢◌, ◌↔◌, ◌⊎◌, IsNone, IsSome, IsSomeAnd};
 ghost use Rattle.mmdb_c.specs.Calls.{Becomes};
 ghost use Rattle.mmdb_c.specs.Counting.{CountsRows, IsUncounted, OnlyCounts, ShowsTooMany};
+ghost use Rattle.mmdb_c.specs.Interrupts.{IsSelect};
 ghost use Rattle.mmdb_c.specs.StatementCalls.{IsMissing};
 
 use crate::handle::Handle;
 use crate::statements::Unexecuted;
-use crate::{DONE, NO_SUCH_STATEMENT, NOT_OPEN, REFUSED, TOO_LARGE};
+use crate::{DONE, INTERRUPTED, NO_SUCH_STATEMENT, NOT_OPEN, REFUSED, TOO_LARGE};
 use std::alloc::Global;
 
 /// Tells how many rows the select of a statement shows with the values that are bound. They are counted, and none is told.
@@ -23,8 +24,9 @@ pub extern "C" fn mmdb_count(
     ensures done { result ≡ DONE → Becomes handle.old.database handle.new.database (λ old new. CountsRows statement old new count.new) }
     ensures refused { result ≡ REFUSED → Becomes handle.old.database handle.new.database (IsUncounted statement) }
     ensures too_large { result ≡ TOO_LARGE → IsSomeAnd handle.old.database (ShowsTooMany statement) }
+    ensures interrupted { result ≡ INTERRUPTED → IsSomeAnd handle.old.database (IsSelect statement) }
     ensures kept { IsSome handle.old.database → Becomes handle.old.database handle.new.database OnlyCounts }
-    ensures others { IsSome handle.old.database → (result ≡ DONE) ⊎ ((result ≡ NO_SUCH_STATEMENT) ⊎ ((result ≡ REFUSED) ⊎ (result ≡ TOO_LARGE))) }
+    ensures others { IsSome handle.old.database → (result ≡ DONE) ⊎ ((result ≡ NO_SUCH_STATEMENT) ⊎ ((result ≡ REFUSED) ⊎ ((result ≡ TOO_LARGE) ⊎ (result ≡ INTERRUPTED)))) }
     ensures unchanged { (result ≡ NOT_OPEN) ⊎ (result ≡ NO_SUCH_STATEMENT) → handle.new.database ≡ handle.old.database }
     ensures untold { result ≢ DONE → count.new ≡ count.old }
 {
@@ -42,5 +44,6 @@ pub extern "C" fn mmdb_count(
         Err(Unexecuted::Refused) => REFUSED,
         Err(Unexecuted::TooLong) => TOO_LARGE,
         Err(Unexecuted::Shared) => unreachable!(),
+        Err(Unexecuted::Interrupted) => INTERRUPTED,
     }
 }

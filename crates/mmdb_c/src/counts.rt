@@ -9,6 +9,7 @@ use mm_statements::ExecuteFault;
 
 impl OpenDatabase {
     ghost use Rattle.mmdb_c.specs.Counting.{CountsRows, IsUncounted, OnlyCounts, ShowsTooMany};
+    ghost use Rattle.mmdb_c.specs.Interrupts.{IsSelect};
     ghost use Rattle.mmdb_c.specs.StatementCalls.{IsMissing};
 
     /// How many rows the select of a number shows with the values that are bound; the answer is empty then. Where it is refused, that is
@@ -19,6 +20,7 @@ impl OpenDatabase {
         ensures none { result ≡ Err unexecuted.NoSuchStatement → IsMissing number self.old × (self.new ≡ self.old) }
         ensures refused { IsErrOf result unexecuted.Refused → IsUncounted number self.old self.new }
         ensures too_many { IsErrOf result unexecuted.TooLong → ShowsTooMany number self.old }
+        ensures interrupted { IsErrOf result unexecuted.Interrupted → IsSelect number self.old }
         ensures kept { OnlyCounts self.old self.new }
         ensures reads { ¬ (IsErrOf result unexecuted.Shared) }
     {
@@ -37,6 +39,7 @@ impl OpenDatabase {
             Err(ExecuteFault::TooLong) => Err(Unexecuted::TooLong),
             // It changes no tables.
             Err(ExecuteFault::Shared) => unreachable!(),
+            Err(ExecuteFault::Interrupted) => Err(Unexecuted::Interrupted),
         }
     }
 }

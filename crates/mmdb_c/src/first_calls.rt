@@ -4,12 +4,13 @@ ghost use Rattle.std.specs.Prelude.{◌≡◌, ◌≢◌, ◌↔◌, ◌⊎◌, 
 ghost use Rattle.mm_cells.specs.Reading.{AreFull};
 ghost use Rattle.mmdb_c.specs.Calls.{Becomes};
 ghost use Rattle.mmdb_c.specs.First.{IsUnshown, ShowsFirst};
+ghost use Rattle.mmdb_c.specs.Interrupts.{IsSelect};
 ghost use Rattle.mmdb_c.specs.StatementCalls.{IsMissing, KeepsAll, KeepsOthers, shown_by};
 
 use crate::handle::Handle;
 use crate::rows::Rows;
 use crate::statements::Unexecuted;
-use crate::{DONE, NO_SUCH_STATEMENT, NOT_OPEN, REFUSED, TOO_LARGE};
+use crate::{DONE, INTERRUPTED, NO_SUCH_STATEMENT, NOT_OPEN, REFUSED, TOO_LARGE};
 use std::alloc::Global;
 
 /// Tells the first rows that the select of a statement shows with the values that are bound, so many at most.
@@ -26,9 +27,10 @@ pub extern "C" fn mmdb_first(
     ensures done { result ≡ DONE → Becomes handle.old.database handle.new.database (λ old new. ShowsFirst statement most old new rows.new) }
     ensures refused { result ≡ REFUSED → Becomes handle.old.database handle.new.database (IsUnshown statement) }
     ensures too_large { result ≡ TOO_LARGE → IsSomeAnd handle.new.database (λ d. AreFull (shown_by d statement)) }
+    ensures interrupted { result ≡ INTERRUPTED → IsSomeAnd handle.old.database (IsSelect statement) }
     ensures kept { IsSome handle.old.database → Becomes handle.old.database handle.new.database KeepsAll }
     ensures rows { IsSome handle.old.database → Becomes handle.old.database handle.new.database (KeepsOthers statement) }
-    ensures others { IsSome handle.old.database → (result ≡ DONE) ⊎ ((result ≡ NO_SUCH_STATEMENT) ⊎ ((result ≡ REFUSED) ⊎ (result ≡ TOO_LARGE))) }
+    ensures others { IsSome handle.old.database → (result ≡ DONE) ⊎ ((result ≡ NO_SUCH_STATEMENT) ⊎ ((result ≡ REFUSED) ⊎ ((result ≡ TOO_LARGE) ⊎ (result ≡ INTERRUPTED)))) }
     ensures unchanged { (result ≡ NOT_OPEN) ⊎ (result ≡ NO_SUCH_STATEMENT) → handle.new.database ≡ handle.old.database }
     ensures untold { result ≢ DONE → rows.new ≡ rows.old }
 {
@@ -43,5 +45,6 @@ pub extern "C" fn mmdb_first(
         Err(Unexecuted::Refused) => REFUSED,
         Err(Unexecuted::TooLong) => TOO_LARGE,
         Err(Unexecuted::Shared) => unreachable!(),
+        Err(Unexecuted::Interrupted) => INTERRUPTED,
     }
 }

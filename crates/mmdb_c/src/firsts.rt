@@ -13,6 +13,7 @@ impl OpenDatabase {
     ghost use Rattle.mm_cells.specs.Reading.{AreFull};
     ghost use Rattle.mm_statements.specs.First.{IsUnshown as IsUnshownBy};
     ghost use Rattle.mmdb_c.specs.First.{HasFirst, IsUnshown, ShowsFirst};
+    ghost use Rattle.mmdb_c.specs.Interrupts.{IsSelect};
     ghost use Rattle.mmdb_c.specs.StatementCalls.{IsMissing, KeepsAll, KeepsOthers, shown_by};
 
     // Finds the first rows that a statement that is there shows, with room for them, and tells where they lie.
@@ -47,6 +48,7 @@ impl OpenDatabase {
         ensures unchanged { KeepsAll self.old self.new }
         ensures others { KeepsOthers number self.old self.new }
         ensures reads { ¬ (IsErrOf result unexecuted.Shared) }
+        ensures interrupted { IsErrOf result unexecuted.Interrupted → IsSelect number self.old }
         ensures untold { OnErr result (rows.new ≡ rows.old) }
     {
         let number = number as usize;
@@ -68,6 +70,7 @@ impl OpenDatabase {
             Err(ExecuteFault::TooLong) => Err(Unexecuted::TooLong),
             // It changes no tables.
             Err(ExecuteFault::Shared) => unreachable!(),
+            Err(ExecuteFault::Interrupted) => Err(Unexecuted::Interrupted),
         }
     }
 }

@@ -10,6 +10,7 @@
 //! - In a transaction all is done that is done outside, by lines, statements and pieces of the stream. `IN_TRANSACTION` refuses only
 //!   sharing and leaving there.
 //! - After each status but `DONE` the tables are as they were, unless a piece found no room for its answers.
+//! - A select can be asked to end by a handle of another kind, which a second thread may use while the first is in the call.
 #![tactic(auto)]
 
 ghost use Rattle.std.specs.Prelude.{◌≡◌, ◌≢◌, ◌↔◌, ◌<◌, ◌≤◌, ◌⊎◌, [], Some, None, IfOk, IfSome, IsSome, IsNone, IsSomeAnd, IsTrue, length, false};
@@ -28,6 +29,8 @@ pub mod first_calls;
 mod firsts;
 mod given;
 mod handle;
+pub mod interrupter_calls;
+mod interrupter_handle;
 mod many;
 pub mod many_calls;
 pub mod plan_calls;
@@ -87,6 +90,8 @@ const NO_TRANSACTION: u32 = 15;
 const IN_TRANSACTION: u32 = 16;
 
 const NOT_ROWS: u32 = 17;
+
+const INTERRUPTED: u32 = 18;
 
 /// The bytes of an answer.
 #[repr(C)]

@@ -76,6 +76,8 @@ impl OpenDatabase {
             }
             Err(ExecuteFault::TooLong) => Err(UnexecutedMany::TooMany),
             Err(ExecuteFault::Shared) => Err(UnexecutedMany::Shared),
+            // A change is never cut.
+            Err(ExecuteFault::Interrupted) => unreachable!(),
         }
     }
 }

@@ -9,14 +9,15 @@ ghost use Rattle.mm_prepared.specs.Cells.{IsSmall, cell_value};
 ghost use Rattle.mm_statements.specs.declared.database.Executed.TheVariants as gives;
 ghost use Rattle.mmdb_c.specs.Calls.{Becomes};
 ghost use Rattle.mmdb_c.specs.StatementCalls.{Prepares, IsUnprepared, KeepsAll, KeepsEach, KeepsOthers, KeepsShown, KeepsStatements, IsMissing, IsPast, Binds, Finalizes, Executes, IsUnexecuted, IsUntold, KeepsColumns, Tells, Queries, IsUnqueried, shown_by};
+ghost use Rattle.mmdb_c.specs.Interrupts.{IsLineSelect, IsSelect};
 ghost use Rattle.mmdb_c.specs.Sharing.{IsKeptOff, IsLineKeptOff};
 
 use crate::handle::Handle;
 use crate::rows::Rows;
 use crate::statements::{Statement, Unexecuted, Unprepared};
 use crate::{
-    DONE, NO_LINE, NO_MEMORY, NO_SUCH_PLACE, NO_SUCH_STATEMENT, NOT_OPEN, NOT_UTF8, REFUSED,
-    SHARED, TOO_LARGE,
+    DONE, INTERRUPTED, NO_LINE, NO_MEMORY, NO_SUCH_PLACE, NO_SUCH_STATEMENT, NOT_OPEN, NOT_UTF8,
+    REFUSED, SHARED, TOO_LARGE,
 };
 use mm_statements::{Declined, Executed, LentValue, QueryFault};
 use std::alloc::Global;
@@ -172,10 +173,11 @@ pub extern "C" fn mmdb_execute(
     ensures done { result ≡ DONE → Becomes handle.old.database handle.new.database (λ old new. Executes statement old new rows.new) }
     ensures refused { result ≡ REFUSED → Becomes handle.old.database handle.new.database (IsUnexecuted statement) }
     ensures shared { result ≡ SHARED → Becomes handle.old.database handle.new.database (IsKeptOff statement) }
+    ensures interrupted { result ≡ INTERRUPTED → IsSomeAnd handle.old.database (IsSelect statement) }
     ensures kept { result ≢ DONE → IsSome handle.old.database → Becomes handle.old.database handle.new.database KeepsAll }
     ensures rows { IsSome handle.old.database → Becomes handle.old.database handle.new.database (KeepsOthers statement) }
     ensures too_large { result ≡ TOO_LARGE → IsSomeAnd handle.new.database (λ d. AreFull (shown_by d statement)) }
-    ensures others { IsSome handle.old.database → (result ≡ DONE) ⊎ ((result ≡ NO_SUCH_STATEMENT) ⊎ ((result ≡ REFUSED) ⊎ ((result ≡ TOO_LARGE) ⊎ (result ≡ SHARED)))) }
+    ensures others { IsSome handle.old.database → (result ≡ DONE) ⊎ ((result ≡ NO_SUCH_STATEMENT) ⊎ ((result ≡ REFUSED) ⊎ ((result ≡ TOO_LARGE) ⊎ ((result ≡ SHARED) ⊎ (result ≡ INTERRUPTED))))) }
     ensures unchanged { (result ≡ NOT_OPEN) ⊎ (result ≡ NO_SUCH_STATEMENT) → handle.new.database ≡ handle.old.database }
     ensures untold { result ≢ DONE → rows.new ≡ rows.old }
 {
@@ -190,6 +192,7 @@ pub extern "C" fn mmdb_execute(
         Err(Unexecuted::Refused) => REFUSED,
         Err(Unexecuted::TooLong) => TOO_LARGE,
         Err(Unexecuted::Shared) => SHARED,
+        Err(Unexecuted::Interrupted) => INTERRUPTED,
     }
 }
 
@@ -224,7 +227,7 @@ pub extern "C" fn mmdb_columns(
         Err(Unexecuted::NoSuchStatement) => NO_SUCH_STATEMENT,
         Err(Unexecuted::Refused) => REFUSED,
         Err(Unexecuted::TooLong) => TOO_LARGE,
-        Err(Unexecuted::Shared) => unreachable!(),
+        Err(Unexecuted::Shared | Unexecuted::Interrupted) => unreachable!(),
     }
 }
 
@@ -260,13 +263,14 @@ pub extern "C" fn mmdb_query(
 ) -> u32
     ensures not_open { (result ≡ NOT_OPEN) ↔ IsNone handle.old.database }
     ensures no_line { (result ≡ NO_LINE) ↔ (IsSome handle.old.database × (line.now ≡ [])) }
-    ensures judged { IsSome handle.old.database × (line.now ≢ []) → (result ≡ DONE) ⊎ ((result ≡ REFUSED) ⊎ ((result ≡ TOO_LARGE) ⊎ (result ≡ SHARED))) }
+    ensures judged { IsSome handle.old.database × (line.now ≢ []) → (result ≡ DONE) ⊎ ((result ≡ REFUSED) ⊎ ((result ≡ TOO_LARGE) ⊎ ((result ≡ SHARED) ⊎ (result ≡ INTERRUPTED)))) }
     ensures done { result ≡ DONE → Becomes handle.old.database handle.new.database (λ old new. Queries line.now old new rows.new) }
     ensures refused { result ≡ REFUSED → Becomes handle.old.database handle.new.database (IsUnqueried line.now) }
     ensures too_large { result ≡ TOO_LARGE → IsSomeAnd handle.new.database (λ d. AreFull (values_of d.queried)) }
     ensures shared { result ≡ SHARED → Becomes handle.old.database handle.new.database (IsLineKeptOff line.now) }
-    ensures kept { (result ≡ REFUSED) ⊎ ((result ≡ TOO_LARGE) ⊎ (result ≡ SHARED)) → Becomes handle.old.database handle.new.database KeepsAll }
-    ensures rows { (result ≡ DONE) ⊎ ((result ≡ REFUSED) ⊎ ((result ≡ TOO_LARGE) ⊎ (result ≡ SHARED))) → Becomes handle.old.database handle.new.database KeepsStatements }
+    ensures interrupted { result ≡ INTERRUPTED → IsSomeAnd handle.old.database (IsLineSelect line.now) }
+    ensures kept { (result ≡ REFUSED) ⊎ ((result ≡ TOO_LARGE) ⊎ ((result ≡ SHARED) ⊎ (result ≡ INTERRUPTED))) → Becomes handle.old.database handle.new.database KeepsAll }
+    ensures rows { (result ≡ DONE) ⊎ ((result ≡ REFUSED) ⊎ ((result ≡ TOO_LARGE) ⊎ ((result ≡ SHARED) ⊎ (result ≡ INTERRUPTED)))) → Becomes handle.old.database handle.new.database KeepsStatements }
     ensures unchanged { (result ≡ NOT_OPEN) ⊎ (result ≡ NO_LINE) → handle.new.database ≡ handle.old.database }
     ensures untold { result ≢ DONE → rows.new ≡ rows.old }
 {
@@ -284,5 +288,6 @@ pub extern "C" fn mmdb_query(
         Err(QueryFault::Refused(_)) => REFUSED,
         Err(QueryFault::TooLong) => TOO_LARGE,
         Err(QueryFault::Shared) => SHARED,
+        Err(QueryFault::Interrupted) => INTERRUPTED,
     }
 }

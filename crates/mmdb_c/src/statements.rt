@@ -42,6 +42,8 @@ pub enum Unexecuted {
     TooLong,
     /// It changes the tables, which another handle shares.
     Shared,
+    /// It is a select, which was asked to end.
+    Interrupted,
 }
 
 /// Makes sure of cells for the values that the statement of a number shows.
@@ -61,6 +63,7 @@ impl OpenDatabase {
     ghost use Rattle.mm_cells.specs.Reading.{AreFull};
     ghost use Rattle.mm_cells.specs.Values.{values_of};
     ghost use Rattle.mm_statements.specs.Executing.{IsDeclined};
+    ghost use Rattle.mmdb_c.specs.Interrupts.{IsLineSelect, IsSelect};
     ghost use Rattle.mmdb_c.specs.Sharing.{IsKeptOff, IsLineKeptOff, IsShared};
 
     /// Keeps the statement that a line spells; the answer is empty then. Where it is refused, that is the answer, and at another fault
@@ -144,6 +147,7 @@ impl OpenDatabase {
         ensures refused { IsErrOf result unexecuted.Refused → IsUnexecuted number self.old self.new }
         ensures too_long { result ≡ Err unexecuted.TooLong → AreFull (shown_by self.new number) }
         ensures shared { IsErrOf result unexecuted.Shared → IsKeptOff number self.old self.new }
+        ensures interrupted { IsErrOf result unexecuted.Interrupted → IsSelect number self.old }
         ensures unchanged { OnErr result (KeepsAll self.old self.new) }
         ensures others { KeepsOthers number self.old self.new }
         ensures untold { OnErr result (rows.new ≡ rows.old) }
@@ -166,6 +170,7 @@ impl OpenDatabase {
             }
             Err(ExecuteFault::TooLong) => Err(Unexecuted::TooLong),
             Err(ExecuteFault::Shared) => Err(Unexecuted::Shared),
+            Err(ExecuteFault::Interrupted) => Err(Unexecuted::Interrupted),
         }
     }
 
@@ -180,6 +185,7 @@ impl OpenDatabase {
         ensures unchanged { KeepsAll self.old self.new }
         ensures shown { KeepsShown self.old self.new }
         ensures reads { ¬ (IsErrOf result unexecuted.Shared) }
+        ensures whole { ¬ (IsErrOf result unexecuted.Interrupted) }
     {
         let number = number as usize;
         if !self.inner.has(number) {
@@ -194,8 +200,8 @@ impl OpenDatabase {
                 Err(Unexecuted::Refused)
             }
             Err(ExecuteFault::TooLong) => Err(Unexecuted::TooLong),
-            // It changes no tables.
-            Err(ExecuteFault::Shared) => unreachable!(),
+            // It changes no tables, and looks at no row.
+            Err(ExecuteFault::Shared | ExecuteFault::Interrupted) => unreachable!(),
         }
     }
 
@@ -203,9 +209,10 @@ impl OpenDatabase {
     /// kept; where it is refused, that is the answer, and else the answer is empty.
     pub fn query(&mut self, alloc: Global, line: &[u8], rows: &mut Rows) -> Result<(), QueryFault>
         ensures done { OnOk result (Queries line.now self.old self.new rows.new) }
-        ensures refused { IfErr result (λ e. e ≢ querying.TooLong → e ≢ querying.Shared → IsUnqueried line.now self.old self.new) }
+        ensures refused { IfErr result (λ e. e ≢ querying.TooLong → e ≢ querying.Shared → e ≢ querying.Interrupted → IsUnqueried line.now self.old self.new) }
         ensures too_long { result ≡ Err querying.TooLong → AreFull (values_of self.new.queried) }
         ensures shared { IsErrOf result querying.Shared → IsLineKeptOff line.now self.old self.new }
+        ensures interrupted { IsErrOf result querying.Interrupted → IsLineSelect line.now self.old }
         ensures unchanged { OnErr result (KeepsAll self.old self.new) }
         ensures statements { KeepsStatements self.old self.new }
         ensures untold { OnErr result (rows.new ≡ rows.old) }
@@ -222,6 +229,7 @@ impl OpenDatabase {
             }
             Err(QueryFault::TooLong) => Err(QueryFault::TooLong),
             Err(QueryFault::Shared) => Err(QueryFault::Shared),
+            Err(QueryFault::Interrupted) => Err(QueryFault::Interrupted),
         }
     }
 }
