@@ -412,7 +412,7 @@ static inline const char *mmdb_status_text(uint32_t status)
     switch (status) {
     case MMDB_DONE: return "done";
     case MMDB_NOT_OPEN: return "the database is not open";
-    case MMDB_IS_OPEN: return "the database is open already";
+    case MMDB_IS_OPEN: return "the handle is open already";
     case MMDB_NO_SUCH_POLICY: return "no such policy";
     case MMDB_LIMIT_OUT_OF_RANGE: return "a limit is out of range";
     case MMDB_NO_LINE: return "no line, or null with a length";

@@ -22,15 +22,29 @@ LINES = {
     *("mmdb_indexes", "mmdb_version", "mmdb_plan"),
 }
 REASONS = {"mmdb_reason", "mmdb_prepare_reason", "mmdb_statement_reason"}
+INTERRUPTS = {"mmdb_interrupter_open", "mmdb_interrupt", "mmdb_interrupter_close"}
 SHARING = {"mmdb_share", "mmdb_leave", "mmdb_clone"}
 TRANSACTIONS = {"mmdb_begin", "mmdb_commit", "mmdb_rollback", "mmdb_transactions"}
-EXPORTS = {"mmdb_open", "mmdb_close", *STATEMENTS, *LINES, *REASONS, *SHARING, *TRANSACTIONS}
+EXPORTS = {"mmdb_open", "mmdb_close", *STATEMENTS, *LINES, *INTERRUPTS, *REASONS, *SHARING, *TRANSACTIONS}
 C_STANDARDS, CPP_STANDARDS = ("c99", "c11", "c17", "c2x"), ("c++11", "c++14", "c++17", "c++20")
 STRICT = ["-Wall", "-Wextra", "-Wpedantic", "-Wconversion", "-Wsign-conversion", "-Wshadow", "-Wcast-qual", "-Wcast-align", "-Wundef"]
 STRICT_C = [*STRICT, "-Wstrict-prototypes", "-Wmissing-prototypes", "-Wbad-function-cast", "-Wdeclaration-after-statement"]
 STRICT_CPP = [*STRICT, "-Wold-style-cast", "-Wzero-as-null-pointer-constant", "-Wuseless-cast"]
 # (a cell is found by adding to a pointer, which later versions of clang call unsafe in C++)
 EVERYTHING = ["-Weverything", "-Wno-padded", "-Wno-unknown-warning-option", "-Wno-unsafe-buffer-usage"]
+# A program that makes no handle but a closed one, and no interrupter but a closed one.
+ALONE = """#include "mmdb.h"
+
+int main(void)
+{
+    mmdb db = MMDB_CLOSED;
+    mmdb_interrupter interrupter = MMDB_NO_INTERRUPTER;
+    mmdb_interrupt(&interrupter);
+    mmdb_interrupter_close(&interrupter);
+    mmdb_close(&db);
+    return 0;
+}
+"""
 ROOM = compiling.Room()
 
 
@@ -56,7 +70,7 @@ class Header(unittest.TestCase):
     def check_strict(self, compiler, language, standards, options):
         """A program that includes it compiles without a word under these options, as each standard."""
         source = ROOM.path / "strict.c"
-        source.write_text('#include "mmdb.h"\n\nint main(void)\n{\n    mmdb db = MMDB_CLOSED;\n    mmdb_close(&db);\n    return 0;\n}\n')
+        source.write_text(ALONE)
         for standard in standards:
             with self.subTest(compiler=compiler, standard=standard):
                 words = [compiler, "-x", language, f"-std={standard}", *options, "-Werror", f"-I{compiling.INCLUDE}", "-fsyntax-only", source]

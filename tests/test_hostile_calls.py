@@ -14,8 +14,11 @@ SEED = sizes.said("MMDB_SEED", 20261128)
 CALLS = sizes.said("MMDB_CALLS", sizes.size(60_000, 5_000_000))
 # Under memcheck all is slower by far.
 WATCHED = CALLS // 50
-# How no call ends, as no memory is refused here, and no select has so many texts.
-NEVER = {"more than 4 GiB of texts, 4294967296 statements, or 2^64 rows to count", "no memory", "the stream is over"}
+# How no call ends, as no memory is refused here, no select has so many texts, and none is asked to end while it is under way.
+NEVER = {
+    *("more than 4 GiB of texts, 4294967296 statements, or 2^64 rows to count", "no memory"),
+    *("the stream is over", "the select was interrupted"),
+}
 COUNTED = re.compile(rb"(.*): (\d+)\n")
 ROOM = compiling.Room()
 

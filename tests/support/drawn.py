@@ -3,12 +3,14 @@ programs in programs/ read them as calls.
 """
 
 import random
+import re
 
 from . import compiling, harness, model, random_streams, sizes, streams
 from .calls import asked, call
 
 STREAMS = sizes.size(300, 10_000)
 BEGINNINGS = ("insert", "update", "delete", "select")
+NOTHING = re.compile(rb"")
 
 
 def statement_of(draw, line):
@@ -85,14 +87,18 @@ class Drawn:
         self.answers.append(answer)
 
 
-def check(test, program, seed):
-    """A program gives the answers of the model, and each kind of statement with places is among those that are done."""
+def check(test, program, seed, told=NOTHING):
+    """A program gives the answers of the model, and each kind of statement with places is among those that are done. Gives what it told
+    on standard error, which has to match."""
     drawn = Drawn(seed)
     ended = compiling.ran(program, b"".join(drawn.calls))
-    test.assertEqual((ended.status, ended.err), (0, b""))
+    found = told.fullmatch(ended.err)
+    test.assertIsNotNone(found, ended.err.decode(errors="replace"))
+    test.assertEqual(ended.status, 0)
     at = 0
     for number, answer in enumerate(drawn.answers):
         test.assertEqual(ended.out[at : at + len(answer)], answer, f"answer {number}")
         at += len(answer)
     test.assertEqual(ended.out[at:], b"")
     test.assertGreater(min(drawn.done.values()), STREAMS // 20)
+    return found

@@ -5,13 +5,24 @@
 
    A statement may also be told by calls of its own: `kept LENGTH` or `prepared LENGTH` with its line, for each place
    `integer LENGTH`, `text LENGTH` or `null 0` with the value, and `execute 0`. One that is prepared is finalised behind
-   that. `open 1` with the digit of a policy begins anew, with no tables; lines stay lines from there on. */
+   that. `open 1` with the digit of a policy begins anew, with no tables; lines stay lines from there on.
+
+   Where INTERRUPTED is 1, all is asked to end at random times. A select that was ended is executed again until it isn't, and it is
+   counted, asked for all of its first rows and queried beside. How many were ended is told on standard error. */
+#define _GNU_SOURCE
 #include "calls.h"
 
 #include <errno.h>
 #include <inttypes.h>
 
-enum { LONGEST_LINE = 8192, MOST_KEPT = 500 };
+#ifndef INTERRUPTED
+#define INTERRUPTED 0
+#endif
+#if INTERRUPTED
+#include "storming.h"
+#endif
+
+enum { LONGEST_LINE = 8192, MOST_KEPT = 500, DIGITS_OF_PAUSES = 18, SIGNALS_APART = 40, MOST_TRIES = 5 };
 
 /* A line with places, and the values that stood in them. */
 typedef struct written {
@@ -295,6 +306,91 @@ static void write_refusal(mmdb *db)
     fwrite(answer.at, 1, answer.length, stdout);
 }
 
+#if INTERRUPTED
+
+static storm asks;
+static long ended = 0;
+static int tries = 0;
+
+static void begin_asking(mmdb *db)
+{
+    begin_storm(&asks, db, DIGITS_OF_PAUSES);
+    begin_signals(db, SIGNALS_APART);
+}
+
+static void end_asking(void)
+{
+    end_signals();
+    end_storm(&asks);
+}
+
+/* Whether a call has to be made again, as it was ended. After so many tries no signal comes till it is done: it may take longer than
+   they stand apart. */
+static int is_ended(mmdb_status status)
+{
+    if (status != MMDB_INTERRUPTED) {
+        if (tries >= MOST_TRIES)
+            set_timer(SIGNALS_APART);
+        tries = 0;
+        return 0;
+    }
+    ended++;
+    tries++;
+    if (tries == MOST_TRIES)
+        set_timer(0);
+    return 1;
+}
+
+/* What a select shows that was executed is shown in each other way too. */
+static void shows_beside(mmdb *db, uint32_t number, const written *line, size_t rows)
+{
+    mmdb_rows shown;
+    uint64_t count;
+    mmdb_status status;
+    while (is_ended(status = mmdb_count(db, number, &count)))
+        continue;
+    GIVES(status, MMDB_DONE);
+    CHECK(count == rows);
+    while (line->places == 0 && is_ended(status = mmdb_query(db, line->line, line->length, &shown)))
+        continue;
+    GIVES(status, MMDB_DONE);
+    CHECK(line->places > 0 || shown.rows == rows);
+    while (is_ended(status = mmdb_first(db, number, SIZE_MAX, &shown)))
+        continue;
+    GIVES(status, MMDB_DONE);
+    CHECK(shown.rows == rows);
+}
+
+static mmdb_status executed(mmdb *db, uint32_t number, const written *line, mmdb_rows *rows)
+{
+    mmdb_status status;
+    while (is_ended(status = mmdb_execute(db, number, rows)))
+        continue;
+    if (status != MMDB_DONE || rows->columns == 0)
+        return status;
+    shows_beside(db, number, line, rows->rows);
+    while (is_ended(status = mmdb_execute(db, number, rows)))
+        continue;
+    return status;
+}
+
+#else
+
+static void begin_asking(mmdb *db)
+{
+    (void)db;
+}
+
+static void end_asking(void) {}
+
+static mmdb_status executed(mmdb *db, uint32_t number, const written *line, mmdb_rows *rows)
+{
+    (void)line;
+    return mmdb_execute(db, number, rows);
+}
+
+#endif
+
 /* Executes a statement with the values of a line, and writes the answer that the line would have. */
 static void execute(mmdb *db, uint32_t number, const written *line)
 {
@@ -308,7 +404,7 @@ static void execute(mmdb *db, uint32_t number, const written *line)
     }
     if (status == MMDB_DONE) {
         write_header(&columns);
-        status = mmdb_execute(db, number, &rows);
+        status = executed(db, number, line, &rows);
     }
     if (status == MMDB_DONE && header_length > 0)
         write_rows(&rows);
@@ -340,8 +436,10 @@ static void begin_anew(mmdb *db, call of)
     const uint32_t policy = of.length == 1 ? (uint32_t)(of.bytes[0] - '0') : UINT32_MAX;
     lines_stay = 1;
     keep_none();
+    end_asking();
     mmdb_close(db);
     GIVES(mmdb_open(db, policy, MMDB_MOST, MMDB_MOST), MMDB_DONE);
+    begin_asking(db);
 }
 
 /* Makes a call, or notes what it tells of a statement. */
@@ -367,11 +465,16 @@ int main(int count, char **words)
     mmdb db = MMDB_CLOSED;
     call next;
     GIVES(open_by_words(&db, count, words), MMDB_DONE);
+    begin_asking(&db);
     while (read_call(&next)) {
         answers(&db, &line, next);
         free(next.bytes);
     }
+    end_asking();
     mmdb_close(&db);
     keep_none();
+#if INTERRUPTED
+    fprintf(stderr, "%ld selects were ended\n", ended);
+#endif
     return checks_failed != 0;
 }

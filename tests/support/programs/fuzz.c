@@ -10,7 +10,7 @@
 #include <inttypes.h>
 #include <stdlib.h>
 
-enum { HANDLES = 3, MOST_STATEMENTS = 24, MOST_BYTES = 20000, MOST_TRANSACTIONS = 5 };
+enum { HANDLES = 3, MOST_STATEMENTS = 24, MOST_BYTES = 20000, MOST_TRANSACTIONS = 5, INTERRUPTERS = 4 };
 
 /* A statement that is there, or the line last queried: whether the last call was done, its rows then, and what they add up to. */
 typedef struct statement {
@@ -37,10 +37,17 @@ typedef struct bytes {
     size_t length;
 } bytes;
 
+/* What asks the selects of any handle to end, which may have been closed since. No select is under way then, so that none ends. */
+typedef struct interrupter {
+    mmdb_interrupter with;
+    int is_open;
+} interrupter;
+
 static handle handles[HANDLES];
+static interrupter interrupters[INTERRUPTERS];
 static uint64_t state;
 static uint64_t tables_made;
-static uint64_t statuses[MMDB_NOT_ROWS + 1];
+static uint64_t statuses[MMDB_INTERRUPTED + 1];
 
 static uint64_t drawn(uint64_t below)
 {
@@ -200,11 +207,11 @@ static uint32_t only(mmdb_status status)
 
 static int is_within(mmdb_status status, uint32_t allowed, const char *call)
 {
-    const int is = status <= MMDB_NOT_ROWS && (allowed >> status & 1) != 0;
+    const int is = status <= MMDB_INTERRUPTED && (allowed >> status & 1) != 0;
     if (!is)
         fprintf(stderr, "%s gives %u\n", call, (unsigned)status);
     checks_failed += !is;
-    statuses[status <= MMDB_NOT_ROWS ? status : 0]++;
+    statuses[status <= MMDB_INTERRUPTED ? status : 0]++;
     return is;
 }
 
@@ -622,6 +629,39 @@ static void leaves(handle *of)
         of->tables = ++tables_made;
 }
 
+static void opens_interrupter(handle *of, interrupter *to)
+{
+    const int is_of_null = is_drawn(5), is_null = is_drawn(5);
+    const int was_open = to->is_open;
+    void *const inside = to->with.inside;
+    const mmdb_status status = mmdb_interrupter_open(is_of_null ? NULL : &of->db, is_null ? NULL : &to->with);
+    mmdb_status expected = MMDB_NOT_OPEN;
+    if (of->is_open && !is_of_null && !is_null)
+        expected = was_open ? MMDB_IS_OPEN : MMDB_DONE;
+    is_within(status, only(expected), "interrupter_open");
+    to->is_open |= status == MMDB_DONE;
+    CHECK((to->with.inside != NULL) == to->is_open && (!was_open || to->with.inside == inside));
+}
+
+static void closes_interrupter(interrupter *of)
+{
+    mmdb_interrupter_close(&of->with);
+    of->is_open = 0;
+    CHECK(of->with.inside == NULL);
+}
+
+static void interrupts(handle *of)
+{
+    interrupter *to = &interrupters[drawn(INTERRUPTERS)];
+    const uint64_t luck = drawn(100);
+    if (luck < 30)
+        opens_interrupter(of, to);
+    else if (luck < 40)
+        closes_interrupter(to);
+    else
+        mmdb_interrupt(is_drawn(95) ? &to->with : NULL);
+}
+
 /* The rows of each statement are as they were when it was executed. */
 static void looks_at_rows(handle *of)
 {
@@ -654,7 +694,10 @@ static void calls_on_null(void)
     CHECK(mmdb_answer(NULL, &answer) == MMDB_NOT_OPEN && mmdb_refusal(NULL) == 0);
     CHECK(mmdb_begin(NULL) == MMDB_NOT_OPEN && mmdb_transactions(NULL) == 0);
     CHECK(mmdb_commit(NULL) == MMDB_NOT_OPEN && mmdb_rollback(NULL) == MMDB_NOT_OPEN);
-    CHECK(mmdb_share(NULL, NULL) == MMDB_NOT_OPEN && mmdb_leave(NULL) == MMDB_NOT_OPEN);
+    CHECK(mmdb_share(NULL, NULL) == MMDB_NOT_OPEN && mmdb_leave(NULL) == MMDB_NOT_OPEN && mmdb_clone(NULL, NULL) == MMDB_NOT_OPEN);
+    CHECK(mmdb_interrupter_open(NULL, NULL) == MMDB_NOT_OPEN);
+    mmdb_interrupt(NULL);
+    mmdb_interrupter_close(NULL);
     mmdb_close(NULL);
 }
 
@@ -664,7 +707,7 @@ static const maker MAKERS[] = {
     commands, commands, commands, commands, loads,    loads,     feeds,    feeds,        prepares,     prepares,      prepares,
     binds,    binds,    binds,    binds,    executes, executes,  executes, asks_columns, asks_columns, looks_at_rows, tells,
     queries,  queries,  asks_why, asks_plan, counts,  begins,    leaves,   commits_or_rolls_back, commits_or_rolls_back,
-    executes_many, executes_many, tells_the_version, asks_first, asks_first,
+    executes_many, executes_many, tells_the_version, asks_first, asks_first, interrupts, interrupts,
 };
 
 /* One call. Handles are seldom opened, closed and shared, so that much becomes of what they have. */
@@ -694,7 +737,9 @@ int main(int count, char **words)
         call();
     for (size_t i = 0; i < HANDLES; i++)
         closes(&handles[i]);
-    for (size_t i = 0; i <= MMDB_NOT_ROWS; i++)
+    for (size_t i = 0; i < INTERRUPTERS; i++)
+        closes_interrupter(&interrupters[i]);
+    for (size_t i = 0; i <= MMDB_INTERRUPTED; i++)
         printf("%s: %" PRIu64 "\n", mmdb_status_text((uint32_t)i), statuses[i]);
     return checks_failed != 0;
 }
