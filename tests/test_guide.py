@@ -42,7 +42,7 @@ class Snippets(unittest.TestCase):
     def test_each_has_what_it_prints(self):
         fences = re.findall(r"^```", GUIDE, re.MULTILINE)
         self.assertEqual(len(fences), 4 * len(snippets("sh", "python", "c", "rust")))
-        for language, count in (("sh", 11), ("python", 7), ("c", 1), ("rust", 1)):
+        for language, count in (("sh", 11), ("python", 8), ("c", 1), ("rust", 1)):
             self.assertEqual(len(snippets(language)), count, language)
 
     def test_shell_and_python(self):
@@ -170,7 +170,7 @@ class Limits(unittest.TestCase):
     """Each row of the table of limits: so many are taken, and one more is refused by that number."""
 
     def setUp(self):
-        rows = re.findall(r"^\| (.*?) \| ([\d,]+) \| (\d\d) \|$", GUIDE.split("## 11.")[-1], re.MULTILINE)
+        rows = re.findall(r"^\| (.*?) \| ([\d,]+) \| (\d\d) \|$", GUIDE.split("## 12.")[-1], re.MULTILINE)
         self.limits = {what: (int(most.replace(",", "")), int(number)) for what, most, number in rows}
 
     def check_limit(self, what, answers):
