@@ -25,6 +25,7 @@ enum { LONGEST_WAIT = 60, ROWS = 30, LEAST_STOPS = 200 };
 
 /* A database, a reader of its tables, and a database apart. */
 static mmdb db, reader, apart;
+static mmdb_interrupter of_db, of_apart;
 static mmdb_statement insert, find, find_on_reader;
 static mmdb_rows rows;
 
@@ -146,6 +147,7 @@ static mmdb_status calls_rollback(void) { return mmdb_rollback(&db); }
 static mmdb_status calls_reader(void) { return mmdb_execute(&reader, find_on_reader.number, &rows); }
 static mmdb_status calls_share(void) { return mmdb_share(&db, &reader); }
 static mmdb_status calls_leave(void) { return mmdb_leave(&reader); }
+static mmdb_status calls_interrupter(void) { return mmdb_interrupter_open(&db, &of_db); }
 
 static mmdb_status calls_close(void)
 {
@@ -166,7 +168,7 @@ static const tried CALLS[] = {
     { calls_feed, &db, 0, 0 },    { calls_execute, &db, 0, 0 },  { calls_select, &db, 0, 0 },    { calls_query, &db, 0, 0 },
     { calls_prepare, &db, 0, 0 }, { calls_finalize, &db, 0, 0 }, { calls_rollback, &db, 0, 0 },  { calls_close, &db, 0, 0 },
     { calls_select, &db, 1, 1 },  { calls_query, &db, 1, 1 },    { calls_close, &db, 1, 0 },     { calls_reader, &reader, 1, 1 },
-    { calls_leave, &reader, 1, 0 }, { calls_share, &reader, 0, 0 },
+    { calls_leave, &reader, 1, 0 }, { calls_share, &reader, 0, 0 }, { calls_interrupter, &db, 0, 0 },
 };
 
 /* Which call is made, before which call for memory it stops, what it gave, and whether it has ended. */
@@ -204,6 +206,7 @@ static void is_closed(mmdb *was)
     GIVES(mmdb_begin(was), MMDB_NOT_OPEN);
     GIVES(mmdb_rollback(was), MMDB_NOT_OPEN);
     GIVES(mmdb_leave(was), MMDB_NOT_OPEN);
+    GIVES(mmdb_interrupter_open(was, &of_apart), MMDB_NOT_OPEN);
     CHECK(mmdb_transactions(was) == 0);
     mmdb_close(was);
     open_filled(was);
@@ -211,15 +214,18 @@ static void is_closed(mmdb *was)
     mmdb_close(was);
 }
 
-/* A database that no other thread was in a call on is changed, rolled back and closed. */
+/* A database that no other thread was in a call on is changed, rolled back and closed. Its interrupter outlives it. */
 static void goes_on_apart(void)
 {
     GIVES(mmdb_begin(&apart), MMDB_DONE);
     GIVES(command(&apart, "delete t where id > 2", NULL), MMDB_DONE);
     GIVES(mmdb_rollback(&apart), MMDB_DONE);
     GIVES(command(&apart, "insert t (-1, 'a text that is longer than a cell')", NULL), MMDB_DONE);
+    mmdb_interrupt(&of_apart);
     CHECK(has_rows(&apart, ROWS + 1));
     mmdb_close(&apart);
+    mmdb_interrupt(&of_apart);
+    mmdb_interrupter_close(&of_apart);
 }
 
 /* A handle that shared its tables with that in a call reads them, and none changes them any more. */
@@ -283,6 +289,7 @@ static int forks_within(const tried *of, long stop)
     }
     CHECK(pthread_join(thread, NULL) == 0);
     GIVES(now.given, MMDB_DONE);
+    mmdb_interrupter_close(&of_db);
     mmdb_close(&reader);
     mmdb_close(&db);
     return !now.has_ended;
@@ -327,10 +334,12 @@ int main(int count, char **words)
 {
     CHECK(sem_init(&stopped, 0, 0) == 0 && sem_init(&goes_on, 0, 0) == 0 && sem_init(&is_over, 0, 0) == 0);
     open_filled(&apart);
+    GIVES(mmdb_interrupter_open(&apart, &of_apart), MMDB_DONE);
     if (count == 2 && strcmp(words[1], "running") == 0)
         fork_while_it_runs();
     else
         stop_in_each_call();
     mmdb_close(&apart);
+    mmdb_interrupter_close(&of_apart);
     return checks_failed != 0;
 }
