@@ -9,7 +9,8 @@
 | model, referee | the judges of answers: plain lists of rows, and SQLite |
 | random_streams, texts, joined, shapes, growth, hand | streams: random ones, patterns of use, and a new user's mistakes |
 | drawn, prepared, calls | lines as statements, and as calls for the programs below programs/ |
-| compiling, embedded, tape, reached | the library from C, in this process, its calls written down, its instructions counted |
+| compiling, embedded, storms | the library from C, in this process, and with its selects asked to end |
+| tape, reached | its calls written down, its instructions counted |
 | binding, building_package, embedding, shell_modules, shells | the bindings and the shell |
 
 programs/ has the programs in C, Python and Rust that embed the library; count_held.c and refuse_nth.c are preloaded.
