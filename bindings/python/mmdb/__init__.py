@@ -34,6 +34,7 @@ from .dbapi import (
     threadsafety,
 )
 from .errors import (
+    Changed,
     CsvWarning,
     DatabaseError,
     DataError,
@@ -69,6 +70,7 @@ __all__ = [
     "STRING",
     "Adapter",
     "Binary",
+    "Changed",
     "Connection",
     "Converter",
     "CsvWarning",

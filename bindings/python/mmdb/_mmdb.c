@@ -372,6 +372,23 @@ static PyObject *handle_first(PyObject *self, PyObject *words)
     return done_anyhow(self, &given, "_stored_values", statement_first);
 }
 
+/* The first rows of a select with their values as they are stored, whatever columns are read as. */
+static PyObject *page_of(Handle *handle, Statement *statement, PyObject *asked)
+{
+    PyObject *found = statement_first(handle, statement, asked);
+    Py_CLEAR(handle->converting);
+    return found;
+}
+
+static PyObject *handle_page(PyObject *self, PyObject *words)
+{
+    Given given;
+    if (!PyArg_ParseTuple(words, "OO!O!", &given.line, &PyTuple_Type, &given.placed, &PyTuple_Type, &given.values))
+        return NULL;
+    PyObject *found = done_with(self, &given, given.values, page_of);
+    return found != NULL || PyErr_Occurred() ? found : nothing_raised();
+}
+
 /* The bytes of an answer, or none of an empty line; or null, and what a status says is raised. */
 static PyObject *told(Handle *handle, uint32_t status, mmdb_bytes answer)
 {
@@ -652,6 +669,7 @@ static PyMethodDef handle_methods[] = {
       "How many rows a select shows, which is kept by its line, with these values." },
     { "_first", handle_first, METH_VARARGS,
       "The first rows of a select, which is kept by its line: how many at most comes before its values." },
+    { "_page", handle_page, METH_VARARGS, "The same of stored values. Those of the rows are as they are stored too." },
     { "_command", handle_command, METH_VARARGS, "What is answered to a line." },
     { "_load", handle_load, METH_VARARGS, "What is answered to a line with its block." },
     { "_indexes", handle_indexes, METH_VARARGS, "What is answered to who asks how the indexes of a table stand." },

@@ -36,8 +36,9 @@ from .handles import Handle
 from .indexes import Index, indexes_of
 from .lines import CHANGES, Placed, check_kind, check_line, filled_table, one_line, placed
 from .loads import CHUNK, MANY, Arrange, blocks_of_rows, by_name, by_order, chunked, header_of, in_whole, kept_names, plain_blocks
+from .pages import PAGE, page_size, rows_by_page
 from .quotes import Form, form_of
-from .rows import Rows, Shape, most_rows, shape_of
+from .rows import Row, Rows, Shape, most_rows, shape_of
 from .statement import Statement
 from .values import Column, Value, as_bytes, columns_of, encoded, stored_rows, stored_values
 
@@ -96,6 +97,8 @@ class Database(Handle):
         self._declared: Optional[Dict[str, List[Column]]] = None
         self._converters: Dict[str, Converter] = {}
         self._block = block
+        #: Whose its tables are: a reader has that of the database that shares them.
+        self._source = object()
         #: The functions that are told of changes, if there ever was one.
         self._watches: Optional[watching.Watches] = None
         super().__init__(POLICIES.index(policy), rows, block)
@@ -188,6 +191,20 @@ class Database(Handle):
         count, at = most_rows(most), placed(line)
         rows: Rows = self._first(str.__str__(line), at, (count, *at.fitting(parameters, named)))
         return rows
+
+    def iterate(self, line: str, /, *parameters: Any, page: int = PAGE, **named: Any) -> Iterator[Row]:
+        """The rows of a select one after the other, as `select` returns them, of which so many are held at a time.
+
+        The first page is read at once, and each further one when it is asked for, by the last key. A select of several tables, a
+        `distinct` one, and one that has as many items or conditions as may be are read whole. (A place `:page` takes its value
+        from a mapping.)
+
+        Raises what `select` raises, and ValueError if `page` is less than 1. The iterator raises `Changed` if the table was changed
+        since the first page was read, in the place of the first row of a further one.
+        """
+        check_kind("iterate", line, "select")
+        at, size = placed(line), page_size(page)
+        return rows_by_page(self, str.__str__(line), at, stored_values(at.fitting(parameters, named)), size)
 
     def executemany(self, line: str, rows: Iterable[Parameters]) -> int:
         """Executes an insert, an update or a delete with each row of parameters, and returns the number of all rows.
@@ -563,6 +580,7 @@ class Database(Handle):
             if reader.closed:
                 raise WrongUse("mmdb: the reader is closed")
             self._share(reader)
+            reader._source = self._source
             reader._forget_columns()
 
     def answer(self, line: Union[str, bytes], block: Optional[bytes] = None) -> bytes:

@@ -114,6 +114,10 @@ class Shared(OperationalError):
     """Other handles share the tables, so that nobody changes them. Nothing has changed."""
 
 
+class Changed(OperationalError):
+    """A table was changed between two pages of its rows, which `iterate` read. It gives no row of the second."""
+
+
 class NoTransaction(ProgrammingError):
     """No transaction is open that could be committed or rolled back. Nothing has changed."""
 

@@ -268,6 +268,11 @@ class Handle:
         """The first rows of a select, which is kept by its line: how many at most comes before its values."""
         return self._done(line, placed, asked[1:], asked[0])
 
+    def _page(self, line: str, placed: Placed, asked: Tuple[Any, ...]) -> Any:
+        """The same of stored values. Those of the rows are as they are stored too."""
+        with self._turn:
+            return self._statement(line, placed).done(self, asked[1:], asked[0])
+
     def _done_many(self, line: str, placed: Placed, rows: List[Tuple[Any, ...]]) -> int:
         """Does a statement, which is kept by its line, with each of these rows of values."""
         rows = stored_rows(rows)

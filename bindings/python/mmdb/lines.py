@@ -27,8 +27,8 @@ _COMMANDS = frozenset(("table", "drop", "index", "insert", "update", "delete", "
 # An insert whose values all have places.
 _FILLED_INSERT = re.compile(rb"[ \t]*insert[ \t]+([a-z_]\w*)[ \t]*\([ \t]*\?(?:[ \t]*,[ \t]*\?)*[ \t]*\)[ \t]*", re.ASCII)
 
-# How many bytes a line has at most, with the return that it may end in. Longer ones are refused, and not kept.
-_LONGEST = 8192 + 1
+#: How many bytes a line has at most, without the return that it may end in. Longer ones are refused, and not kept.
+LONGEST = 8192
 
 #: The commands that change rows, and all that can be prepared.
 CHANGES = ("insert", "update", "delete")
@@ -141,7 +141,7 @@ def placed(line: str) -> Placed:
         names,
         len(set(names)) if names else len(marks),
         word == "select",
-        word in STATEMENTS and len(marked) <= _LONGEST,
+        word in STATEMENTS and len(marked) <= LONGEST + 1,
         given,
     )
 

@@ -2,12 +2,13 @@
 
 from __future__ import annotations
 
-from typing import TYPE_CHECKING, Any, Iterable, Mapping, Tuple
+from typing import TYPE_CHECKING, Any, Iterable, Iterator, Mapping, Tuple
 
 from .errors import WrongUse
 from .handles import Prepared
 from .lines import CHANGES, STATEMENTS, check_kind, placed
-from .rows import Rows, most_rows
+from .pages import PAGE
+from .rows import Row, Rows, most_rows
 
 if TYPE_CHECKING:
     from .database import Database, Parameters
@@ -57,6 +58,14 @@ class Statement(Prepared):
         self._check()
         rows: Rows = self._first((count, *self._placed.fitting(parameters, named)))
         return rows
+
+    def iterate(self, /, *parameters: Any, page: int = PAGE, **named: Any) -> Iterator[Row]:
+        """The rows of the select one after the other, of which so many are held at a time. It works as `Database.iterate`, and goes on
+        when the statement is executed again or closed.
+        """
+        check_kind("iterate", self.line, "select")
+        self._check()
+        return self._database.iterate(self.line, *parameters, page=page, **named)
 
     def executemany(self, rows: Iterable[Parameters]) -> int:
         """Executes an insert, an update or a delete with each row of parameters, and returns the number of all rows.

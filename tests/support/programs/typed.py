@@ -3,7 +3,7 @@
 import datetime
 import pathlib
 import tempfile
-from typing import List, Tuple
+from typing import Iterator, List, Tuple
 
 import mmdb
 
@@ -32,6 +32,8 @@ with mmdb.Database() as database:
         count += database.load("emp", iter([(100, "Di", "2026-01-04", 4)]), ("pay", "name", "hired", "id"))
     with database.reader() as reader:
         found: mmdb.Rows = reader.select("select name from emp where id > ?", 1)
+        each: Iterator[mmdb.Row] = reader.iterate("select name from emp where id > :id", id=1, page=100)
+        print(found == [next(each), *each])
         reader.leave()
         database.share(reader)
     with tempfile.TemporaryDirectory(prefix="mmdb-tests-") as folder:
