@@ -12,6 +12,7 @@ use crate::library::{Declined, Handle};
 use crate::limits::{Limits, Policy};
 use crate::line::{first_word, has_places, is_change, is_select};
 use crate::outcome::{count_of, Outcome};
+use crate::pages::MappedPages;
 use crate::params::Params;
 use crate::readers::Readers;
 use crate::row::Row;
@@ -237,6 +238,38 @@ impl Database {
         F: FnMut(&Row<'_>) -> Result<T, E>,
     {
         Ok(MappedRows::new(self.query(line, params)?, map))
+    }
+
+    /// What a function makes of each row of a select, in order, of which so many are held at a time: a page, of 1 row at least.
+    ///
+    /// The first page is read here, and each further one when its first row is asked for, by the last key. A select of several
+    /// tables, a `distinct` one, and one that has as many items or conditions as may be are read whole here. [`Error::NotASelect`]
+    /// says that the line is none. [`Error::Changed`] is given in the place of the first row of a page, and is the last, if the
+    /// table was changed since the first page was read.
+    ///
+    /// ```
+    /// let db = mmdb::Database::open_in_memory()?;
+    /// db.execute("table t (id int, s text)", [])?;
+    /// db.load("t", (0..1000).map(|id| (id, "a")))?;
+    ///
+    /// let mut sum = 0;
+    /// for id in db.query_pages(100, "select id from t where s = ?", ["a"], |row| row.get::<_, i64>(0))? {
+    ///     sum += id?;
+    /// }
+    /// assert_eq!(sum, 499_500);
+    ///
+    /// let mut ids = db.query_pages(2, "select id from t", [], |row| row.get::<_, i64>(0))?;
+    /// db.execute("delete t where id = 1", [])?;
+    /// assert_eq!((ids.next(), ids.next()), (Some(Ok(0)), Some(Ok(1))));
+    /// assert!(matches!(ids.next(), Some(Err(mmdb::Error::Changed { .. }))) && ids.next().is_none());
+    /// # Ok::<(), mmdb::Error>(())
+    /// ```
+    pub fn query_pages<T, P, F>(&self, most: usize, line: &str, params: P, map: F) -> Result<MappedPages<'_, F>>
+    where
+        P: Params,
+        F: FnMut(&Row<'_>) -> Result<T>,
+    {
+        MappedPages::begin(self, most, line, params, map)
     }
 
     /// What a function makes of the first row of a select. Those behind it are passed over.

@@ -7,9 +7,9 @@ use crate::error::Error;
 use crate::params::Params;
 use crate::spelling::push_value;
 use crate::to_value::ToValue;
-use crate::value::ValueRef;
+use crate::value::{Value, ValueRef};
 
-const BLANKS: &[char] = &[' ', '\t'];
+pub(crate) const BLANKS: &[char] = &[' ', '\t'];
 
 // Where nothing is needed between a place and what is before it, or after it, to keep the two apart.
 const APART_BEFORE: &[char] = &[' ', '\t', '(', ',', '=', '<', '>'];
@@ -81,6 +81,12 @@ impl Binding<'_> {
             self.bound.push((&value.to_value()?).into());
         }
         Ok(())
+    }
+
+    /// Takes values in the order of the places, whatever these are called.
+    pub(crate) fn put_in_order(&mut self, values: &[Value]) {
+        self.given += values.len();
+        values.iter().for_each(|value| self.bound.push(value.into()));
     }
 
     /// Whether a place has this name.
@@ -220,7 +226,7 @@ fn first_place(line: &str) -> Option<Range<usize>> {
 }
 
 /// The letters, digits and `_` that stand at a place of a line.
-fn word_at(line: &str, at: usize) -> &str {
+pub(crate) fn word_at(line: &str, at: usize) -> &str {
     let is_of_word = |byte: &u8| byte.is_ascii_alphanumeric() || *byte == b'_';
     let length = line.as_bytes()[at..].iter().take_while(|byte| is_of_word(byte)).count();
     &line[at..at + length]

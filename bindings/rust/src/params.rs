@@ -3,6 +3,7 @@
 use crate::error::Error;
 use crate::line::Binding;
 use crate::to_value::ToValue;
+use crate::value::Value;
 
 /// What takes the values of [`Values`].
 pub type Take<'t> = dyn FnMut(&dyn ToValue) -> Result<(), Error> + 't;
@@ -60,6 +61,17 @@ impl<T: ToValue> Params for &[(&str, T)] {
             let given = self.iter().find(|(name, _)| *name == place);
             given.map(|(_, value)| value as &dyn ToValue)
         })
+    }
+}
+
+/// Values for the places of a line in their order, which may have names.
+#[derive(Clone, Copy)]
+pub(crate) struct InOrder<'v>(pub(crate) &'v [Value]);
+
+impl Params for InOrder<'_> {
+    fn bind(self, line: &mut Binding<'_>) -> Result<(), Error> {
+        line.put_in_order(self.0);
+        Ok(())
     }
 }
 

@@ -9,6 +9,7 @@ use crate::error::{Error, Result};
 use crate::index::Index;
 use crate::line::is_select;
 use crate::outcome::Outcome;
+use crate::pages::MappedPages;
 use crate::params::Params;
 use crate::row::Row;
 use crate::rows::{MappedRows, Rows};
@@ -88,6 +89,15 @@ impl Reader<'_> {
         F: FnMut(&Row<'_>) -> Result<T>,
     {
         self.database.query_map(line, params, map)
+    }
+
+    /// What a function makes of each row of a select, in order, of which so many are held at a time.
+    pub fn query_pages<T, P, F>(&self, most: usize, line: &str, params: P, map: F) -> Result<MappedPages<'_, F>>
+    where
+        P: Params,
+        F: FnMut(&Row<'_>) -> Result<T>,
+    {
+        self.database.query_pages(most, line, params, map)
     }
 
     /// What a function makes of the first row of a select. [`Error::NoRows`] says that there is none.

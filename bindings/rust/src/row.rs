@@ -59,6 +59,14 @@ impl<'r> Row<'r> {
         self.cells.values()
     }
 
+    /// The first so many of its columns.
+    pub(crate) fn front(&self, width: usize) -> Row<'r> {
+        Row {
+            names: &self.names[..width],
+            cells: self.cells.part(0, width).unwrap_or(self.cells),
+        }
+    }
+
     #[inline]
     pub(crate) fn value(&self, at: usize) -> ValueRef<'r> {
         self.cells.value(at)

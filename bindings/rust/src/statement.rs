@@ -5,6 +5,7 @@ use std::fmt;
 use crate::database::Database;
 use crate::error::{Error, Result};
 use crate::kept::Kept;
+use crate::pages::MappedPages;
 use crate::params::Params;
 use crate::row::{ColumnIndex, Row};
 use crate::rows::{MappedRowsRef, RowsRef};
@@ -179,6 +180,16 @@ impl<'db> Statement<'db> {
         F: FnMut(&Row<'_>) -> Result<T, E>,
     {
         Ok(MappedRowsRef::new(self.query(params)?, map))
+    }
+
+    /// What a function makes of each row of the select, in order, of which so many are held at a time. It works as
+    /// [`Database::query_pages`], and goes on when the statement is executed again or dropped.
+    pub fn query_pages<T, P, F>(&mut self, most: usize, params: P, map: F) -> Result<MappedPages<'db, F>>
+    where
+        P: Params,
+        F: FnMut(&Row<'_>) -> Result<T>,
+    {
+        self.db.query_pages(most, self.kept.line(), params, map)
     }
 
     /// What a function makes of the first row of the select. Those behind it are passed over.
