@@ -136,3 +136,22 @@ fn a_load_takes_as_much_as_its_blocks() {
     let most = MOST_HELD.with(Cell::get) - before;
     assert!(most < 400_000, "{most} bytes");
 }
+
+/// Rows that are read by pages take as much as a page of them.
+#[test]
+fn pages_take_as_much_as_one() {
+    let db = filled();
+    db.execute("delete t", []).unwrap();
+    db.load("t", (0..20_000).map(|id| (id, "a text"))).unwrap();
+    for line in ["select * from t where id >= ?", "select s from t where id >= ?"] {
+        let held_by = |most| {
+            let before = HELD.with(Cell::get);
+            MOST_HELD.with(|held| held.set(before));
+            let texts = db.query_pages(most, line, [0], |row| Ok(row.get::<_, &str>("s")?.len()));
+            assert_eq!(texts.unwrap().sum::<mmdb::Result<usize>>(), Ok(20_000 * "a text".len()));
+            MOST_HELD.with(Cell::get) - before
+        };
+        let (page, all) = (held_by(200), held_by(20_000));
+        assert!(page < 50_000 && 10 * page < all, "{page} bytes of {all}");
+    }
+}
