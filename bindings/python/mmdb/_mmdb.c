@@ -1,82 +1,7 @@
-/* The types of the extension: the turn of a call, an open database, and a statement that is prepared by name. */
+/* The extension: an open database, and the module. */
 #include "_mmdb.h"
 
 #include <string.h>
-
-/* ---- turns */
-
-typedef struct Turn {
-    PyObject_HEAD
-    PyThread_type_lock lock;
-    PyThread_type_lock own; /* is taken in its place by a thread that keeps it, and so has the others wait */
-    unsigned long keeper;   /* that thread, or 0 */
-    unsigned depth;         /* how often it began to keep it */
-} Turn;
-
-static PyTypeObject *turn_type;
-
-/* The lock that the turn of a call of this thread is. */
-static PyThread_type_lock lock_of(const Turn *turn)
-{
-    return turn->keeper != 0 && turn->keeper == PyThread_get_thread_ident() ? turn->own : turn->lock;
-}
-
-static void take(Turn *turn)
-{
-    PyThread_type_lock lock = lock_of(turn);
-    if (PyThread_acquire_lock(lock, NOWAIT_LOCK))
-        return;
-    Py_BEGIN_ALLOW_THREADS
-    PyThread_acquire_lock(lock, WAIT_LOCK);
-    Py_END_ALLOW_THREADS
-}
-
-static void give(Turn *turn)
-{
-    PyThread_release_lock(lock_of(turn));
-}
-
-/* A new lock in the place of one that is taken, which can't be freed. */
-static int renew(PyThread_type_lock *lock)
-{
-    if (PyThread_acquire_lock(*lock, NOWAIT_LOCK)) {
-        PyThread_release_lock(*lock);
-        return 0;
-    }
-    PyThread_type_lock fresh = PyThread_allocate_lock();
-    if (fresh == NULL) {
-        PyErr_NoMemory();
-        return -1;
-    }
-    *lock = fresh;
-    return 0;
-}
-
-/* In a child of fork: the threads that had the turn aren't here, but for this one. */
-static int renew_turn(Turn *turn)
-{
-    if (turn->keeper == PyThread_get_thread_ident())
-        return renew(&turn->own);
-    if (renew(&turn->lock) < 0 || renew(&turn->own) < 0)
-        return -1;
-    turn->keeper = 0;
-    turn->depth = 0;
-    return 0;
-}
-
-static PyObject *new_turn(void)
-{
-    Turn *turn = (Turn *)PyType_GenericAlloc(turn_type, 0);
-    if (turn == NULL)
-        return NULL;
-    turn->lock = PyThread_allocate_lock();
-    turn->own = PyThread_allocate_lock();
-    if (turn->lock == NULL || turn->own == NULL) {
-        Py_DECREF(turn);
-        return PyErr_NoMemory();
-    }
-    return (PyObject *)turn;
-}
 
 void free_object(PyObject *self)
 {
@@ -86,51 +11,9 @@ void free_object(PyObject *self)
     Py_DECREF(type);
 }
 
-static void turn_dealloc(PyObject *self)
-{
-    Turn *turn = (Turn *)self;
-    if (turn->lock != NULL)
-        PyThread_free_lock(turn->lock);
-    if (turn->own != NULL)
-        PyThread_free_lock(turn->own);
-    free_object(self);
-}
-
-static PyObject *turn_enter(PyObject *self, PyObject *Py_UNUSED(none))
-{
-    take((Turn *)self);
-    return none();
-}
-
-static PyObject *turn_exit(PyObject *self, PyObject *Py_UNUSED(why))
-{
-    give((Turn *)self);
-    return none();
-}
-
-static PyMethodDef turn_methods[] = {
-    { "__enter__", turn_enter, METH_NOARGS, "Waits for its turn." },
-    { "__exit__", turn_exit, METH_VARARGS, "Ends it." },
-    { NULL, NULL, 0, NULL },
-};
-
-static PyType_Slot turn_slots[] = {
-    { Py_tp_doc, (void *)"The turn of one call, while which no other is done." },
-    { Py_tp_dealloc, turn_dealloc },
-    { Py_tp_methods, turn_methods },
-    { 0, NULL },
-};
-
-static PyType_Spec turn_spec = {
-    .name = "mmdb._mmdb.Turn",
-    .basicsize = sizeof(Turn),
-    .flags = Py_TPFLAGS_DEFAULT | Py_TPFLAGS_DISALLOW_INSTANTIATION,
-    .slots = turn_slots,
-};
-
 /* ---- a database */
 
-static PyTypeObject *handle_type;
+PyTypeObject *handle_type;
 
 static PyObject *handle_new(PyTypeObject *type, PyObject *Py_UNUSED(given), PyObject *Py_UNUSED(named))
 {
@@ -236,8 +119,7 @@ static PyObject *ended_and_told(Handle *handle, PyObject *found)
     return watched(handle, "_tell", found);
 }
 
-/* Ends the turn of a call, and gives what it found: rows with those columns read as other types that are to be. */
-static PyObject *ended(Handle *handle, PyObject *found)
+PyObject *ended(Handle *handle, PyObject *found)
 {
     if (handle->has_changed && handle->is_watched)
         return ended_and_told(handle, found);
@@ -254,7 +136,7 @@ static PyObject *ended(Handle *handle, PyObject *found)
     return read;
 }
 
-static PyObject *nothing_raised(void)
+PyObject *nothing_raised(void)
 {
     PyErr_SetString(PyExc_SystemError, "mmdb: nothing was raised");
     return NULL;
@@ -650,8 +532,6 @@ static PyObject *handle_forget(PyObject *self, PyObject *Py_UNUSED(none))
     return none();
 }
 
-#define FAST(function) ((PyCFunction)(void (*)(void))(function))
-
 static PyMethodDef handle_methods[] = {
     { "close", handle_close, METH_NOARGS,
       "close($self, /)\n--\n\nGives all memory of the database back. A second call does nothing." },
@@ -718,236 +598,6 @@ static PyType_Spec handle_spec = {
     .slots = handle_slots,
 };
 
-/* ---- statements that are prepared by name */
-
-typedef struct {
-    PyObject_HEAD
-    Handle *handle; /* null where it is closed */
-    Statement statement;
-} Prepared;
-
-static PyTypeObject *prepared_type;
-
-static int prepared_init(PyObject *self, PyObject *given, PyObject *Py_UNUSED(named))
-{
-    Prepared *prepared = (Prepared *)self;
-    PyObject *handle, *placed;
-    if (!PyArg_ParseTuple(given, "O!O!", handle_type, &handle, &PyTuple_Type, &placed))
-        return -1;
-    if (prepared->handle != NULL) {
-        PyErr_SetString(PyExc_TypeError, "mmdb: a statement is prepared once");
-        return -1;
-    }
-    Statement *statement = &prepared->statement;
-    if (statement_take(statement, placed) < 0)
-        return -1;
-    take(((Handle *)handle)->turn);
-    int status = statement_prepare((Handle *)handle, statement);
-    give(((Handle *)handle)->turn);
-    if (status == 0)
-        prepared->handle = (Handle *)Py_NewRef(handle);
-    return status;
-}
-
-/* Lets the statement go at any time, where waiting for its turn could last for ever. */
-static void let_go(Prepared *prepared)
-{
-    Handle *handle = prepared->handle;
-    if (handle == NULL)
-        return;
-    prepared->handle = NULL;
-    if (PyThread_acquire_lock(lock_of(handle->turn), NOWAIT_LOCK)) {
-        statement_finalize(handle, &prepared->statement);
-        give(handle->turn);
-    } else if (prepared->statement.is_prepared) {
-        size_t count = handle->let_go_count;
-        uint32_t *more = PyMem_Realloc(handle->let_go, (count + 1) * sizeof *more);
-        /* (where there is no memory for that, it is let go with the database) */
-        if (more != NULL) {
-            more[count] = prepared->statement.given.number;
-            handle->let_go = more;
-            handle->let_go_count = count + 1;
-        }
-    }
-    Py_DECREF(handle);
-}
-
-static int prepared_traverse(PyObject *self, visitproc visit, void *arg)
-{
-    Py_VISIT(Py_TYPE(self));
-    Py_VISIT(((Prepared *)self)->handle);
-    return 0;
-}
-
-static int prepared_clear(PyObject *self)
-{
-    let_go((Prepared *)self);
-    return 0;
-}
-
-static void prepared_dealloc(PyObject *self)
-{
-    PyObject_GC_UnTrack(self);
-    let_go((Prepared *)self);
-    statement_clear(&((Prepared *)self)->statement);
-    free_object(self);
-}
-
-static PyObject *prepared_closed(PyObject *self, void *Py_UNUSED(none))
-{
-    return PyBool_FromLong(((Prepared *)self)->handle == NULL);
-}
-
-/* Waits for the turn of its database, which is given; or gives null, and nothing is raised, where it is closed. */
-static Handle *turn_of(Prepared *prepared)
-{
-    Handle *handle = prepared->handle;
-    if (handle == NULL)
-        return NULL;
-    Py_INCREF(handle);
-    take(handle->turn);
-    if (prepared->handle != NULL)
-        return handle;
-    give(handle->turn);
-    Py_DECREF(handle);
-    return NULL;
-}
-
-static void end_turn(Handle *handle)
-{
-    give(handle->turn);
-    Py_DECREF(handle);
-}
-
-static PyObject *is_closed(void)
-{
-    PyErr_SetString(PyExc_ValueError, "mmdb: the statement is closed");
-    return NULL;
-}
-
-static PyObject *prepared_close(PyObject *self, PyObject *Py_UNUSED(none))
-{
-    Prepared *prepared = (Prepared *)self;
-    Handle *handle = turn_of(prepared);
-    if (handle != NULL) {
-        statement_finalize(handle, &prepared->statement);
-        Py_CLEAR(prepared->handle);
-        end_turn(handle);
-    }
-    return none();
-}
-
-static PyObject *prepared_execute(PyObject *self, PyObject *const *given, Py_ssize_t count, PyObject *keywords)
-{
-    Prepared *prepared = (Prepared *)self;
-    Handle *handle = turn_of(prepared);
-    PyObject *found = NULL, *parameters, *named;
-    if (handle != NULL) {
-        found = ended(handle, statement_done_by(handle, &prepared->statement, given, count, keywords));
-        Py_DECREF(handle);
-    }
-    if (found != NULL || PyErr_Occurred())
-        return found;
-    parameters = tuple_of(given, count);
-    named = named_of(given + count, keywords);
-    if (parameters != NULL && named != NULL)
-        found = PyObject_CallMethod(self, "_perform", "OO", parameters, named);
-    Py_XDECREF(parameters);
-    Py_XDECREF(named);
-    return found;
-}
-
-/* Does it with values or with rows of them. Those that aren't stored as they are, are put into that form by a method. */
-static PyObject *prepared_done_anyhow(PyObject *self, PyObject *values, const char *how,
-                                      PyObject *(*done)(Handle *, Statement *, PyObject *))
-{
-    Prepared *prepared = (Prepared *)self;
-    PyObject *found = NULL, *stored = Py_NewRef(values);
-    for (int tries = 0; tries < 2 && stored != NULL && found == NULL && !PyErr_Occurred(); tries++) {
-        Handle *handle = turn_of(prepared);
-        if (handle == NULL) {
-            is_closed();
-            break;
-        }
-        found = ended(handle, done(handle, &prepared->statement, stored));
-        if (found == NULL && !PyErr_Occurred()) {
-            Py_DECREF(stored);
-            stored = PyObject_CallMethod((PyObject *)handle, how, "(O)", values);
-        }
-        Py_DECREF(handle);
-    }
-    Py_XDECREF(stored);
-    return found != NULL || PyErr_Occurred() ? found : nothing_raised();
-}
-
-static PyObject *prepared_done(PyObject *self, PyObject *values)
-{
-    return prepared_done_anyhow(self, values, "_stored_values", statement_done);
-}
-
-static PyObject *prepared_done_many(PyObject *self, PyObject *rows)
-{
-    return prepared_done_anyhow(self, rows, "_stored_rows", statement_done_many);
-}
-
-static PyObject *prepared_count(PyObject *self, PyObject *values)
-{
-    return prepared_done_anyhow(self, values, "_stored_values", statement_count);
-}
-
-static PyObject *prepared_first(PyObject *self, PyObject *asked)
-{
-    return prepared_done_anyhow(self, asked, "_stored_values", statement_first);
-}
-
-static PyObject *prepared_names(PyObject *self, PyObject *Py_UNUSED(none))
-{
-    Prepared *prepared = (Prepared *)self;
-    Handle *handle = turn_of(prepared);
-    if (handle == NULL)
-        return is_closed();
-    PyObject *names = statement_names(handle, &prepared->statement);
-    end_turn(handle);
-    return names;
-}
-
-static PyMethodDef prepared_methods[] = {
-    { "close", prepared_close, METH_NOARGS,
-      "close($self, /)\n--\n\nLets the statement go. A second call does nothing." },
-    { "execute", FAST(prepared_execute), METH_FASTCALL | METH_KEYWORDS,
-      "execute($self, /, *parameters, **named)\n--\n\n"
-      "Does it with these parameters, and gives its rows, or how many rows it was about." },
-    { "_done", prepared_done, METH_O, "Does it with these values." },
-    { "_done_many", prepared_done_many, METH_O, "Does it with each of these rows of values." },
-    { "_count", prepared_count, METH_O, "How many rows it shows with these values." },
-    { "_first", prepared_first, METH_O, "The first rows that it shows: how many at most comes before its values." },
-    { "_names", prepared_names, METH_NOARGS, "The names of its columns, whatever its parameters are." },
-    { NULL, NULL, 0, NULL },
-};
-
-static PyGetSetDef prepared_members[] = {
-    { "closed", prepared_closed, NULL, "Whether it is closed.", NULL },
-    { NULL, NULL, NULL, NULL, NULL },
-};
-
-static PyType_Slot prepared_slots[] = {
-    { Py_tp_doc, (void *)"A statement that is prepared once, of which `mmdb.Statement` is made." },
-    { Py_tp_init, prepared_init },
-    { Py_tp_dealloc, prepared_dealloc },
-    { Py_tp_traverse, prepared_traverse },
-    { Py_tp_clear, prepared_clear },
-    { Py_tp_methods, prepared_methods },
-    { Py_tp_getset, prepared_members },
-    { 0, NULL },
-};
-
-static PyType_Spec prepared_spec = {
-    .name = "mmdb._mmdb.Prepared",
-    .basicsize = sizeof(Prepared),
-    .flags = Py_TPFLAGS_DEFAULT | Py_TPFLAGS_BASETYPE | Py_TPFLAGS_HAVE_GC,
-    .slots = prepared_slots,
-};
-
 /* ---- the module */
 
 static PyMethodDef module_methods[] = {
@@ -966,22 +616,14 @@ static struct PyModuleDef module = {
     .m_methods = module_methods,
 };
 
-/* Makes a type, and puts it into the module where it is to be had there. */
-static int add_type(PyObject *into, PyTypeObject **type, PyType_Spec *spec, const char *name)
-{
-    *type = (PyTypeObject *)PyType_FromSpec(spec);
-    if (*type == NULL)
-        return -1;
-    return name == NULL ? 0 : PyModule_AddObjectRef(into, name, (PyObject *)*type);
-}
-
 PyMODINIT_FUNC PyInit__mmdb(void)
 {
     PyObject *made = PyModule_Create(&module);
-    if (made != NULL && (statement_begin() < 0 || kept_begin() < 0 || named_begin(made) < 0 ||
-                         add_type(made, &turn_type, &turn_spec, NULL) < 0 ||
-                         add_type(made, &handle_type, &handle_spec, "Handle") < 0 ||
-                         add_type(made, &prepared_type, &prepared_spec, "Prepared") < 0))
+    if (made == NULL)
+        return NULL;
+    handle_type = (PyTypeObject *)PyType_FromSpec(&handle_spec);
+    if (handle_type == NULL || PyModule_AddObjectRef(made, "Handle", (PyObject *)handle_type) < 0 || statement_begin() < 0 ||
+        kept_begin() < 0 || turns_begin() < 0 || named_begin(made) < 0 || prepared_begin(made) < 0)
         Py_CLEAR(made);
     return made;
 }

@@ -17,6 +17,9 @@
 
 #include "mmdb.h"
 
+/* A function that takes its arguments one by one, as methods have it. */
+#define FAST(function) ((PyCFunction)(void (*)(void))(function))
+
 /* None. (Py_RETURN_NONE of later headers is wrong for earlier versions, where None is counted as any object is.) */
 static inline PyObject *none(void)
 {
@@ -58,10 +61,19 @@ typedef struct Kept {
     struct Kept *older, *newer;
 } Kept;
 
+/* The turn of the calls on a database. */
+typedef struct Turn {
+    PyObject_HEAD
+    PyThread_type_lock lock;
+    PyThread_type_lock own; /* is taken in its place by a thread that keeps it, and so has the others wait */
+    unsigned long keeper;   /* that thread, or 0 */
+    unsigned depth;         /* how often it began to keep it */
+} Turn;
+
 typedef struct {
     PyObject_HEAD
     mmdb db;
-    struct Turn *turn;
+    Turn *turn;
     PyObject *kept;        /* by each line its Kept */
     Kept *oldest, *newest; /* of these, by their last use */
     uint64_t declarations; /* what is known of columns is known as of one of these numbers */
@@ -76,6 +88,35 @@ typedef struct {
 
 /* Of a call that gives int or a pointer, -1 or null says that something was raised, where nothing else is told. Those
    that take a handle want its turn. */
+
+/* What _turns.c has. */
+
+/* Makes the type of turns. */
+int turns_begin(void);
+
+PyObject *new_turn(void);
+
+/* Waits for a turn; takes it if nobody has it, and gives whether that was so; and ends it. */
+void take(Turn *turn);
+int take_now(Turn *turn);
+void give(Turn *turn);
+
+/* In a child of fork: the threads that had the turn aren't here, but for this one. */
+int renew_turn(Turn *turn);
+
+/* What _mmdb.c has. */
+
+/* The type of databases. */
+extern PyTypeObject *handle_type;
+
+/* Ends the turn of a call, and gives what it found: rows with those columns read as other types that are to be. */
+PyObject *ended(Handle *handle, PyObject *found);
+
+/* Raises that nothing was raised where something had to be. Gives null. */
+PyObject *nothing_raised(void);
+
+/* What _prepared.c has: statements that are prepared by name. Makes the type of them, and puts it into the module. */
+int prepared_begin(PyObject *module);
 
 /* What _statement.c has: what is done with one statement. */
 
