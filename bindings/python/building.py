@@ -27,7 +27,17 @@ PACKAGE = HERE / "mmdb"
 BROUGHT = ("release/libmmdb.so", "release/THIRD-PARTY", "LICENSE-MIT", "LICENSE-APACHE")
 # What the extension is built of, beside its own source.
 BUILT_OF = ("release/libmmdb.a", "release/mmdb.h")
-SOURCES = ("_mmdb.c", "_kept.c", "_named.c", "_prepared.c", "_quotes.c", "_records.c", "_statement.c", "_turns.c")
+SOURCES = (
+    "_mmdb.c",
+    "_interrupts.c",
+    "_kept.c",
+    "_named.c",
+    "_prepared.c",
+    "_quotes.c",
+    "_records.c",
+    "_statement.c",
+    "_turns.c",
+)
 HEADER = "_mmdb.h"
 EXTENSION = "_mmdb.abi3.so"
 # (what the archive has stays in the extension, which needs no more of it than its calls)

@@ -17,7 +17,7 @@ from . import harness, tested
 FOLDER = harness.ROOT / "bindings" / "python"
 BROUGHT = {"libmmdb.so", "LICENSE-APACHE", "LICENSE-MIT", "THIRD-PARTY"}
 BUILT_OF = {"libmmdb.a", "mmdb.h"}
-SOURCES = {"_mmdb.c", "_kept.c", "_named.c", "_prepared.c", "_quotes.c", "_records.c", "_statement.c", "_turns.c", "_mmdb.h"}
+SOURCES = {f"_{name}.c" for name in ("interrupts", "kept", "mmdb", "named", "prepared", "quotes", "records", "statement", "turns")} | {"_mmdb.h"}
 EXTENSION = "_mmdb.abi3.so"
 # (pip reads these; nothing is to be sought in a network, and nothing kept)
 QUIETLY = {"PIP_NO_INDEX": "1", "PIP_NO_CACHE_DIR": "1", "PIP_DISABLE_PIP_VERSION_CHECK": "1", "PIP_ROOT_USER_ACTION": "ignore"}

@@ -34,12 +34,15 @@ static int handle_init(PyObject *self, PyObject *given, PyObject *Py_UNUSED(name
     if (!PyArg_ParseTuple(given, "III", &policy, &rows, &block))
         return -1;
     uint32_t status = mmdb_open(&handle->db, policy, rows, block);
+    if (status == MMDB_DONE)
+        status = interrupts_open(handle);
     return status == MMDB_DONE ? 0 : handle_failed(handle, status);
 }
 
 static void handle_dealloc(PyObject *self)
 {
     Handle *handle = (Handle *)self;
+    interrupts_close(handle);
     mmdb_close(&handle->db);
     PyMem_Free(handle->let_go);
     Py_CLEAR(handle->kept);
@@ -66,6 +69,7 @@ static PyObject *handle_close(PyObject *self, PyObject *Py_UNUSED(none))
     /* (it is moved, so that the handle is closed from now on, and freed by nothing else) */
     mmdb closing = handle->db;
     handle->db.inside = NULL;
+    interrupts_close(handle);
     Py_BEGIN_ALLOW_THREADS
     mmdb_close(&closing);
     Py_END_ALLOW_THREADS
@@ -410,10 +414,13 @@ static PyObject *handle_clone(PyObject *self, PyObject *given)
     if (!PyArg_ParseTuple(given, "O!", handle_type, &copy))
         return NULL;
     mmdb *into = &((Handle *)copy)->db;
+    interrupts_close((Handle *)copy);
     Py_BEGIN_ALLOW_THREADS
     mmdb_close(into);
     status = mmdb_clone(&handle->db, into);
     Py_END_ALLOW_THREADS
+    if (status == MMDB_DONE)
+        status = interrupts_open((Handle *)copy);
     if (status == MMDB_DONE)
         return none();
     handle_failed(handle, status);
@@ -526,6 +533,12 @@ static PyObject *handle_is_kept(PyObject *self, void *Py_UNUSED(none))
     return PyBool_FromLong(((Handle *)self)->turn->keeper == PyThread_get_thread_ident());
 }
 
+static PyObject *handle_interrupt(PyObject *self, PyObject *Py_UNUSED(none))
+{
+    interrupts_ask((Handle *)self);
+    return none();
+}
+
 static PyObject *handle_forget(PyObject *self, PyObject *Py_UNUSED(none))
 {
     ((Handle *)self)->declarations++;
@@ -570,6 +583,7 @@ static PyMethodDef handle_methods[] = {
     { "_share", handle_share, METH_VARARGS, "Has another handle share the tables, in the place of its own." },
     { "_clone", handle_clone, METH_VARARGS, "Gives another handle, which has no statements, a copy of the tables." },
     { "_leave", handle_leave, METH_NOARGS, "Leaves the tables, and has none then." },
+    { "_interrupt", handle_interrupt, METH_NOARGS, "Asks the select to end that is under way. It wants no turn." },
     { "_forget", handle_forget, METH_NOARGS, "Forgets what is known of the columns of statements." },
     { NULL, NULL, 0, NULL },
 };
@@ -623,7 +637,7 @@ PyMODINIT_FUNC PyInit__mmdb(void)
         return NULL;
     handle_type = (PyTypeObject *)PyType_FromSpec(&handle_spec);
     if (handle_type == NULL || PyModule_AddObjectRef(made, "Handle", (PyObject *)handle_type) < 0 || statement_begin() < 0 ||
-        kept_begin() < 0 || turns_begin() < 0 || named_begin(made) < 0 || prepared_begin(made) < 0)
+        kept_begin() < 0 || turns_begin() < 0 || interrupts_begin() < 0 || named_begin(made) < 0 || prepared_begin(made) < 0)
         Py_CLEAR(made);
     return made;
 }

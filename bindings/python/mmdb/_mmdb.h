@@ -51,6 +51,7 @@ typedef struct {
     uint64_t declarations; /* how many declarations there were when they were asked for */
     uint32_t kind;         /* that of its line, whose pace it has; or 0, and it has its own */
     Pace pace;
+    Pace pace_of_first, pace_of_count; /* those where its first rows are found, and where its rows are counted */
 } Statement;
 
 /* A statement that is kept by its line, and those that were used before it and after it. */
@@ -82,6 +83,9 @@ typedef struct {
     PyObject *converting;  /* the shape of the rows just found, where columns of it are read as other types; or null */
     uint32_t *let_go;      /* the numbers of statements that were let go while another call had its turn */
     size_t let_go_count;
+    mmdb_interrupter interrupter; /* what asks the select that is under way to end */
+    mmdb_interrupter by_signal;   /* and what does in a handler of signals; or none */
+    uint64_t asks;                /* how often it was asked by the first of these */
     int is_watched;  /* whether changes are noted and told */
     int has_changed; /* whether a statement may have changed rows since that was done last */
 } Handle;
@@ -103,6 +107,42 @@ void give(Turn *turn);
 
 /* In a child of fork: the threads that had the turn aren't here, but for this one. */
 int renew_turn(Turn *turn);
+
+/* What _interrupts.c has: selects that are asked to end, by a thread or by Ctrl-C. */
+
+/* A step of a call that may last: how it is taken, and with what. */
+typedef struct Step {
+    uint32_t (*take)(Handle *handle, struct Step *step);
+    uint32_t statement;
+    size_t most;
+    mmdb_rows *rows;
+    uint64_t count;
+} Step;
+
+/* What is given in the place of an mmdb_status where something was raised. */
+#define STEP_RAISED UINT32_MAX
+
+/* Makes ready for children of fork. */
+int interrupts_begin(void);
+
+/* Opens what asks the selects of a handle to end. Gives an mmdb_status. */
+uint32_t interrupts_open(Handle *handle);
+
+/* Closes it. It wants no turn, and may be called again. */
+void interrupts_close(Handle *handle);
+
+/* Asks the select of a handle to end that is under way. It wants no turn. */
+void interrupts_ask(Handle *handle);
+
+/* Whether a step is taken to be quick, as one before it was. */
+int is_quick(const Handle *handle, Pace *pace);
+
+/* Takes a step while other threads go on, and notes whether it was quick. A select may be asked to end. Gives an mmdb_status, or
+   STEP_RAISED. */
+uint32_t take_step(Handle *handle, Step *step, Pace *pace, int is_select);
+
+/* The same of a select. One that is taken to be quick isn't ended by a signal. */
+uint32_t take_select(Handle *handle, Step *step, Pace *pace);
 
 /* What _mmdb.c has. */
 

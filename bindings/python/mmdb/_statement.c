@@ -2,11 +2,9 @@
 #include "_mmdb.h"
 
 #include <string.h>
-#include <time.h>
 
-/* How many nanoseconds a quick execution takes at most, and how many are taken to be quick behind one that was. */
-#define QUICK 20000
-#define QUICK_ONES 32
+/* An execution that gives more rows isn't quick. */
+#define MANY_ROWS 256
 
 /* How many bytes a statement that waits may hold. */
 #define HELD ((size_t)1 << 16)
@@ -290,9 +288,11 @@ static PyObject *list_of_rows(const Statement *statement, const mmdb_rows *rows,
     if (list != NULL && (PyObject_SetAttr(list, names_word, PyTuple_GetItem(statement->shape, 1)) < 0 ||
                          PyObject_SetAttr(list, types_word, PyTuple_GetItem(statement->shape, 2)) < 0))
         Py_CLEAR(list);
-    for (size_t number = 0; list != NULL && number < rows->rows; number++)
-        if (push(list, row_of(maker, rows, number, size)) < 0)
+    for (size_t number = 0; list != NULL && number < rows->rows; number++) {
+        int wants_end = number % ROWS_BETWEEN_SIGNALS == ROWS_BETWEEN_SIGNALS - 1 && PyErr_CheckSignals() < 0;
+        if (wants_end || push(list, row_of(maker, rows, number, size)) < 0)
             Py_CLEAR(list);
+    }
     return list;
 }
 
@@ -351,20 +351,29 @@ static Pace *pace_of(Handle *handle, Statement *statement)
     return pace;
 }
 
-/* Executes a statement while other threads go on, and takes note of whether it was quick. */
-static uint32_t execute_slowly(Handle *handle, Statement *statement, Pace *pace, mmdb_rows *rows)
+static uint32_t execute_by(Handle *handle, Step *step)
 {
-    uint32_t number = statement->given.number, status;
-    struct timespec began, ended;
-    Py_BEGIN_ALLOW_THREADS
-    clock_gettime(CLOCK_MONOTONIC, &began);
-    status = mmdb_execute(&handle->db, number, rows);
-    clock_gettime(CLOCK_MONOTONIC, &ended);
-    Py_END_ALLOW_THREADS
-    int64_t took = (int64_t)(ended.tv_sec - began.tv_sec) * 1000000000 + (ended.tv_nsec - began.tv_nsec);
-    pace->quick = took <= QUICK ? QUICK_ONES : 0;
-    pace->commands = handle->commands;
-    return status;
+    return mmdb_execute(&handle->db, step->statement, step->rows);
+}
+
+static uint32_t first_by(Handle *handle, Step *step)
+{
+    return mmdb_first(&handle->db, step->statement, step->most, step->rows);
+}
+
+static uint32_t count_by(Handle *handle, Step *step)
+{
+    return mmdb_count(&handle->db, step->statement, &step->count);
+}
+
+/* Whether a step was done. Else what its status says is raised, if it hasn't been yet. */
+static int was_done(Handle *handle, Statement *statement, uint32_t status, PyObject *const *values, Py_ssize_t count)
+{
+    if (status == MMDB_DONE)
+        return 1;
+    if (status != STEP_RAISED)
+        refused(handle, statement, status, values, count);
+    return 0;
 }
 
 /* To release the interpreter's lock costs more than a tenth of a quick execution, so that most of them hold it. */
@@ -372,14 +381,15 @@ static int execute(Handle *handle, Statement *statement, PyObject *const *values
 {
     uint32_t status;
     Pace *pace = pace_of(handle, statement);
-    if (pace->quick > 0 && pace->commands == handle->commands) {
-        pace->quick--;
+    if (is_quick(handle, pace)) {
         status = mmdb_execute(&handle->db, statement->given.number, rows);
+        pace->quick = rows->rows > MANY_ROWS ? 0 : pace->quick;
     } else {
-        status = execute_slowly(handle, statement, pace, rows);
+        Step step = { .take = execute_by, .statement = statement->given.number, .rows = rows };
+        status = take_step(handle, &step, pace, statement->is_select);
     }
-    if (status != MMDB_DONE)
-        return refused(handle, statement, status, values, count);
+    if (!was_done(handle, statement, status, values, count))
+        return -1;
     handle->has_changed |= !statement->is_select;
     return 0;
 }
@@ -388,11 +398,9 @@ static int execute(Handle *handle, Statement *statement, PyObject *const *values
 static int find_first(Handle *handle, Statement *statement, PyObject *const *values, Py_ssize_t count, size_t most,
                       mmdb_rows *rows)
 {
-    uint32_t number = statement->given.number, status;
-    Py_BEGIN_ALLOW_THREADS
-    status = mmdb_first(&handle->db, number, most, rows);
-    Py_END_ALLOW_THREADS
-    return status == MMDB_DONE ? 0 : refused(handle, statement, status, values, count);
+    Step step = { .take = first_by, .statement = statement->given.number, .most = most, .rows = rows };
+    uint32_t status = take_select(handle, &step, &statement->pace_of_first);
+    return was_done(handle, statement, status, values, count) ? 0 : -1;
 }
 
 /* Does a select whose values are bound, or finds only its first rows where they are fewer than ALL. It is done once more where its
@@ -513,15 +521,9 @@ PyObject *statement_done(Handle *handle, Statement *statement, PyObject *tuple)
 /* Counts the rows of a select whose values are bound, while other threads go on. */
 static PyObject *counted(Handle *handle, Statement *statement, PyObject *const *values, Py_ssize_t count)
 {
-    uint32_t number = statement->given.number, status;
-    uint64_t rows;
-    Py_BEGIN_ALLOW_THREADS
-    status = mmdb_count(&handle->db, number, &rows);
-    Py_END_ALLOW_THREADS
-    if (status == MMDB_DONE)
-        return PyLong_FromUnsignedLongLong(rows);
-    refused(handle, statement, status, values, count);
-    return NULL;
+    Step step = { .take = count_by, .statement = statement->given.number };
+    uint32_t status = take_select(handle, &step, &statement->pace_of_count);
+    return was_done(handle, statement, status, values, count) ? PyLong_FromUnsignedLongLong(step.count) : NULL;
 }
 
 PyObject *statement_count(Handle *handle, Statement *statement, PyObject *tuple)

@@ -30,7 +30,7 @@ from . import dumps, watching
 from .chosen import extension
 from .conversions import Converter, converter_of
 from .csvs import Picked, Readable, Watch, cut, front_of, pieces_of
-from .errors import InTransaction, NoMemory, NoTransaction, OperationalError, Refused, Shared, WrongType, WrongUse, refusal_of
+from .errors import Interrupted, InTransaction, NoMemory, NoTransaction, OperationalError, Refused, Shared, WrongType, WrongUse, refusal_of
 from .files import written
 from .handles import Handle
 from .indexes import Index, indexes_of
@@ -61,7 +61,7 @@ _TAKEN = {"select": ("select",), "change": CHANGES}
 
 # The statuses of mmdb.h for a call that isn't done.
 _NOT_OPEN, _NOT_ONE_REQUEST, _NO_MEMORY, _NO_SUCH_STATEMENT, _TOO_LARGE = 1, 6, 7, 9, 13
-_SHARED, _NO_TRANSACTION, _IN_TRANSACTION = 14, 15, 16
+_SHARED, _NO_TRANSACTION, _IN_TRANSACTION, _INTERRUPTED = 14, 15, 16, 18
 
 # The databases of this process, which a child of fork has copies of.
 _DATABASES: weakref.WeakSet[Database] = weakref.WeakSet()
@@ -86,7 +86,7 @@ class Database(Handle):
     block of a load or a dump, up to `MOST`. Used as a context manager, it is closed at the end.
     Each call of a closed one but `close` raises ValueError.
 
-    Threads may share it: their calls run one after another. A signal handler and a `__del__` must not use it.
+    Threads may share it: their calls run one after another. A signal handler and a `__del__` must not use it, but for `interrupt`.
     """
 
     def __init__(self, policy: str = "auto", rows: int = MOST, block: int = MOST) -> None:
@@ -246,6 +246,13 @@ class Database(Handle):
                 break
             count += size
         return count
+
+    def interrupt(self) -> None:
+        """Asks the select to end that is under way, by any thread: its call raises `Interrupted`. Nothing is waited for.
+
+        Nothing is done if none is under way, and if it is closed. What changes tables or answers texts goes on to its end.
+        """
+        self._interrupt()
 
     def begin(self) -> None:
         """Begins a transaction, which `commit` or `rollback` ends. In another it is a savepoint of that.
@@ -657,6 +664,8 @@ class Database(Handle):
             raise OperationalError(f"mmdb: {many}")
         if status == _SHARED:
             raise Shared("mmdb: readers share the tables, and nothing changes them until all have left")
+        if status == _INTERRUPTED:
+            raise Interrupted("mmdb: the select was interrupted")
         if status == _NO_TRANSACTION:
             raise NoTransaction("mmdb: no transaction is open")
         if status == _IN_TRANSACTION:

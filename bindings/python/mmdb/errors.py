@@ -114,6 +114,10 @@ class Shared(OperationalError):
     """Other handles share the tables, so that nobody changes them. Nothing has changed."""
 
 
+class Interrupted(OperationalError):
+    """A select was asked to end while it was under way, by `interrupt`. Nothing has changed."""
+
+
 class Changed(OperationalError):
     """A table was changed between two pages of its rows, which `iterate` read. It gives no row of the second."""
 

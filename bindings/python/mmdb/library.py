@@ -131,6 +131,9 @@ _SHARE = _call(_LIBRARY, "mmdb_share", _NUMBER, _ADDRESS, _ADDRESS)
 _CLONE = _call(_LIBRARY, "mmdb_clone", _NUMBER, _ADDRESS, _ADDRESS)
 _LEAVE = _call(_LIBRARY, "mmdb_leave", _NUMBER, _ADDRESS)
 _CLOSE = _call(_LIBRARY, "mmdb_close", None, _ADDRESS)
+_INTERRUPTER_OPEN = _call(_LIBRARY, "mmdb_interrupter_open", _NUMBER, _ADDRESS, _ADDRESS)
+_INTERRUPT = _call(_LIBRARY, "mmdb_interrupt", None, _ADDRESS)
+_INTERRUPTER_CLOSE = _call(_LIBRARY, "mmdb_interrupter_close", None, _ADDRESS)
 _PREPARE = _call(_LIBRARY, "mmdb_prepare", _NUMBER, _ADDRESS, _ADDRESS, _SIZE, _ADDRESS)
 _BIND_INTEGER = _call(_LIBRARY, "mmdb_bind_integer", _NUMBER, _ADDRESS, _NUMBER, _NUMBER, ctypes.c_int64)
 _BIND_TEXT = _call(_LIBRARY, "mmdb_bind_text", _NUMBER, _ADDRESS, _NUMBER, _NUMBER, _ADDRESS, _SIZE)
@@ -168,6 +171,10 @@ class Handle:
         self._keeper = self._depth = 0
         self._inside = ctypes.c_void_p(None)
         self._at = ctypes.addressof(self._inside)
+        #: What asks the select that is under way to end, and the lock for that. (A function for a signal may come between.)
+        self._asking = threading.RLock()
+        self._interrupter = ctypes.c_void_p(None)
+        self._interrupter_at = ctypes.addressof(self._interrupter)
         self._told = _Bytes(None, 0)
         self._told_at = ctypes.addressof(self._told)
         # The pointer of what is told, seen as one to characters: a slice of it is a copy of the answer.
@@ -182,9 +189,7 @@ class Handle:
         self._declarations = 0
         #: Whether changes are noted and told.
         self._is_watched = False
-        status = _OPEN(self._at, policy, rows, block)
-        if status:
-            self._failed(status)
+        self._check(_OPEN(self._at, policy, rows, block) or _INTERRUPTER_OPEN(self._at, self._interrupter_at))
 
     @property
     def closed(self) -> bool:
@@ -225,16 +230,31 @@ class Handle:
             self._keeper = self._depth = 0
             self._lock = threading.Lock()
         self._own_lock = threading.Lock()
+        self._asking = threading.RLock()
 
     def close(self) -> None:
         """Gives all memory of the database back. A second call does nothing."""
         with self._turn:
             self._kept.clear()
-            _CLOSE(self._at)
+            self._close()
 
     def __del__(self) -> None:
-        if hasattr(self, "_at"):
-            _CLOSE(self._at)
+        if hasattr(self, "_interrupter_at"):
+            self._close()
+
+    def _interrupt(self) -> None:
+        """Asks the select to end that is under way. It wants no turn."""
+        with self._asking:
+            if self._interrupter:
+                _INTERRUPT(self._interrupter_at)
+
+    def _close(self) -> None:
+        """Closes it, and what asks its selects to end."""
+        with self._asking:
+            if self._interrupter:
+                _INTERRUPTER_CLOSE(self._interrupter_at)
+                self._interrupter.value = None
+        _CLOSE(self._at)
 
     def execute(self, line: str, /, *parameters: Any, **named: Any) -> Any:
         """Executes a command, and returns its answer."""
@@ -379,8 +399,8 @@ class Handle:
 
     def _clone(self, copy: Handle) -> None:
         """Gives another handle, which has no statements, a copy of the tables."""
-        _CLOSE(copy._at)
-        self._check(_CLONE(self._at, copy._at))
+        copy._close()
+        self._check(_CLONE(self._at, copy._at) or _INTERRUPTER_OPEN(copy._at, copy._interrupter_at))
 
     def _leave(self) -> None:
         """Leaves the tables, and has none then."""
