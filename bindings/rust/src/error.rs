@@ -152,6 +152,8 @@ pub enum Error {
     /// Readers share the tables, so that nobody may change them: a reader was asked to, or one was forgotten and never dropped
     /// ([`std::mem::forget`]).
     Shared,
+    /// A select was asked to end by an [`Interrupter`](crate::Interrupter). Nothing has changed.
+    Interrupted,
     /// A table was changed between two pages of its rows, which [`Database::query_pages`](crate::Database::query_pages) read. It gives
     /// no row of the second.
     #[non_exhaustive]
@@ -287,6 +289,7 @@ impl fmt::Display for Error {
                 "the texts of the rows are more than 4 GiB, or there are 4294967296 statements, or 2^64 rows to count"
             ),
             Error::Shared => write!(to, "readers share the tables"),
+            Error::Interrupted => write!(to, "the select was interrupted"),
             Error::Changed { table } => write!(to, "the table {table} was changed between two pages of its rows"),
             Error::NoTransaction => write!(to, "no transaction is open"),
             Error::InTransaction => write!(to, "this is not done in a transaction, and one is open"),

@@ -279,6 +279,7 @@ fn refusal_of(
         Declined::NoMemory => Error::no_memory(filled, line.to_string()),
         Declined::TooLarge => Error::TooLarge,
         Declined::Shared => Error::Shared,
+        Declined::Interrupted => Error::Interrupted,
         Declined::Status(status) => Error::Status(status),
     }
 }

@@ -18,6 +18,7 @@ const TOO_LARGE: u32 = 13;
 const SHARED: u32 = 14;
 const NO_TRANSACTION: u32 = 15;
 const IN_TRANSACTION: u32 = 16;
+const INTERRUPTED: u32 = 18;
 
 /// The `mmdb` of mmdb.h.
 #[repr(C)]
@@ -143,6 +144,36 @@ extern "C" {
     fn mmdb_clone(db: *mut Inside, copy: *mut Inside) -> u32;
     fn mmdb_leave(reader: *mut Inside) -> u32;
     fn mmdb_close(db: *mut Inside);
+    fn mmdb_interrupter_open(db: *mut Inside, interrupter: *mut Asker) -> u32;
+    fn mmdb_interrupt(interrupter: *mut Asker);
+    fn mmdb_interrupter_close(interrupter: *mut Asker);
+}
+
+/// The `mmdb_interrupter` of mmdb.h, which is open until it is dropped, and may outlive its handle.
+#[repr(C)]
+pub(crate) struct Asker {
+    inside: *mut c_void,
+}
+
+// SAFETY: the library takes these calls from any thread, also while the handle is in a call, and asks only that they come one
+// after another for each. They do, as each has it as `&mut`.
+unsafe impl Send for Asker {}
+
+impl Asker {
+    /// Asks the select to end that is under way.
+    pub(crate) fn ask(&mut self) {
+        // SAFETY: it is open.
+        unsafe { mmdb_interrupt(self) }
+    }
+}
+
+impl Drop for Asker {
+    fn drop(&mut self) {
+        if !self.inside.is_null() {
+            // SAFETY: it is open, and is used no more.
+            unsafe { mmdb_interrupter_close(self) }
+        }
+    }
 }
 
 /// A statement of a handle, by its number.
@@ -171,6 +202,8 @@ pub(crate) enum Declined {
     TooLarge,
     /// It is a change, and a reader shares the tables.
     Shared,
+    /// It was asked to end.
+    Interrupted,
     /// The library gave another status.
     Status(u32),
 }
@@ -230,6 +263,15 @@ impl Handle {
     pub(crate) fn leave(&self) -> Result<(), Error> {
         // SAFETY: the handle is open. What it has lent stays as it is.
         without_line(unsafe { mmdb_leave(self.inside.get()) })
+    }
+
+    /// What asks the selects of this handle to end.
+    pub(crate) fn asker(&self) -> Result<Asker, Error> {
+        let mut asker = Asker {
+            inside: ptr::null_mut(),
+        };
+        // SAFETY: the handle is open, and what asks is closed, as null says.
+        without_line(unsafe { mmdb_interrupter_open(self.inside.get(), &mut asker) }).map(|()| asker)
     }
 
     fn over(inside: Inside) -> Handle {
@@ -476,6 +518,7 @@ fn done(status: u32) -> Result<(), Declined> {
         REFUSED => Err(Declined::Refused),
         TOO_LARGE => Err(Declined::TooLarge),
         SHARED => Err(Declined::Shared),
+        INTERRUPTED => Err(Declined::Interrupted),
         status => Err(Declined::Status(status)),
     }
 }
