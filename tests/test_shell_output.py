@@ -1,13 +1,16 @@
 """Where the answers of the shell go: files, commands and pages, and the bar of what takes long."""
 
+import contextlib
 import io
 import os
 import random
 import signal
+import subprocess
+import time
 import unittest
 import unittest.mock
 
-from support import shells
+from support import harness, shells
 from support.binding import mmdb
 from support.shells import COMPANY
 
@@ -340,7 +343,6 @@ class Late(shells.InThisProcess):
                 shell.run(typed)
         self.assertEqual(shell._out.getvalue(), "ok 1\nt.id\n1\n2\nt.id\n1\n2\n")
 
-
     def test_a_select_ends_once_its_rows_are_found(self):
         shell = self.shell()
         self.do(shell, "table t (id int)", "insert t (1)")
@@ -356,7 +358,53 @@ class Late(shells.InThisProcess):
             shell.db, execute=lambda *given: late(execute, *given), answer=lambda *given: late(answer, *given)
         ):
             shell.run(reading.Terminal())
-        self.assertEqual(shell._out.getvalue(), "interrupted\ninterrupted\n1\n")
+        self.assertEqual((shell._out.getvalue(), shell._err.getvalue()), ("1\n", 2 * "mmdb-shell: interrupted\n"))
+
+
+class LongSelects(shells.AtATerminal):
+    """Joins that would take a minute or more, and Ctrl-C."""
+
+    ROWS = 200_000
+    JOIN = "select a.id, b.id from a join b on a.n = b.n"
+
+    def setUp(self):
+        super().setUp()
+        loads = "".join(f"load {table} {len(block)}\n{block}" for table, block in (("a", self.block(0)), ("b", self.block(1))))
+        self.filled = self.file("filled", f"table a (id int, n int)\ntable b (id int, n int)\n{loads}")
+        self.selects = self.file("selects", f".print ready\n{self.JOIN}\n")
+
+    def block(self, value):
+        return "id,n\n" + "".join(f"{id},{value}\n" for id in range(self.ROWS))
+
+    def test_at_a_terminal(self):
+        shell = self.typed("--policy", "scan")
+        shell.ask(f".read {self.filled}")
+        lines = (self.JOIN, f"{self.JOIN} where a.id > 7", f".count {self.JOIN}", f".head 3 {self.JOIN}", f".plan {self.JOIN}")
+        for mode in ("box", "csv"):
+            shell.ask(f".mode {mode}")
+            for line in (*lines, f".read {self.selects}"):
+                with self.subTest(mode=mode, line=line):
+                    began = time.monotonic()
+                    shell.interrupt_line(line)
+                    self.assertLess(time.monotonic() - began, harness.SECONDS / 2)
+            self.assertEqual(shell.ask(".count a"), f"{self.ROWS}\n")
+        shell.ask(".parameter set 1 0")
+        shell.interrupt_line(f"{self.JOIN} where a.id >= ?")
+        shell.type(".quit\n")
+        self.assertEqual(shell.end(), 0)
+
+    def test_without_a_terminal(self):
+        """It ends the shell."""
+        words = ["--policy", "scan", "--mode", "json", self.filled, self.selects]
+        with subprocess.Popen([*shells.RUN, *words], env=self.environment(), stdout=subprocess.PIPE, stderr=subprocess.PIPE) as ran:
+            self.addCleanup(ran.stderr.close)
+            self.assertEqual(ran.stdout.readline(), b"ready\n")
+            while ran.poll() is None:
+                # (one that comes before the select begins is forgotten)
+                ran.send_signal(signal.SIGINT)
+                with contextlib.suppress(subprocess.TimeoutExpired):
+                    ran.wait(3)
+            self.assertEqual((ran.returncode, ran.stderr.read()), (130, b""))
 
 
 class LongWork(shells.AtATerminal):

@@ -67,9 +67,11 @@ def _count(shell: Shell, what: str = "") -> None:
 def _selected(shell: Shell, line: str) -> int:
     """How many rows a select has."""
     bound, values = shell.parameters.bind(line.encode())
-    if values:
-        return len(shell.db.select(bound.decode(), *values))
-    return count_in(answer(shell.db, bound))
+    try:
+        return shell.db.count(bound.decode(), *values)
+    except ValueError:
+        # (what isn't UTF-8, or has a place for a parameter, is refused as such)
+        return count_in(answer(shell.db, bound))
 
 
 @dotted(
@@ -85,7 +87,7 @@ def _head(shell: Shell, word: str, rest: str = "") -> None:
     most = int(number[:9])
     if _is_select(what):
         line, values = shell.parameters.bind(what.encode())
-        rows = shell.db.select(line.decode(), *values)
+        rows = shell.db.first(most, line.decode(), *values)
     else:
         rows = _first_rows(shell.db, table_of(shell.db, what), most)
     shell.show(rows.names, rows[:most])

@@ -2,18 +2,21 @@
 
 from __future__ import annotations
 
+import os
 import signal
+import threading
 from types import FrameType
-from typing import Optional
+from typing import Callable, Optional
 
 
 class Interrupts:
     """What Ctrl-C does: it is noted, and only where it is allowed it raises KeyboardInterrupt at once. So none comes
-    between a call of the library and what has to follow it."""
+    between a call of the library and what has to follow it. A select that is under way is asked to end."""
 
-    def __init__(self) -> None:
+    def __init__(self, ask: Callable[[], object] = lambda: None) -> None:
         self._is_allowed = False
         self._is_noted = False
+        self._ask = ask
 
     def install(self) -> None:
         """Takes Ctrl-C, and lets the end of the terminal, or of the shell's time, unwind the program. What was ignored
@@ -22,6 +25,20 @@ class Interrupts:
         for number, taken in ends.items():
             if signal.getsignal(number) is not signal.SIG_IGN:
                 signal.signal(number, taken)
+        self._watch()
+
+    def _watch(self) -> None:
+        """Has a thread ask selects to end: Python calls a function for a signal only between the calls of the library, and notes in
+        a pipe at once that one came."""
+        read_end, write_end = os.pipe()
+        os.set_blocking(write_end, False)
+        signal.set_wakeup_fd(write_end, warn_on_full_buffer=False)
+        threading.Thread(target=self._ask_on_interrupts, args=(read_end,), daemon=True).start()
+
+    def _ask_on_interrupts(self, signals: int) -> None:
+        while True:
+            if signal.SIGINT in os.read(signals, 256):
+                self._ask()
 
     def allowed(self) -> "_Allowed":
         """Lets KeyboardInterrupt come meanwhile, and at once if one was noted."""
@@ -48,6 +65,8 @@ class Interrupts:
             self._is_allowed = False
             raise KeyboardInterrupt
         self._is_noted = True
+        # (with the extension this may be called in a select, which goes on if nobody else asks)
+        self._ask()
 
     def _on_end(self, number: int, _frame: Optional[FrameType]) -> None:
         raise SystemExit(128 + number)

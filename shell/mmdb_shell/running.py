@@ -128,7 +128,7 @@ def _do_init(shell: Shell) -> None:
     except Bailed:
         pass
     except KeyboardInterrupt:
-        shell.output.say("interrupted\n")
+        shell.tell("interrupted")
 
 
 def init_file() -> str:

@@ -3,6 +3,7 @@
 from __future__ import annotations
 
 import os
+import re
 import time
 from contextlib import contextmanager
 from typing import Iterable, Iterator, List, NamedTuple, Optional, Sequence, TextIO, Union
@@ -35,6 +36,8 @@ _DEEPEST = 16
 _NO_COMMAND = (10, 11, 20)
 # How blank lines and comments begin.
 _NO_WORD = (b"", b"#", b"\r")
+# What only a select of several tables has, outside of texts.
+_JOIN = re.compile(rb"\bjoin\b")
 # The commands whose answers count the rows that were changed.
 _CHANGES = (b"insert", b"update", b"delete", b"load")
 
@@ -57,7 +60,7 @@ class Shell:
         self.settings = settings
         self.db = settings.opened()
         self.transactions = Transactions(self.db)
-        self.interrupts = Interrupts()
+        self.interrupts = Interrupts(lambda: self.db.interrupt())
         self.output = Output(out, self.interrupts)
         self.look = look
         self.mode = "box" if is_at_terminal else "csv"
@@ -109,12 +112,15 @@ class Shell:
                 return False
             self._do(requests, request)
             self.done += 1
-        except KeyboardInterrupt as why:
+        except (KeyboardInterrupt, mmdb.Interrupted) as why:
             if not source.is_typed:
-                raise
+                raise KeyboardInterrupt from why
             self.output.failed(why)
             requests.forget()
-            self.output.say("interrupted\n" if self._is_doing else "\n")
+            if self._is_doing:
+                self.tell("interrupted")
+            else:
+                self.output.say("\n")
         except Bailed:
             if not source.is_typed:
                 raise
@@ -195,7 +201,7 @@ class Shell:
                 block = source.block(length, self.settings.block)
         self.transactions.keeps = source.is_typed or source.number <= MOST_LINES
         began = time.perf_counter()
-        told = self._answered(self._line, block, values)
+        told = self._answered(self._line, block, values, source.is_typed)
         took = time.perf_counter() - began
         if isinstance(told, str):
             self._show_answer(source, line.split(None, 1)[0], told)
@@ -204,8 +210,11 @@ class Shell:
         if self.has_timer:
             self.say(f"time: {took:.6f} s\n")
 
-    def _answered(self, line: bytes, block: Optional[bytes], values: Sequence[mmdb.Value] = ()) -> Answer:
-        """The rows of a select, with the types of their columns; of another line what the library answers."""
+    def _answered(
+        self, line: bytes, block: Optional[bytes], values: Sequence[mmdb.Value] = (), is_typed: bool = False
+    ) -> Answer:
+        """The rows of a select, with the types of their columns; of another line what the library answers. (What it answers isn't cut by
+        Ctrl-C, so that a join that is typed, which may take long, has rows.)"""
         if not line.lstrip(b" \t").startswith(b"select"):
             if not values:
                 return self.transactions.answer(line, block).decode()
@@ -213,7 +222,7 @@ class Shell:
         ranges = None if values or self.has_timer else by_range(self.db, line)
         if ranges is not None:
             return ranges
-        if self.mode == "csv" and not values:
+        if self.mode == "csv" and not values and not (is_typed and _JOIN.search(line)):
             return RowsAsRecords(self.db, line)
         return self._executed(line, values)
 
