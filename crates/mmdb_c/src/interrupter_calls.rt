@@ -37,8 +37,9 @@ pub extern "C" fn mmdb_interrupter_open(
         return IS_OPEN;
     }
     let made = database.inner.interrupter(alloc);
+    let own = boxed(alloc, made);
     handle.put(alloc, database);
-    match boxed(alloc, made) {
+    match own {
         Ok(own) => {
             interrupter.put(alloc, own);
             DONE
