@@ -11,10 +11,11 @@
    address. Each handle is for one call at a time, whichever thread makes it, also where it is the second handle of a
    call. A lock, or a thread's start or end, orders the calls on a handle. Calls on two handles may run at the same time.
    Handles share no tables unless mmdb_share says so: then each of them reads the tables, and none changes them. To write,
-   have every other handle leave first. Nothing here is to be called from a signal handler.
+   have every other handle leave first. Nothing here but mmdb_interrupt is to be called from a signal handler.
 
    Nothing is kept on disk, and no call reads or writes a file or a socket. No call ends the process: one that runs out
-   of memory gives MMDB_NO_MEMORY or `error 90`. Only mmdb_close frees what a handle holds.
+   of memory gives MMDB_NO_MEMORY or `error 90`. Only mmdb_close frees what a handle holds, and only
+   mmdb_interrupter_close what an interrupter holds.
 
    Bytes go in by a pointer and a length. They need no zero byte behind them, are read during the call alone, and stay
    the caller's. They are not what the same handle answered: to give that back to it, copy it first. None of the
@@ -57,10 +58,17 @@ typedef struct mmdb {
     void *inside;
 } mmdb;
 
+/* What ends the selects of a database, or nothing where inside is null. It is a handle of its own, and never copied. */
+typedef struct mmdb_interrupter {
+    void *inside;
+} mmdb_interrupter;
+
 #ifdef __cplusplus
 #define MMDB_CLOSED {}
+#define MMDB_NO_INTERRUPTER {}
 #else
 #define MMDB_CLOSED { NULL }
+#define MMDB_NO_INTERRUPTER { NULL }
 #endif
 
 /* Bytes that the library keeps. They do not end in a zero byte. `at` is never null, also of no bytes. */
@@ -105,15 +113,16 @@ typedef struct mmdb_statement {
 typedef enum mmdb_status {
     MMDB_DONE = 0,
     MMDB_NOT_OPEN = 1,           /* the handle is closed, or null */
-    MMDB_IS_OPEN = 2,            /* mmdb_open of a handle that is open, mmdb_clone into one; it stays as it is */
+    MMDB_IS_OPEN = 2,            /* mmdb_open of a handle that is open, mmdb_clone into one, mmdb_interrupter_open of an
+                                    interrupter that is open; it stays as it is */
     MMDB_NO_SUCH_POLICY = 3,     /* mmdb_open with a number that is none of mmdb_policy */
     MMDB_LIMIT_OUT_OF_RANGE = 4, /* mmdb_open with rows that are not 1 to MMDB_MOST, or a block past MMDB_MOST */
     MMDB_NO_LINE = 5,            /* a line that is null or has no bytes; a block, a piece or a name that is null and has
                                     some */
     MMDB_NOT_ONE_REQUEST = 6,    /* a line feed in a line; a line that asks for a block of another length than given */
-    MMDB_NO_MEMORY = 7,          /* mmdb_open, mmdb_begin, mmdb_share, mmdb_leave, mmdb_clone, mmdb_prepare, mmdb_bind_text
-                                    of more than 14 bytes, and the calls that tell a reason: none was found. mmdb_feed:
-                                    none for the answers; the stream is over */
+    MMDB_NO_MEMORY = 7,          /* mmdb_open, mmdb_interrupter_open, mmdb_begin, mmdb_share, mmdb_leave, mmdb_clone,
+                                    mmdb_prepare, mmdb_bind_text of more than 14 bytes, and the calls that tell a reason:
+                                    none was found. mmdb_feed: none for the answers; the stream is over */
     MMDB_ENDED = 8,              /* mmdb_feed of a stream that is over; the other calls go on */
     MMDB_NO_SUCH_STATEMENT = 9,  /* the number names no statement, or one that was finalised */
     MMDB_NO_SUCH_PLACE = 10,     /* the statement has no place of that number */
@@ -128,7 +137,9 @@ typedef enum mmdb_status {
                                     mmdb_feed, mmdb_begin: another handle shares the tables. Nothing changed */
     MMDB_NO_TRANSACTION = 15,    /* mmdb_commit, mmdb_rollback: no transaction is open */
     MMDB_IN_TRANSACTION = 16,    /* mmdb_share, mmdb_leave, mmdb_clone: a transaction is open. Nothing changed */
-    MMDB_NOT_ROWS = 17           /* mmdb_execute_many: the cells are no rows of the statement's values. Nothing changed */
+    MMDB_NOT_ROWS = 17,          /* mmdb_execute_many: the cells are no rows of the statement's values. Nothing changed */
+    MMDB_INTERRUPTED = 18        /* mmdb_execute, mmdb_first, mmdb_count and mmdb_query of a select: mmdb_interrupt ended it
+                                    while it was under way. Nothing changed */
 } mmdb_status;
 
 /* How plans are chosen. No policy changes an answer, only what it costs. MMDB_AUTO is the one to take. */
@@ -143,7 +154,7 @@ typedef enum mmdb_policy {
 /* The greatest number of rows of a table, and of bytes of a block. */
 #define MMDB_MOST UINT32_C(16777216)
 
-/* The calls. Each gives an mmdb_status, but for the three that say otherwise. */
+/* The calls. Each gives an mmdb_status, but for the five that say otherwise or give nothing. */
 
 /* Opens a database without tables. A table takes `rows` rows at most, from 1 to MMDB_MOST, and a block that is loaded
    or dumped has `block` bytes at most, from 0 to MMDB_MOST; no memory is taken ahead for either.
@@ -189,7 +200,7 @@ uint32_t mmdb_bind_null(mmdb *db, uint32_t statement, uint32_t place);
    rows or finalised, or the handle is closed; of the others `changed`, and no rows. Or gives MMDB_REFUSED as the line
    with these values would be, in the same order, and by 90 when out of memory; MMDB_TOO_LARGE where the texts of its rows
    are more than 4 GiB together; MMDB_SHARED where it is no select, its names and values are right, and another handle
-   shares the tables; or MMDB_NOT_OPEN or MMDB_NO_SUCH_STATEMENT. */
+   shares the tables; MMDB_INTERRUPTED of a select; or MMDB_NOT_OPEN or MMDB_NO_SUCH_STATEMENT. */
 uint32_t mmdb_execute(mmdb *db, uint32_t statement, mmdb_rows *rows);
 
 /* Does what an insert, an update or a delete does with many rows of values: all of them, or none. There are `count` cells,
@@ -215,8 +226,8 @@ uint32_t mmdb_columns(mmdb *db, uint32_t statement, mmdb_rows *columns);
 /* How many rows a select shows with the bound values: as many as mmdb_execute would give. They are counted and not kept,
    and what the statement has shown stays. The rows of one whole table are counted without a look at them.
    Gives MMDB_DONE and the count; or MMDB_REFUSED as mmdb_execute would be, in the same order, or else by 20 where the
-   statement is no select, which is not done; or MMDB_TOO_LARGE where there are 2^64 rows or more; or MMDB_NOT_OPEN or
-   MMDB_NO_SUCH_STATEMENT. */
+   statement is no select, which is not done; or MMDB_TOO_LARGE where there are 2^64 rows or more; or MMDB_INTERRUPTED,
+   MMDB_NOT_OPEN or MMDB_NO_SUCH_STATEMENT. */
 uint32_t mmdb_count(mmdb *db, uint32_t statement, uint64_t *count);
 
 /* The first rows that a select shows with the bound values, so many at most, in the order in which mmdb_execute gives all.
@@ -227,7 +238,7 @@ uint32_t mmdb_count(mmdb *db, uint32_t statement, uint64_t *count);
    one page gives the next, and nothing is held between two pages, while the tables may change.
    Gives MMDB_DONE and the rows; or MMDB_REFUSED as mmdb_execute would be, in the same order, or else by 20 where the
    statement is no select, which is not done; or MMDB_TOO_LARGE where the texts of these rows are more than 4 GiB together;
-   or MMDB_NOT_OPEN or MMDB_NO_SUCH_STATEMENT. */
+   or MMDB_INTERRUPTED, MMDB_NOT_OPEN or MMDB_NO_SUCH_STATEMENT. */
 uint32_t mmdb_first(mmdb *db, uint32_t statement, size_t most, mmdb_rows *rows);
 
 /* Frees a statement: its rows are good no longer, and its number may be given to another. It needs no memory. The
@@ -242,9 +253,30 @@ uint32_t mmdb_finalize(mmdb *db, uint32_t statement);
    whatever other calls there are; of the others `changed`, and no rows. Or gives MMDB_NOT_OPEN or MMDB_NO_LINE; or
    MMDB_REFUSED as mmdb_command would be answered, in the same order, and by 90 when out of memory. A line feed, a ? in
    no text, blanks, comments and all other commands are 20, once the line is neither too long (10) nor other than UTF-8
-   (11). Or gives MMDB_TOO_LARGE where the texts of the rows are more than 4 GiB together; or MMDB_SHARED as mmdb_execute
-   does. */
+   (11). Or gives MMDB_TOO_LARGE where the texts of the rows are more than 4 GiB together; or MMDB_SHARED or
+   MMDB_INTERRUPTED as mmdb_execute does. */
 uint32_t mmdb_query(mmdb *db, const void *line, size_t length, mmdb_rows *rows);
+
+/* Opens what ends the selects of a handle. Several may be opened of one handle, and each is closed by itself. One that
+   outlives its database does nothing from then on. A handle keeps its interrupters where it shares tables and leaves them;
+   a reader that mmdb_share opens, and a copy, begin with none.
+   Gives MMDB_DONE, and then the interrupter is open until mmdb_interrupter_close; or MMDB_NOT_OPEN where db is closed or a
+   handle is null, MMDB_IS_OPEN where the interrupter is open, or MMDB_NO_MEMORY. Then it is as it was. */
+uint32_t mmdb_interrupter_open(mmdb *db, mmdb_interrupter *interrupter);
+
+/* Asks the select that is under way in a call on that handle to end; mmdb_execute, mmdb_first, mmdb_count or mmdb_query then
+   gives MMDB_INTERRUPTED. Where none is under way nothing comes of it, as each select begins unasked. It is called from any
+   thread, also while the handle is in a call, and from a signal handler: it takes no memory and no lock, and waits for
+   nothing. Who interrupts from two threads, or from one and from a handler, opens two interrupters. The select looks once
+   for each row or pair that it joins, walks or shows. It doesn't look in a search by an index, where it makes a hash of one
+   table for a join, sorts what it found, or tells rows apart for `distinct`. Each of these takes some seconds at most for
+   ten million rows. No change is cut, nor an answer of mmdb_command, mmdb_load and mmdb_feed. Of a closed interrupter and
+   of null nothing is done. */
+void mmdb_interrupt(mmdb_interrupter *interrupter);
+
+/* Closes an interrupter and frees it, while no mmdb_interrupt is in it. It is MMDB_NO_INTERRUPTER then, and may be opened
+   again. Of a closed one and of null nothing is done. */
+void mmdb_interrupter_close(mmdb_interrupter *interrupter);
 
 /* Takes the next bytes of a stream of lines and blocks, cut wherever it may be, and answers each request that ends in
    them, at its line feed or with the last byte of its block; mmdb_answer gives these answers. A request whose end is
@@ -378,44 +410,26 @@ static inline mmdb_bytes mmdb_text(const mmdb_rows *rows, const mmdb_cell *cell)
 static inline const char *mmdb_status_text(uint32_t status)
 {
     switch (status) {
-    case MMDB_DONE:
-        return "done";
-    case MMDB_NOT_OPEN:
-        return "the database is not open";
-    case MMDB_IS_OPEN:
-        return "the database is open already";
-    case MMDB_NO_SUCH_POLICY:
-        return "no such policy";
-    case MMDB_LIMIT_OUT_OF_RANGE:
-        return "a limit is out of range";
-    case MMDB_NO_LINE:
-        return "no line, or null with a length";
-    case MMDB_NOT_ONE_REQUEST:
-        return "not one line with the block that it asks for";
-    case MMDB_NO_MEMORY:
-        return "no memory";
-    case MMDB_ENDED:
-        return "the stream is over";
-    case MMDB_NO_SUCH_STATEMENT:
-        return "no such statement";
-    case MMDB_NO_SUCH_PLACE:
-        return "the statement has no such place";
-    case MMDB_NOT_UTF8:
-        return "the text is not UTF-8";
-    case MMDB_REFUSED:
-        return "refused, as the answer tells";
-    case MMDB_TOO_LARGE:
-        return "more than 4 GiB of texts, 4294967296 statements, or 2^64 rows to count";
-    case MMDB_SHARED:
-        return "another handle shares the tables";
-    case MMDB_NO_TRANSACTION:
-        return "no transaction is open";
-    case MMDB_IN_TRANSACTION:
-        return "not done in a transaction";
-    case MMDB_NOT_ROWS:
-        return "the cells are no rows of the statement's values";
-    default:
-        return "no such status";
+    case MMDB_DONE: return "done";
+    case MMDB_NOT_OPEN: return "the database is not open";
+    case MMDB_IS_OPEN: return "the handle is open already";
+    case MMDB_NO_SUCH_POLICY: return "no such policy";
+    case MMDB_LIMIT_OUT_OF_RANGE: return "a limit is out of range";
+    case MMDB_NO_LINE: return "no line, or null with a length";
+    case MMDB_NOT_ONE_REQUEST: return "not one line with the block that it asks for";
+    case MMDB_NO_MEMORY: return "no memory";
+    case MMDB_ENDED: return "the stream is over";
+    case MMDB_NO_SUCH_STATEMENT: return "no such statement";
+    case MMDB_NO_SUCH_PLACE: return "the statement has no such place";
+    case MMDB_NOT_UTF8: return "the text is not UTF-8";
+    case MMDB_REFUSED: return "refused, as the answer tells";
+    case MMDB_TOO_LARGE: return "more than 4 GiB of texts, 4294967296 statements, or 2^64 rows to count";
+    case MMDB_SHARED: return "another handle shares the tables";
+    case MMDB_NO_TRANSACTION: return "no transaction is open";
+    case MMDB_IN_TRANSACTION: return "not done in a transaction";
+    case MMDB_NOT_ROWS: return "the cells are no rows of the statement's values";
+    case MMDB_INTERRUPTED: return "the select was interrupted";
+    default: return "no such status";
     }
 }
 
@@ -487,9 +501,7 @@ static inline mmdb_status mmdb_checked_command(mmdb *db, const void *line, size_
     mmdb_bytes *to = mmdb_checked_answer_at(answer, &unwanted);
     if (mmdb_checked_is_closed(db))
         return MMDB_NOT_OPEN;
-    if (!line)
-        return MMDB_NO_LINE;
-    return mmdb_checked_status(mmdb_command(db, line, length, to));
+    return line ? mmdb_checked_status(mmdb_command(db, line, length, to)) : MMDB_NO_LINE;
 }
 
 static inline mmdb_status mmdb_checked_load(mmdb *db, const void *line, size_t length, const void *block,
@@ -510,9 +522,7 @@ static inline mmdb_status mmdb_checked_prepare(mmdb *db, const void *line, size_
     mmdb_statement *to = mmdb_checked_statement_at(statement, &unwanted);
     if (mmdb_checked_is_closed(db))
         return MMDB_NOT_OPEN;
-    if (!line)
-        return MMDB_NO_LINE;
-    return mmdb_checked_status(mmdb_prepare(db, line, length, to));
+    return line ? mmdb_checked_status(mmdb_prepare(db, line, length, to)) : MMDB_NO_LINE;
 }
 
 static inline mmdb_status mmdb_checked_bind_integer(mmdb *db, uint32_t statement, uint32_t place, int64_t value)
@@ -592,9 +602,26 @@ static inline mmdb_status mmdb_checked_query(mmdb *db, const void *line, size_t 
     mmdb_rows *to = mmdb_checked_rows_at(rows, &unwanted);
     if (mmdb_checked_is_closed(db))
         return MMDB_NOT_OPEN;
-    if (!line)
-        return MMDB_NO_LINE;
-    return mmdb_checked_status(mmdb_query(db, line, length, to));
+    return line ? mmdb_checked_status(mmdb_query(db, line, length, to)) : MMDB_NO_LINE;
+}
+
+static inline mmdb_status mmdb_checked_interrupter_open(mmdb *db, mmdb_interrupter *interrupter)
+{
+    if (mmdb_checked_is_closed(db) || !interrupter)
+        return MMDB_NOT_OPEN;
+    return mmdb_checked_status(mmdb_interrupter_open(db, interrupter));
+}
+
+static inline void mmdb_checked_interrupt(mmdb_interrupter *interrupter)
+{
+    if (interrupter && interrupter->inside)
+        mmdb_interrupt(interrupter);
+}
+
+static inline void mmdb_checked_interrupter_close(mmdb_interrupter *interrupter)
+{
+    if (interrupter && interrupter->inside)
+        mmdb_interrupter_close(interrupter);
 }
 
 static inline mmdb_status mmdb_checked_feed(mmdb *db, const void *piece, size_t length)
@@ -668,9 +695,7 @@ static inline mmdb_status mmdb_checked_prepare_reason(mmdb *db, const void *line
     mmdb_bytes *to = mmdb_checked_answer_at(reason, &unwanted);
     if (mmdb_checked_is_closed(db))
         return MMDB_NOT_OPEN;
-    if (!line)
-        return MMDB_NO_LINE;
-    return mmdb_checked_status(mmdb_prepare_reason(db, line, length, to));
+    return line ? mmdb_checked_status(mmdb_prepare_reason(db, line, length, to)) : MMDB_NO_LINE;
 }
 
 static inline mmdb_status mmdb_checked_statement_reason(mmdb *db, uint32_t statement, mmdb_bytes *reason)
@@ -741,6 +766,9 @@ static inline void mmdb_checked_close(mmdb *db)
 #define mmdb_first mmdb_checked_first
 #define mmdb_finalize mmdb_checked_finalize
 #define mmdb_query mmdb_checked_query
+#define mmdb_interrupter_open mmdb_checked_interrupter_open
+#define mmdb_interrupt mmdb_checked_interrupt
+#define mmdb_interrupter_close mmdb_checked_interrupter_close
 #define mmdb_feed mmdb_checked_feed
 #define mmdb_indexes mmdb_checked_indexes
 #define mmdb_version mmdb_checked_version
