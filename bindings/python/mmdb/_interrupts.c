@@ -176,8 +176,10 @@ static uint32_t take_interruptibly(Handle *handle, Step *step, int64_t *took)
 uint32_t take_step(Handle *handle, Step *step, Pace *pace, int is_select)
 {
     int64_t took;
-    uint32_t status = is_select ? take_interruptibly(handle, step, &took) : take_freely(handle, step, &took);
-    pace->quick = took <= QUICK ? QUICK_ONES : 0;
+    int is_long = is_select && !(pace->was_quick && pace->commands == handle->commands);
+    uint32_t status = is_long ? take_interruptibly(handle, step, &took) : take_freely(handle, step, &took);
+    pace->was_quick = took <= QUICK;
+    pace->quick = pace->was_quick ? QUICK_ONES : 0;
     pace->commands = handle->commands;
     return status;
 }

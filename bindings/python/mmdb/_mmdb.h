@@ -30,6 +30,7 @@ static inline PyObject *none(void)
 typedef struct {
     uint32_t kind;     /* of lines, or 0 */
     unsigned quick;    /* how many more executions are taken to be quick, and hold the interpreter's lock */
+    int was_quick;     /* whether the last one was that was looked at */
     uint64_t commands; /* how many lines and loads there were when that was found */
 } Pace;
 
@@ -137,11 +138,11 @@ void interrupts_ask(Handle *handle);
 /* Whether a step is taken to be quick, as one before it was. */
 int is_quick(const Handle *handle, Pace *pace);
 
-/* Takes a step while other threads go on, and notes whether it was quick. A select may be asked to end. Gives an mmdb_status, or
-   STEP_RAISED. */
+/* Takes a step while other threads go on, and notes whether it was quick. A select may be asked to end, by a signal only if the last
+   one that was looked at wasn't quick. Gives an mmdb_status, or STEP_RAISED. */
 uint32_t take_step(Handle *handle, Step *step, Pace *pace, int is_select);
 
-/* The same of a select. One that is taken to be quick isn't ended by a signal. */
+/* The same of a select, which may be taken to be quick. */
 uint32_t take_select(Handle *handle, Step *step, Pace *pace);
 
 /* What _mmdb.c has. */

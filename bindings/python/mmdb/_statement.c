@@ -383,7 +383,8 @@ static int execute(Handle *handle, Statement *statement, PyObject *const *values
     Pace *pace = pace_of(handle, statement);
     if (is_quick(handle, pace)) {
         status = mmdb_execute(&handle->db, statement->given.number, rows);
-        pace->quick = rows->rows > MANY_ROWS ? 0 : pace->quick;
+        if (rows->rows > MANY_ROWS)
+            pace->quick = pace->was_quick = 0;
     } else {
         Step step = { .take = execute_by, .statement = statement->given.number, .rows = rows };
         status = take_step(handle, &step, pace, statement->is_select);
