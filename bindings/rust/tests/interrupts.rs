@@ -205,7 +205,10 @@ fn it_outlives_the_database() {
             (0..100).for_each(|_| interrupter.interrupt());
             interrupter
         });
-        assert_eq!(selected(&db, "select * from t where id < 2", []), [row(1, "a")]);
+        match db.query("select * from t where id < 2", []) {
+            Ok(rows) => assert_eq!(rows.to_vec(), [row(1, "a")]),
+            ended => assert_eq!(ended, Err(Error::Interrupted)),
+        }
         drop(db);
         asking.join().unwrap().interrupt();
     }
