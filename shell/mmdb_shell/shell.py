@@ -182,6 +182,8 @@ class Shell:
         if front[:1] in _NO_WORD and (is_blank(front) or is_comment(front)):
             self.transactions.check_spelling(request.line)
             return
+        # (one that has come before a select begins would not end it)
+        self.interrupts.check()
         try:
             if front.startswith(b"."):
                 commands.do(self, request.line.decode("utf-8", "surrogateescape").rstrip("\r"))
@@ -201,7 +203,7 @@ class Shell:
                 block = source.block(length, self.settings.block)
         self.transactions.keeps = source.is_typed or source.number <= MOST_LINES
         began = time.perf_counter()
-        told = self._answered(self._line, block, values, source.is_typed)
+        told = self._answered(self._line, block, values)
         took = time.perf_counter() - began
         if isinstance(told, str):
             self._show_answer(source, line.split(None, 1)[0], told)
@@ -210,11 +212,8 @@ class Shell:
         if self.has_timer:
             self.say(f"time: {took:.6f} s\n")
 
-    def _answered(
-        self, line: bytes, block: Optional[bytes], values: Sequence[mmdb.Value] = (), is_typed: bool = False
-    ) -> Answer:
-        """The rows of a select, with the types of their columns; of another line what the library answers. (What it answers isn't cut by
-        Ctrl-C, so that a join that is typed, which may take long, has rows.)"""
+    def _answered(self, line: bytes, block: Optional[bytes], values: Sequence[mmdb.Value] = ()) -> Answer:
+        """The rows of a select, with the types of their columns; of another line what the library answers."""
         if not line.lstrip(b" \t").startswith(b"select"):
             if not values:
                 return self.transactions.answer(line, block).decode()
@@ -222,7 +221,8 @@ class Shell:
         ranges = None if values or self.has_timer else by_range(self.db, line)
         if ranges is not None:
             return ranges
-        if self.mode == "csv" and not values and not (is_typed and _JOIN.search(line)):
+        # (what is answered isn't cut by Ctrl-C, and a join may take long)
+        if self.mode == "csv" and not values and not (self.is_at_terminal and _JOIN.search(line)):
             return RowsAsRecords(self.db, line)
         return self._executed(line, values)
 
