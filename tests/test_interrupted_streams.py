@@ -13,7 +13,7 @@ from support import compiling, drawn, sizes, storms
 
 SEED = 20261130
 FIRST = sizes.said("MMDB_FIRST", 0)
-STREAMS = sizes.said("MMDB_STREAMS", sizes.size(60, 10_000, 20))
+STREAMS = sizes.said("MMDB_STREAMS", sizes.size(100, 10_000, 60))
 ENDED = re.compile(rb"(\d+) selects were ended\n")
 ROOM = compiling.Room()
 
