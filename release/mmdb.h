@@ -268,10 +268,10 @@ uint32_t mmdb_interrupter_open(mmdb *db, mmdb_interrupter *interrupter);
    gives MMDB_INTERRUPTED. Where none is under way nothing comes of it, as each select begins unasked. It is called from any
    thread, also while the handle is in a call, and from a signal handler: it takes no memory and no lock, and waits for
    nothing. Who interrupts from two threads, or from one and from a handler, opens two interrupters. The select looks once
-   for each row or pair that it joins, walks or shows. It doesn't look in a search by an index, where it makes a hash of one
-   table for a join, sorts what it found, or tells rows apart for `distinct`. Each of these takes some seconds at most for
-   ten million rows. No change is cut, nor an answer of mmdb_command, mmdb_load and mmdb_feed. Of a closed interrupter and
-   of null nothing is done. */
+   for each row or pair that it joins, walks or shows. It doesn't look while it searches one table, makes a hash of one for
+   a join, sorts what it found, or tells rows apart for `distinct`. Each of these takes some seconds at most for a million
+   rows. No change is cut, nor an answer of mmdb_command, mmdb_load and mmdb_feed. Of a closed interrupter and of null
+   nothing is done. */
 void mmdb_interrupt(mmdb_interrupter *interrupter);
 
 /* Closes an interrupter and frees it, while no mmdb_interrupt is in it. It is MMDB_NO_INTERRUPTER then, and may be opened
