@@ -6,7 +6,7 @@ ghost use Rattle.mm_relation.specs.declared.row.Cell.TheVariants.{Held, Link};
 
 use no_memory::NoMemory;
 use part_raw::TupleRef;
-use plain_tables::{SeenValue, StoredValue, Text, Value};
+use plain_tables::{StoredValue, Value};
 use std::alloc::Global;
 use std::marker::Model;
 use std::mem;
@@ -71,13 +71,9 @@ impl StoredCell {
     pub(crate) fn copied(&self, alloc: Global) -> Result<StoredCell, NoMemory>
         ensures { IfOk result (λ copy. copy ≡ self.now) }
     {
-        let value = match self.value.seen() {
-            SeenValue::Null => StoredValue::pack(Value::Null),
-            SeenValue::Int(integer) => StoredValue::pack(Value::Int(integer)),
-            SeenValue::Text(text) => StoredValue::pack(Value::Text(Text::from_str(alloc, text)?)),
-            SeenValue::Link(number) => StoredValue::link(number),
-        };
-        Ok(StoredCell { value })
+        Ok(StoredCell {
+            value: self.value.try_clone(alloc)?,
+        })
     }
 
     // Moves a value of the row's own out, and leaves null. A link stays there too.

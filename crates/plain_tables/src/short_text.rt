@@ -43,6 +43,17 @@ impl ShortText {
         })
     }
 
+    /// A copy of the text as it is kept.
+    #[inline]
+    pub fn copied(&self) -> ShortText
+        ensures { result ≡ self.now }
+    {
+        ShortText {
+            length: self.length,
+            bytes: self.bytes,
+        }
+    }
+
     /// The text as it is kept.
     pub fn as_str(&self) -> &str
         ensures { result.now ≡ self.now }

@@ -1,13 +1,16 @@
 //! A value as a row keeps it, in 16 bytes.
-ghost use Rattle.std.specs.Prelude.{◌≡◌, None};
+ghost use Rattle.std.specs.Prelude.{◌≡◌, None, IfOk};
+ghost use Rattle.std.specs.String.{string_bytes};
 ghost use Rattle.plain_tables.specs.Values.{value_cmp, is_null};
 ghost use Rattle.plain_tables.specs.Stored.{link_value, link_number, value_seen};
 
+use crate::NoMemory;
 use crate::seen_value::SeenValue;
 use crate::short_text::ShortText;
 use crate::sought_value::SoughtValue;
 use crate::text::Kept;
 use crate::value::Value;
+use std::alloc::Global;
 use std::cmp::Ordering;
 use std::marker::Model;
 use std::mem::size_of;
@@ -20,6 +23,14 @@ enum Content {
     Link(u32),
     Short(ShortText),
     Long(Box<String>),
+}
+
+// A copy of a text, with memory of its own. It stands apart, so that a copy of a short one is quick.
+#[inline(never)]
+fn copy_long(text: &Box<String>, alloc: Global) -> Result<Box<String>, NoMemory>
+    ensures { IfOk result (λ copy. string_bytes copy.value ≡ string_bytes text.now.value) }
+{
+    Ok(Box::new(alloc, String::from_str(alloc, text.as_str())?)?)
 }
 
 /// A value as a row keeps it: null, an integer, a text, or a link to a row of another table. It takes 16 bytes, and a
@@ -97,6 +108,21 @@ impl StoredValue {
             Content::Short(text) => SeenValue::Text(text.as_str()),
             Content::Long(text) => SeenValue::Text(text.as_str()),
         }
+    }
+
+    /// A copy. Only one of a text of more than 14 bytes takes memory.
+    #[inline]
+    pub fn try_clone(&self, alloc: Global) -> Result<StoredValue, NoMemory>
+        ensures { IfOk result (λ copy. copy ≡ self.now) }
+    {
+        let content = match &self.content {
+            Content::Null => Content::Null,
+            Content::Int(z) => Content::Int(*z),
+            Content::Link(number) => Content::Link(*number),
+            Content::Short(text) => Content::Short(text.copied()),
+            Content::Long(text) => Content::Long(copy_long(text, alloc)?),
+        };
+        Ok(StoredValue { content })
     }
 
     /// Whether it is null.

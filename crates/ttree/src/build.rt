@@ -63,9 +63,7 @@ pub(crate) fn hang_leaf<const MAX: usize>(
     ensures spares { spares_at editor.new + 1 ≡ spares_at editor.old }
 {
     editor.new_leaf(side, refs[0]);
-    for i in 1..refs.len() {
-        editor.put(i, refs[i]);
-    }
+    editor.put_behind(&refs[1..]);
 }
 
 // Hangs a leaf with the middle of these references on an open side of the place, or makes it the root, and goes there.

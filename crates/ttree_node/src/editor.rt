@@ -1,5 +1,5 @@
 //! A place in a tree that is changed there.
-ghost use Rattle.std.specs.Prelude.{◌≡◌, ◌+◌, ◌<◌, ◌≤◌, true, false, [], length, insert, remove, slice_index_or};
+ghost use Rattle.std.specs.Prelude.{◌≡◌, ◌+◌, ◌++◌, ◌<◌, ◌≤◌, true, false, [], length, insert, remove, slice_index_or};
 ghost use Rattle.ttree_node.specs.Linked.{located, IsPlaceIn};
 
 use crate::linked_nodes::LinkedNodes;
@@ -153,6 +153,18 @@ impl<'a, const MAX: usize> Editor<'a, MAX> {
         ensures spares { spares_at self.new ≡ spares_at self.old }
     {
         self.nodes.put(self.at, index, item);
+    }
+
+    /// Puts the items in behind those that are there.
+    pub fn put_behind(&mut self, items: &[TupleRef])
+        requires node { is_node (position self.old).here ≡ true }
+        requires room { length (items_of (position self.old).here) + length items.now ≤ MAX }
+        ensures same_reference { self.new.nodes.ghost_name ≡ self.old.nodes.ghost_name }
+        ensures items { position self.new ≡ with_items (items_of (position self.old).here ++ items.now) (position self.old) }
+        ensures tree { tree_at self.new ≡ whole (position self.new) }
+        ensures spares { spares_at self.new ≡ spares_at self.old }
+    {
+        self.nodes.put_behind(self.at, items);
     }
 
     /// Takes out the item at `index`.

@@ -1,5 +1,5 @@
 //! Edits of one node.
-ghost use Rattle.std.specs.Prelude.{◌≡◌, ◌<◌, ◌≤◌, true, length, insert, remove, slice_index_or};
+ghost use Rattle.std.specs.Prelude.{◌≡◌, ◌+◌, ◌++◌, ◌<◌, ◌≤◌, true, length, insert, remove, slice_index_or};
 
 use crate::linked_nodes::LinkedNodes;
 use crate::nodes::NodePlace;
@@ -22,6 +22,19 @@ impl<const MAX: usize> LinkedNodes<MAX> {
     {
         let node = self.parts.nodes.get_mut(place.unwrap());
         node.items.insert(index, item);
+    }
+
+    pub(crate) fn put_behind(&mut self, place: Option<NodePlace>, items: &[TupleRef])
+        requires placed { IsPlaceIn (located self.old) place }
+        requires node { is_node (position_at self.old place).here ≡ true }
+        requires room { length (items_of (position_at self.old place).here) + length items.now ≤ MAX }
+        ensures placed { IsPlaceIn (located self.new) place }
+        ensures tree { tree_of self.new ≡ whole (position_at self.new place) }
+        ensures items { position_at self.new place ≡ with_items (items_of (position_at self.old place).here ++ items.now) (position_at self.old place) }
+        ensures spares { spares_of self.new ≡ spares_of self.old }
+    {
+        let node = self.parts.nodes.get_mut(place.unwrap());
+        let _fits = node.items.try_extend_from_slice(items);
     }
 
     pub(crate) fn cut(&mut self, place: Option<NodePlace>, index: usize) -> TupleRef
