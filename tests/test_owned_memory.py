@@ -10,7 +10,7 @@ import unittest
 from support import harness
 
 # These turn boxes into pointers, or lend and free blocks by them. The prover takes no drop of what they own there.
-RAW = {"raw_box", "part_raw", "ttree_node", "mmdb_c"}
+RAW = {"raw_box", "raw_handle", "part_raw", "ttree_node"}
 KEEPS = re.compile(r"(?<!fn )(?<![.\w])forget\s*(?:::<|\()|\bmem::(?:\{[^}]*\b)?forget\b|\bManuallyDrop\b|\bleak\b|\binto_raw\w*")
 COMMENT = re.compile(r"//.*")
 WAYS = (

@@ -6,59 +6,39 @@ ghost use Rattle.std.specs.declared.option.Option.{Option};
 ghost use Rattle.std.specs.declared.option.Option.TheVariants.{None, Some};
 ghost use Rattle.std.specs.Coded.{coded_option};
 ghost use Rattle.mmdb_c.specs.declared.database.OpenDatabase.{OpenDatabase};
-ghost use Rattle.mmdb_c.specs.contracts.database.OpenDatabase.{the_row};
-ghost use Rattle.mmdb_c.specs.Handles.{holds};
+ghost use Rattle.mmdb_c.specs.contracts.database.OpenDatabase as held;
+ghost use Rattle.raw_handle.specs.Holds.{holds};
 
 use crate::database::OpenDatabase;
-use raw_box::RawBox;
+use raw_handle::RawHandle;
 use std::alloc::Global;
 use std::marker::Model;
-use std::mem::replace;
-use std::ptr::null_mut;
 
 /// A pointer to a database, or null.
 #[repr(C)]
 pub struct Handle {
     at: *mut u8,
-    pub ghost database: { Option OpenDatabase } by { coded_option the_row.coded },
+    pub ghost database: { Option OpenDatabase } by { coded_option held.the_row.coded },
 }
 
 impl Model for Handle {
-    ghost also_owns = { λ h. holds the_row h.at h.database };
+    ghost also_owns = { λ h. holds held.the_row h.at h.database };
 }
 
 // What it owns may be used and freed by any thread.
 unsafe impl Send for Handle {}
 
 impl Handle {
-    /// A handle of no database.
-    pub fn closed() -> Handle
-        ensures { result.database ≡ None }
-    {
-        Handle { at: null_mut() }
-    }
+    ghost use Rattle.std.specs.Borrow.{Lends, sem};
+    ghost use Rattle.raw_handle.specs.contracts.RawHandle as raw_handle;
+    ghost use Rattle.mmdb_c.specs.contracts.handle.Handle.{the_row};
 
-    /// A handle of that database.
-    fn of(raw: RawBox<OpenDatabase, Global>) -> Handle
-        ensures { result.database ≡ Some raw.value }
+    // Lends itself without its name, which only C needs.
+    fn as_raw(&mut self) -> &mut RawHandle<OpenDatabase>
+        ensures* writes_back { sem 𝓛 (Lends the_row (raw_handle.the_row held.the_row) self.entry result (λ w. record { at = w.at; database = w.value })) }
+        ensures value { result.now.value ≡ self.old.database }
     {
-        let RawBox { at, alloc: _ } = raw;
-        Handle { at: at as *mut u8 }
-    }
-
-    /// The database, if there is one.
-    fn into_raw(self, alloc: Global) -> Option<RawBox<OpenDatabase, Global>>
-        ensures { MatchOption result (self.database ≡ None) (λ b. self.database ≡ Some b.value) }
-    {
-        let Handle { at } = self;
-        if at.is_null() {
-            None
-        } else {
-            Some(RawBox {
-                at: at as *mut OpenDatabase,
-                alloc,
-            })
-        }
+        unsafe { &mut *(self as *mut Handle as *mut RawHandle<OpenDatabase>) }
     }
 
     /// Takes the database out, and leaves a handle of none.
@@ -66,19 +46,13 @@ impl Handle {
         ensures taken { MatchOption result (self.old.database ≡ None) (λ b. self.old.database ≡ Some b.value) }
         ensures closed { self.new.database ≡ None }
     {
-        match replace(self, Handle::closed()).into_raw(alloc) {
-            None => None,
-            Some(raw) => Some(raw.into_box()),
-        }
+        self.as_raw().take(alloc)
     }
 
     /// Makes this a handle of that database, and frees another that was there.
     pub fn put(&mut self, alloc: Global, database: Box<OpenDatabase>)
         ensures { self.new.database ≡ Some database.value }
     {
-        let before = replace(self, Handle::of(RawBox::from_box(database)));
-        if let Some(raw) = before.into_raw(alloc) {
-            drop(raw.into_box());
-        }
+        self.as_raw().put(alloc, database)
     }
 }

@@ -1,6 +1,13 @@
-use denote.Param.Send.{IsSend}
-use Rattle.mmdb_c.proofs.Crosses.{InterrupterHandle-send}
-use Rattle.mmdb_c.specs.contracts.interrupter_handle.InterrupterHandle.{the_row}
+use denote.Struct.Struct.{exits_of}
+use denote.Struct.Owning.{shape, fields, to}
+use denote.Param.Send.{IsSend, AllSend, owning_send, struct_send, sendable}
+use Rattle.std_alloc.proofs.SendSync.{quiet}
+use Rattle.raw_handle.proofs.Crosses.{holds-Keyless}
+use Rattle.mm_interrupts.specs.contracts.interrupter.Interrupter as held
+use Rattle.mm_interrupts.proofs.interrupter.Interrupter.TheSendSync.{the_send}
+use Rattle.mmdb_c.specs.contracts.interrupter_handle.InterrupterHandle.{the_row, the_type}
 
 pub send : IsSend the_row
-send = InterrupterHandle-send
+send =
+    let all : AllSend (fields the_type) = (search sendable, tt) in
+    owning_send the_type all (λ d. holds-Keyless held.the_row the_send d.at d.interrupter) (λ k. quiet (to the_type) (exits_of k (fields the_type)) ((struct_send (shape the_type) all).leaving k))

@@ -1,0 +1,3 @@
+pub mod Crosses
+pub mod Lent
+pub mod Steps
