@@ -24,9 +24,12 @@ pub mod Queries
 pub mod ReadRequests
 pub mod Refused
 pub mod Requests
+pub mod Restoring
 pub mod Results
 pub mod Rising
 pub mod Runs
+pub mod RowPieces
+pub mod Saves
 pub mod Scanned
 pub mod Selects
 pub mod ShortTexts

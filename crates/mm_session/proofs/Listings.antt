@@ -65,7 +65,7 @@ module _ (name : List ℕ) (columns : List Column) where
 
 -- ---- the lines of a table
 
-commands_seen : (name : List ℕ) (columns : List Column) (declared : List DeclaredIndex)
+pub commands_seen : (name : List ℕ) (columns : List Column) (declared : List DeclaredIndex)
     → filter_map (λ i. option_map (λ (c : Column). command.Index name c.name i.1) (slice_get columns i.0)) (map plain_index declared) ≡ index_commands name columns declared
 commands_seen name columns [] = refl
 commands_seen name columns (d ∷ declared) =

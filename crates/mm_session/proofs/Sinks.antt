@@ -93,7 +93,3 @@ pub full_after : {A : Type 0} (result : Result A CellFault) (old new : Cells) (v
 full_after (Ok a) old new v stores when same = tt
 full_after (Err why) old new v stores when same =
     λ is. subst AreFull (sym same) (full_before (values_of old) v stores (when.0 (ap Err is)))
-
--- what is said of a reason is so where that is the error
-pub declined_so : {A E : Type 0} (result : Result A E) (e : E) (P : Type 0) → IfErr result (λ why. why ≡ e → P) → result ≡ Err e → P
-declined_so result e P says is = (subst (λ r. IfErr r (λ why. why ≡ e → P)) is says) refl

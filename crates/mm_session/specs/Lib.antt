@@ -8,6 +8,7 @@ pub mod Counting
 pub mod Dumps
 pub mod Each
 pub mod First
+pub mod Found
 pub mod IndexAnswers
 pub mod Judging
 pub mod Kept
@@ -23,7 +24,10 @@ pub mod Planned
 pub mod Reads
 pub mod Refused
 pub mod Responding
+pub mod Restoring
 pub mod Rooms
+pub mod SavedRows
+pub mod Saving
 pub mod Sessions
 pub mod Shown
 pub mod Sinks

@@ -99,6 +99,13 @@ impl Answer {
         self.bytes.clear();
     }
 
+    /// Keeps so many bytes at most, and lets those behind them go.
+    pub(crate) fn truncate(&mut self, most: usize)
+        ensures { self.new ≡ take most self.old }
+    {
+        self.bytes.truncate(most);
+    }
+
     /// Makes this the answer. A short text needs no memory.
     pub(crate) fn set(&mut self, text: &[u8])
         requires { length text.now ≤ 64 }

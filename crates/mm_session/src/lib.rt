@@ -21,14 +21,18 @@
 //! - A request can be asked by itself, with its answer in a buffer of the caller's. It leaves the stream where it is. One that changes
 //!   no tables can be asked where these are only lent.
 //! - So can a resolved command be done, without a line and an answer: it tells how many rows it changed, or puts the values that it
-//!   shows, or what tells their columns, into cells of the caller's. Or the rows of a select are counted, and none is kept.
+//!   shows, or what tells their columns, into cells of the caller's. Or the rows of a select are counted, and none is kept; or they are
+//!   found, kept as references, and shown page by page.
 #![tactic(auto)]
 
 mod answer;
 mod execute;
 mod fault;
+mod found_rows;
 pub mod laws;
+mod restore;
 mod room;
+mod saving;
 mod session;
 mod stream;
 
@@ -36,7 +40,10 @@ pub use answer::Answer;
 pub use execute::search::rows_passing;
 pub use execute::told::{NextJoin, ToldPlan, Way};
 pub use fault::{CountFault, NotOneRequest, ReadFault, RunFault, SelectFault, SessionFault};
+pub use found_rows::FoundRows;
+pub use restore::{Restore, RestoreFault};
 pub use room::SelectRoom;
+pub use saving::{SaveFault, SavePlace};
 pub use session::Session;
 pub use stream::lines::{Judged, LONGEST_LINE, judge_line, split_line};
 pub use stream::outlet::{Outlet, PromptRead};

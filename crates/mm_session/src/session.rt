@@ -1,11 +1,12 @@
 //! A session: tables, and a stream of requests that comes in pieces.
 
-ghost use Rattle.std.specs.Prelude.{◌≡◌, ◌≢◌, ◌<◌, ◌≤◌, ◌+◌, ◌^◌, ◌++◌, ◌∷◌, ◌↔◌, [], ℕ, List, Err, Ok, true, false, length, map, position, IsSome, IsTrue, IsErrOf, IfNone, IfOk, IfErr, IfSome, OnOk, OnErr};
+ghost use Rattle.std.specs.Prelude.{◌≡◌, ◌≢◌, ◌<◌, ◌≤◌, ◌+◌, ◌^◌, ◌++◌, ◌∷◌, ◌↔◌, [], ℕ, List, Err, Ok, true, false, drop, length, map, position, take, IsSome, IsTrue, IsErrOf, IfNone, IfOk, IfErr, IfSome, OnOk, OnErr};
 ghost use Rattle.std.specs.Io.KnownBytes.{Keeps};
 
 use crate::answer::Answer;
 use crate::execute::told::ToldPlan;
 use crate::fault::{CountFault, NotOneRequest, ReadFault, SelectFault, SessionFault};
+use crate::found_rows::FoundRows;
 use crate::room::SelectRoom;
 use crate::stream::outlet::{Lent, Outlet};
 use crate::stream::responder::Responder;
@@ -61,6 +62,7 @@ impl Session {
     ghost use Rattle.mm_cells.specs.Values.{values_of};
     ghost use Rattle.plain_streams.specs.Division.{IsWhole};
     ghost use Rattle.mm_session.specs.NextRequest.{AnswersLast, AnswersNext, KeepsMore};
+    ghost use Rattle.mm_session.specs.Kept.{is_nothing};
     ghost use Rattle.mm_session.specs.Responding.{waits};
     ghost use Rattle.mm_session.specs.OneRequest.{AnswersOne, IsAtSamePlace, StaysInStream, GoesBetween};
     ghost use Rattle.mm_session.specs.IndexAnswers.{AnswersIndexes, TellsNothing};
@@ -76,7 +78,11 @@ impl Session {
     ghost use Rattle.mm_session.specs.Columns.{columns_told};
     ghost use Rattle.mm_session.specs.Rooms.{IsBounded};
     ghost use Rattle.mm_session.specs.Counting.{HasRows};
+    ghost use Rattle.std.specs.List.{flat_map};
     ghost use Rattle.mm_session.specs.First.{ShowsFirst};
+    ghost use Rattle.mm_session.specs.Found.{HasFound, values_found};
+    ghost use Rattle.mm_session.specs.Shown.{CanShow};
+    ghost use Rattle.mm_session.specs.declared.fault.SelectFault.TheVariants as select_fault;
     ghost use Rattle.mm_session.specs.Told.{IsPlanOf};
     ghost use Rattle.mm_session.specs.Sessions.{State, Gains, Feeds, Finishes, BreaksOff, new_session, tables_of};
 
@@ -165,6 +171,13 @@ impl Session {
         ensures { result ≡ self.now.ended }
     {
         self.ended
+    }
+
+    /// Whether nothing has come of a request of the stream that has not ended.
+    pub fn is_between_requests(&self) -> bool
+        ensures { result ≡ is_nothing self.now.kept }
+    {
+        self.responder.kept.is_nothing()
     }
 
     /// Answers one request by itself, beside the stream: a line without its line feed, and the block behind it, which is empty
@@ -337,6 +350,46 @@ impl Session {
             cells,
             interrupts,
         )
+    }
+
+    /// Finds the rows that a select shows, in their order, and keeps them as references. It never ends by `TooLong`, and is asked to end
+    /// as `select` is. At most 64 KiB of the room are kept.
+    pub fn find(
+        &self,
+        query: &Query,
+        room: &mut SelectRoom,
+        interrupts: Interrupts<'_>,
+    ) -> Result<FoundRows, SelectFault>
+        requires { IsMeant self.now.limits self.now.database (resolved.Select query.now) }
+        ensures found { IfOk result (HasFound (done self.now.limits self.now.database (resolved.Select query.now)).outcome self.now.catalog) }
+        ensures declined { IfErr result (λ why. why ≢ select_fault.TooLong) }
+        ensures room { IsBounded room.new }
+    {
+        let executor = &self.responder.executor;
+        executor
+            .reading()
+            .find_shown(executor.tables.catalog(), query, room, interrupts)
+    }
+
+    /// Makes the cells the values of rows that were found of these tables, a row behind the other: of those behind the first `from`, so
+    /// many at most. It tells how many columns each has. A failure may leave any cells there; `TooLong` comes only if their texts have
+    /// 4 GiB or more then.
+    pub fn show(
+        &self,
+        found: &FoundRows,
+        from: usize,
+        most: usize,
+        cells: &mut Cells,
+    ) -> Result<usize, CellFault>
+        requires { CanShow self.now.catalog found.now.list }
+        ensures columns { IfOk result (λ columns. columns ≡ length found.now.list.columns) }
+        ensures shown { IfOk result (λ _. values_of cells.new ≡ flat_map (λ row. row) (take most (drop from (values_found self.now.catalog found.now)))) }
+        ensures too_long { IsErrOf result CellFault.TooLong → AreFull (values_of cells.new) }
+    {
+        let executor = &self.responder.executor;
+        executor
+            .reading()
+            .show_found(executor.tables.catalog(), found, from, most, cells)
     }
 
     /// How many rows a select shows. They are counted as they are found, and none of their values is kept.

@@ -16,4 +16,6 @@ mod over;
 #[cfg(test)]
 mod pages;
 #[cfg(test)]
+mod saves;
+#[cfg(test)]
 mod selects;

@@ -33,8 +33,8 @@ use plain_tables::{Column, Refusal, TableNumber, Text};
 use std::alloc::Global;
 use std::mem;
 
-// The names of columns.
-fn names_of(alloc: Global, columns: &[Column]) -> Result<Vec<Text>, NoMemory>
+/// The names of columns.
+pub fn names_of(alloc: Global, columns: &[Column]) -> Result<Vec<Text>, NoMemory>
     ensures { IfOk result (λ names. names.items ≡ column_names columns.now) }
 {
     let mut names = Vec::with_capacity(alloc, columns.len())?;
@@ -55,8 +55,8 @@ fn check_length(front: &Answer, limit: usize) -> Result<(), Refusal>
     Ok(())
 }
 
-// Puts the record of a row behind those that are written.
-fn push_record<'a>(
+/// Puts the record of a row behind those that are written.
+pub fn push_record<'a>(
     records: &mut Records<'a>,
     catalog: &'a Catalog,
     relation: &'a Relation,
@@ -94,8 +94,8 @@ fn push_within<'a>(
     check_length(records.written(), limit)
 }
 
-// Puts the line that loads the block into the table in front of the block, which begins at an index of the answer.
-fn insert_load_line(
+/// Puts the line that loads the block into the table in front of the block, which begins at an index of the answer.
+pub fn insert_load_line(
     alloc: Global,
     name: &str,
     start: usize,

@@ -83,7 +83,7 @@ impl ReadExecutor {
     /// Makes the cells the values that a select shows, a row behind the other, and tells how many columns each row has. A failure
     /// may leave any cells there; `TooLong` comes only if their texts have 4 GiB or more then. The rows are found in the room.
     ///
-    /// A select that shows one row at most is too short to be asked to end: its row goes into the cells where they lie.
+    /// A select that shows one row at most is too short to be asked to end: its row is put straight into the cells.
     pub fn select_values(
         &self,
         catalog: &Catalog,

@@ -18,8 +18,12 @@ use mm_relation::{Relation, Relations};
 use no_memory::NoMemory;
 use plain_tables::TableNumber;
 
-// A line for each index that is declared on a table.
-fn push_index_lines(answer: &mut Answer, name: &str, relation: &Relation) -> Result<(), NoMemory>
+/// A line for each index that is declared on a table.
+pub fn push_index_lines(
+    answer: &mut Answer,
+    name: &str,
+    relation: &Relation,
+) -> Result<(), NoMemory>
     requires { All (λ d. d.column.0 < length relation.now.schema.columns) relation.now.declared }
     ensures { OnOk result (answer.new ≡ answer.old ++ command_lines (index_commands name.now relation.now.schema.columns relation.now.declared)) }
 {

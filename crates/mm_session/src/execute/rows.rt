@@ -1,6 +1,6 @@
 //! Rows that are put into a sink, value by value, from where they lie.
 
-ghost use Rattle.std.specs.Prelude.{◌≡◌, ◌∷◌, ◌<◌, ℕ, [], Some, IsSome, IfErr, OnOk, length, map, slice_get, slice_index_or, take};
+ghost use Rattle.std.specs.Prelude.{◌≡◌, ◌∷◌, ◌<◌, ℕ, [], Some, IsSome, IfErr, OnOk, length, map, slice_get, slice_index_or, drop, take};
 ghost use Rattle.std.specs.FinMap as finite;
 ghost use Rattle.std.specs.List.{All};
 ghost use Rattle.mm_catalog.specs.Picked.{seen_values};
@@ -192,6 +192,30 @@ fn push_row<'a, S: RowSink<'a>>(
     }
 }
 
+/// Puts some rows of a list into a sink: those behind the first `from`, so many at most, and of each the values at these places. At each
+/// it goes on, or ends.
+pub fn push_page<'a, S: RowSink<'a>>(
+    sink: &mut S,
+    catalog: &'a Catalog,
+    list: &TempList,
+    places: &[Place],
+    from: usize,
+    most: usize,
+) -> Result<(), S::Fault>
+    requires over { IsOver catalog.now.relations list.now }
+    requires places { All (HasPlace catalog.now.relations list.now.sources) places.now }
+    requires some { 0 < length places.now }
+    ensures put { OnOk result (PutsRows S.received sink.old sink.new (map (placed_values catalog.now list.now.sources places.now) (take most (drop from list.now.rows)))) }
+    ensures declined { IfErr result (S.declines sink.new) }
+{
+    let behind = list.len().saturating_sub(from);
+    for row in 0..most.min(behind) {
+        sink.go_on()?;
+        push_row(sink, catalog, list, from + row, places)?;
+    }
+    Ok(())
+}
+
 /// Puts the first rows of a list into a sink, so many at most: of each the values at these places. At each it goes on, or ends.
 pub fn push_front<'a, S: RowSink<'a>>(
     sink: &mut S,
@@ -206,11 +230,7 @@ pub fn push_front<'a, S: RowSink<'a>>(
     ensures put { OnOk result (PutsRows S.received sink.old sink.new (map (placed_values catalog.now list.now.sources places.now) (take most list.now.rows))) }
     ensures declined { IfErr result (S.declines sink.new) }
 {
-    for row in 0..most.min(list.len()) {
-        sink.go_on()?;
-        push_row(sink, catalog, list, row, places)?;
-    }
-    Ok(())
+    push_page(sink, catalog, list, places, 0, most)
 }
 
 /// Puts the rows of a list into a sink: of each the values at these places.
