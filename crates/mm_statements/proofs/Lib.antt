@@ -1,6 +1,7 @@
 pub mod Changes
 mod ColumnsTold
 pub mod Counts
+pub mod Cursors
 pub mod Executing
 pub mod Finished
 pub mod Firsts

@@ -1,6 +1,7 @@
 pub mod ColumnLaws
 pub mod Columns
 pub mod Counting
+pub mod Cursors
 pub mod Databases
 pub mod Executing
 pub mod Faults

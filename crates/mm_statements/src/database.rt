@@ -2,8 +2,10 @@
 
 use crate::columns::push_columns;
 use crate::counting::select_of;
+use crate::cursor::Cursor;
 use crate::faults::{
-    BeginFault, ExecuteFault, PrepareFault, QueryFault, RequestFault, ShareFault, StreamFault,
+    BeginFault, CursorFault, ExecuteFault, PrepareFault, QueryFault, RequestFault, ShareFault,
+    StreamFault,
 };
 use crate::many::{change_all, load_each};
 use crate::noted::NotedTables;
@@ -123,6 +125,7 @@ impl Database {
     ghost use Rattle.mm_prepared.specs.Cells.{IsSmall, cell_value};
     ghost use Rattle.mm_prepared.specs.Kept.{KeptStatement};
     ghost use Rattle.mm_statements.specs.Counting.{HasRowsOf, IsUncounted};
+    ghost use Rattle.mm_statements.specs.Cursors.{IsCursorOf, IsUnopened, MayShare};
     ghost use Rattle.mm_statements.specs.First.{IsUnshown, ShowsFirstOf};
     ghost use Rattle.mm_statements.specs.Databases.{statement_at, IsUnchanged, KeepsTables, NowNames, SameStatements, SharesMore};
     ghost use Rattle.mm_statements.specs.Executing.{HasGiven, IsDeclined, IsEffectOf, IsUntold, TellsColumns};
@@ -133,6 +136,7 @@ impl Database {
     ghost use Rattle.mm_prepared.specs.declared.declined.Declined.TheVariants as declined;
     ghost use Rattle.mm_statements.specs.declared.faults.ExecuteFault.TheVariants as fault;
     ghost use Rattle.mm_statements.specs.declared.faults.BeginFault.TheVariants as begin_fault;
+    ghost use Rattle.mm_statements.specs.declared.faults.CursorFault.TheVariants as cursor_fault;
     ghost use Rattle.mm_statements.specs.declared.faults.QueryFault.TheVariants as query_fault;
     ghost use Rattle.mm_statements.specs.declared.faults.ShareFault.TheVariants as share_fault;
     ghost use Rattle.mm_statements.specs.declared.faults.RequestFault.TheVariants as request_fault;
@@ -146,16 +150,33 @@ impl Database {
         ensures none { IfOk result (λ d. (number : ℕ) → statement_at d number ≡ None) }
         ensures alone { IfOk result (λ d. d.shared ≡ false) }
     {
-        let session = Session::with_limits(alloc, policy, limits)?;
-        Ok(Database {
-            held: SharedSession::new(session),
+        Ok(Database::over(alloc, policy, Session::with_limits(alloc, policy, limits)?))
+    }
+
+    // A database that holds a session so, and has no statements.
+    fn holding(alloc: Global, policy: Policy, held: SharedSession) -> Database
+        ensures session { result.session ≡ held.session }
+        ensures shared { result.shared ≡ held.shared }
+        ensures none { (number : ℕ) → statement_at result number ≡ None }
+    {
+        Database {
+            held,
             policy,
             statements: Statements::new(alloc),
             noted: NotedTables::new(alloc),
             commands: Commands::new(alloc),
             room: SelectRoom::new(alloc),
             interrupter: None,
-        })
+        }
+    }
+
+    /// A database with a session of its own, and no statements.
+    pub fn over(alloc: Global, policy: Policy, session: Session) -> Database
+        ensures session { result.session ≡ session }
+        ensures none { (number : ℕ) → statement_at result number ≡ None }
+        ensures alone { result.shared ≡ false }
+    {
+        Database::holding(alloc, policy, SharedSession::new(session))
     }
 
     /// A database that shares the session, with no statements of its own. In a transaction there is none.
@@ -171,15 +192,8 @@ impl Database {
         if self.held.is_in_transaction() {
             return Err(ShareFault::InTransaction);
         }
-        Ok(Database {
-            held: self.held.another(alloc, self.policy)?,
-            policy: self.policy,
-            statements: Statements::new(alloc),
-            noted: NotedTables::new(alloc),
-            commands: Commands::new(alloc),
-            room: SelectRoom::new(alloc),
-            interrupter: None,
-        })
+        let held = self.held.another(alloc, self.policy)?;
+        Ok(Database::holding(alloc, self.policy, held))
     }
 
     /// A database of its own with the same tables, and no statements. Its stream begins anew. In a transaction there is none.
@@ -196,15 +210,7 @@ impl Database {
         }
         let catalog = self.held.catalog().try_clone(alloc)?;
         let session = Session::over(alloc, self.policy, catalog)?;
-        Ok(Database {
-            held: SharedSession::new(session),
-            policy: self.policy,
-            statements: Statements::new(alloc),
-            noted: NotedTables::new(alloc),
-            commands: Commands::new(alloc),
-            room: SelectRoom::new(alloc),
-            interrupter: None,
-        })
+        Ok(Database::over(alloc, self.policy, session))
     }
 
     /// Has another database share the session, in the place of its own, which ends where no third shares it. The other's statements
@@ -600,6 +606,43 @@ impl Database {
             self.held
                 .first(query, most, &mut self.room, shown, interrupts)?,
         )
+    }
+
+    // The rows that the select of a number shows with the values that are bound, outside a transaction, to be read page by page.
+    fn open_cursor(&mut self, alloc: Global, number: usize) -> Result<Cursor, ExecuteFault>
+        requires { self.old.session.saved ≡ [] }
+        ensures rows { IfOk result (IsCursorOf self.old number) }
+        ensures missing { statement_at self.old number ≡ None → result ≡ Err fault.NoSuchStatement }
+        ensures declined { IfErr result (IsUnshown self.old number) }
+        ensures fits { IfErr result (λ why. why ≢ fault.TooLong) }
+        ensures shared { OnOk result (self.new.shared ≡ true) }
+        ensures stays { MayShare self.old self.new }
+    {
+        resolve(&self.held, &mut self.noted, &mut self.statements, number)?;
+        let kept = self.commands.at(number);
+        let lent = command_of(&self.statements, number, kept)?;
+        let query = select_of(&lent)?;
+        let interrupts = begin_select(&self.interrupter);
+        let found = self.held.find(query, &mut self.room, interrupts)?;
+        let session = self.held.owner(alloc, self.policy)?;
+        Ok(Cursor::new(session, found))
+    }
+
+    /// The rows that the select of a number shows with the values that are bound, to be read page by page. They are kept as references,
+    /// and the session is shared as long as they are. It is refused as an execution is; what is no select is refused by 20 once its names
+    /// and its values are right. In a transaction it is declined.
+    pub fn cursor(&mut self, alloc: Global, number: usize) -> Result<Cursor, CursorFault>
+        ensures rows { IfOk result (IsCursorOf self.old number) }
+        ensures missing { self.old.session.saved ≡ [] → statement_at self.old number ≡ None → result ≡ Err (cursor_fault.Declined fault.NoSuchStatement) }
+        ensures declined { IfErr result (IsUnopened self.old number) }
+        ensures waits { self.old.session.saved ≢ [] → result ≡ Err cursor_fault.InTransaction }
+        ensures shared { OnOk result (self.new.shared ≡ true) }
+        ensures stays { MayShare self.old self.new }
+    {
+        if self.held.is_in_transaction() {
+            return Err(CursorFault::InTransaction);
+        }
+        Ok(self.open_cursor(alloc, number)?)
     }
 
     /// How many rows the select of a number shows with the values that are bound. They are counted, and none of their values is kept. It is

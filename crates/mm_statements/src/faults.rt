@@ -323,3 +323,24 @@ impl From<NoMemory> for ShareFault {
         ShareFault::NoMemory
     }
 }
+
+/// Why no cursor is opened. Nothing has changed, but that the session may be shared.
+#[derive(Clone, Copy)]
+pub enum CursorFault {
+    /// A transaction is open.
+    InTransaction,
+    /// The statement is declined, as where its first rows are asked for; by 90 also where there is no memory to share the session. It is
+    /// never `TooLong`.
+    Declined(ExecuteFault),
+}
+
+impl From<ExecuteFault> for CursorFault {
+    ghost use Rattle.std.specs.Prelude.{◌≡◌};
+    ghost use Rattle.mm_statements.specs.declared.faults.CursorFault.TheVariants as fault;
+
+    ghost from_gives = { λ why e. e ≡ fault.Declined why };
+
+    fn from(why: ExecuteFault) -> CursorFault {
+        CursorFault::Declined(why)
+    }
+}

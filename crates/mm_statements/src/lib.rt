@@ -18,11 +18,13 @@
 //! - Several databases may share a session. Each reads its tables by statements of its own, and none changes them while another is there.
 //!   A database that shares none has it for itself, and is never declined because of others.
 //! - In a transaction all is done that is done outside, by statements, lines, queries and pieces of the stream. Only sharing and
-//!   leaving are declined there.
+//!   leaving are declined there, and cursors.
+//! - A cursor has the rows of a select that are still to be read. It shares the session, so the tables are as they were when it was opened.
 #![tactic(auto)]
 
 mod columns;
 mod counting;
+mod cursor;
 mod database;
 mod faults;
 pub mod laws;
@@ -34,9 +36,10 @@ mod reading;
 mod resolving;
 mod shared;
 
+pub use cursor::Cursor;
 pub use database::{Database, Executed, Numbered, PreparedLine};
 pub use faults::{
-    BeginFault, ExecuteFault, PrepareFault, QueryFault, RequestFault, ShareFault, StreamFault,
+    BeginFault, CursorFault, ExecuteFault, PrepareFault, QueryFault, RequestFault, ShareFault, StreamFault,
 };
 pub use mm_prepared::{Bound, Declined, LentValue, Prepared, Statements, finish};
 pub use mm_transactions::NoTransaction;

@@ -13,11 +13,13 @@ ghost use Rattle.mm_cells.specs.Values.{values_of};
 ghost use Rattle.mm_session.specs.Changing.{HasChanged, IsChange, ShowsValues};
 ghost use Rattle.mm_session.specs.Counting.{HasRows};
 ghost use Rattle.mm_session.specs.First.{ShowsFirst};
+ghost use Rattle.mm_session.specs.Found.{HasFound};
 ghost use Rattle.mm_session.specs.OneRequest.{AnswersOne, GoesBetween, IsAtSamePlace, StaysInStream};
 ghost use Rattle.mm_session.specs.Reads.{WouldChange};
 ghost use Rattle.mm_session.specs.Rooms.{IsBounded};
 ghost use Rattle.mm_transactions.specs.Log.{AreSettled};
 ghost use Rattle.mm_session.specs.Sessions.{BreaksOff, Feeds, Finishes, Gains, new_session, tables_of};
+ghost use Rattle.mm_session.specs.declared.fault.SelectFault.TheVariants as select_fault;
 ghost use Rattle.mm_statements.specs.Faults.{IsUndone};
 ghost use Rattle.mm_statements.specs.declared.faults.BeginFault.TheVariants as begin_fault;
 ghost use Rattle.mm_statements.specs.declared.faults.ChangeFault.TheVariants as change_fault;
@@ -29,7 +31,7 @@ use mm_catalog::Catalog;
 use mm_catalog::laws::a_catalog_is_consistent;
 use mm_cells::Cells;
 use mm_interrupts::Interrupts;
-use mm_session::{Answer, CountFault, SelectFault, SelectRoom, Session};
+use mm_session::{Answer, CountFault, FoundRows, SelectFault, SelectRoom, Session};
 use mm_transactions::NoTransaction;
 use no_memory::NoMemory;
 use plain_tables::{Query, Resolved, Sequence, TableNumber, Value};
@@ -87,8 +89,8 @@ impl SharedSession {
         Session::with_limits(alloc, policy, catalog.limits())
     }
 
-    // Another owner of the session, which is shared then. Even where there is no memory for that owner it may be.
-    fn owner(&mut self, alloc: Global, policy: Policy) -> Result<Arc<Session, Global>, NoMemory>
+    /// Another owner of the session, which is shared then. Even where there is no memory for that owner it may be.
+    pub fn owner(&mut self, alloc: Global, policy: Policy) -> Result<Arc<Session, Global>, NoMemory>
         requires { self.old.session.saved ≡ [] }
         ensures owner { IfOk result (λ a. arc_value a ≡ self.old.session) }
         ensures shared { OnOk result (self.new.shared ≡ true) }
@@ -260,6 +262,21 @@ impl SharedSession {
         ensures room { IsBounded room.new }
     {
         self.session().first(query, most, room, cells, interrupts)
+    }
+
+    /// Finds the rows that a select shows, and keeps them as references, as the session does. They are found in the room.
+    pub fn find(
+        &self,
+        query: &Query,
+        room: &mut SelectRoom,
+        interrupts: Interrupts<'_>,
+    ) -> Result<FoundRows, SelectFault>
+        requires { IsMeant self.now.session.limits self.now.session.database (resolved.Select query.now) }
+        ensures found { IfOk result (HasFound (done self.now.session.limits self.now.session.database (resolved.Select query.now)).outcome self.now.session.catalog) }
+        ensures declined { IfErr result (λ why. why ≢ select_fault.TooLong) }
+        ensures room { IsBounded room.new }
+    {
+        self.session().find(query, room, interrupts)
     }
 
     /// How many rows a select shows, as the session counts them.
