@@ -37,7 +37,12 @@ pub mod plan_calls;
 mod plans;
 pub mod reason_calls;
 mod reasons;
+pub mod restore_calls;
+mod restore_handle;
+mod restoring;
 mod rows;
+pub mod save_calls;
+mod saves;
 mod sharing;
 pub mod sharing_calls;
 pub mod statement_calls;
@@ -92,6 +97,10 @@ const IN_TRANSACTION: u32 = 16;
 const NOT_ROWS: u32 = 17;
 
 const INTERRUPTED: u32 = 18;
+
+const NOT_A_DUMP: u32 = 19;
+
+const CHANGED: u32 = 20;
 
 /// The bytes of an answer.
 #[repr(C)]
