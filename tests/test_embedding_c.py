@@ -24,23 +24,29 @@ LINES = {
 REASONS = {"mmdb_reason", "mmdb_prepare_reason", "mmdb_statement_reason"}
 INTERRUPTS = {"mmdb_interrupter_open", "mmdb_interrupt", "mmdb_interrupter_close"}
 SHARING = {"mmdb_share", "mmdb_leave", "mmdb_clone"}
+SAVES = {"mmdb_save", "mmdb_restore_open", "mmdb_restore_take", "mmdb_restore_end", "mmdb_restore_close"}
 TRANSACTIONS = {"mmdb_begin", "mmdb_commit", "mmdb_rollback", "mmdb_transactions"}
-EXPORTS = {"mmdb_open", "mmdb_close", *STATEMENTS, *LINES, *INTERRUPTS, *REASONS, *SHARING, *TRANSACTIONS}
+EXPORTS = {"mmdb_open", "mmdb_close", *STATEMENTS, *LINES, *INTERRUPTS, *REASONS, *SHARING, *SAVES, *TRANSACTIONS}
 C_STANDARDS, CPP_STANDARDS = ("c99", "c11", "c17", "c2x"), ("c++11", "c++14", "c++17", "c++20")
 STRICT = ["-Wall", "-Wextra", "-Wpedantic", "-Wconversion", "-Wsign-conversion", "-Wshadow", "-Wcast-qual", "-Wcast-align", "-Wundef"]
 STRICT_C = [*STRICT, "-Wstrict-prototypes", "-Wmissing-prototypes", "-Wbad-function-cast", "-Wdeclaration-after-statement"]
 STRICT_CPP = [*STRICT, "-Wold-style-cast", "-Wzero-as-null-pointer-constant", "-Wuseless-cast"]
 # (a cell is found by adding to a pointer, which later versions of clang call unsafe in C++)
 EVERYTHING = ["-Weverything", "-Wno-padded", "-Wno-unknown-warning-option", "-Wno-unsafe-buffer-usage"]
-# A program that makes no handle but a closed one, and no interrupter but a closed one.
+# A program that makes no handle of any kind but a closed one.
 ALONE = """#include "mmdb.h"
 
 int main(void)
 {
     mmdb db = MMDB_CLOSED;
     mmdb_interrupter interrupter = MMDB_NO_INTERRUPTER;
+    mmdb_restore restore = MMDB_NO_RESTORE;
+    mmdb_save_mark mark = MMDB_SAVE_BEGIN;
+    mmdb_bytes piece;
     mmdb_interrupt(&interrupter);
     mmdb_interrupter_close(&interrupter);
+    mmdb_save(&db, &mark, &piece);
+    mmdb_restore_close(&restore);
     mmdb_close(&db);
     return 0;
 }

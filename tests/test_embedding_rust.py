@@ -109,11 +109,15 @@ class Cargo(unittest.TestCase):
         return subprocess.run([program, str(block), *files], restore_signals=False, **how).stdout
 
     def test_dumps_of_python(self):
-        """What Python saves and Rust restores, Rust saves as it was, and Python restores it. A full disk leaves a file as it was."""
+        """What Python saves and Rust restores, Rust saves as it was, and Python restores it. So it is where a program in C has restored and
+        saved it between. A full disk leaves a file as it was."""
         built = self.cargo(embedding.crate(self.folder, "resave", (compiling.PROGRAMS / "resave.rs").read_text()), "build")
         self.assertEqual(built.status, 0, built.err)
         self.assertNotIn("warning", built.err)
         first, second = self.folder / "first.mmdb", self.folder / "second.mmdb"
+        room = compiling.Room()
+        self.addCleanup(room.close)
+        in_c = room.compiled("resave", compiling.PROGRAMS / "resave.c")
         draw = random.Random(SEED)
         for block in (1 << 11, 1 << 13, mmdb.MOST):
             with self.subTest(block=block), saved(block, draw, first) as db:
@@ -121,6 +125,11 @@ class Cargo(unittest.TestCase):
                 self.assertEqual(second.read_bytes(), first.read_bytes())
                 with mmdb.Database.restore(second) as again:
                     self.assertEqual([again.dump(table) for table in "tu"], [db.dump(table) for table in "tu"])
+                content = first.read_bytes()
+                first.write_bytes(compiling.ran([in_c, str(block), "4096"], content).out)
+                self.assertEqual(self.resave(block, first, second), "")
+                self.assertEqual(second.read_bytes(), content)
+                first.write_bytes(content)
         second.write_bytes(b"old")
         for most in (0, 1, 1000, first.stat().st_size - 1):
             with limited.small_files(most):

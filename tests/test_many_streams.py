@@ -1,7 +1,7 @@
 """Very many random streams in one process over the library, judged by plain lists of rows: whole under each policy, in pieces, line by
 line and as statements. Line by line each refusal has its number and a reason. As statements values are bound and rows are cells. In
 transactions, whose ends are drawn, all of this is mixed, and after each rollback all tables and indexes are looked at. Between them readers
-are drawn, which share the tables for a while.
+are drawn, which share the tables for a while. Behind its lines a database is saved, and one that is restored of that is like it.
 
 In large sizes (`tests/fire many_streams`) the environment selects streams: MMDB_FIRST is the number of the first, MMDB_STREAMS how many,
 MMDB_SEED the seed, MMDB_JOBS the number of processes. MMDB_KEPT names a file that keeps the progress, so that a run can go on later.
@@ -116,6 +116,7 @@ class OneByOne:
         with embedded.Handle(self.stream.policy, self.stream.limits) as handle:
             self.ask_all(handle, handle.ask, lambda line: shaped.look(handle, line))
             self.check_indexes(handle)
+            self.check_restored(handle)
         return self.misfits
 
     def misfits_by_statements(self):
@@ -145,6 +146,20 @@ class OneByOne:
         for name, listed in transacted.lists(self.stream.tables):
             if not transacted.handle_tells(handle, name, listed):
                 self.misfits.append(f"the indexes {listed} are told as {handle.indexes(name.encode())!r}")
+
+    def check_restored(self, handle):
+        """Another database that is restored of what this one is saved as has the same tables, rows and indexes."""
+        dump = handle.saved()
+        self.stream.count["saves", f"refused by {handle.refusal()}" if dump is None else "restored"] += 1
+        if dump is None:
+            return
+        lines = [b"tables", *(f"select * from {name}".encode() for name in self.stream.tables.by_name)]
+        pieces = harness.pieces_of(dump, len(dump) // 3)
+        with embedded.Handle(self.stream.policy, self.stream.limits, restores=pieces) as other:
+            self.check_indexes(other)
+            for line in lines:
+                if other.ask(line, b"") != handle.ask(line, b""):
+                    self.misfits.append(f"a database that was restored of {dump!r} answers {line!r} by {other.answer()!r}")
 
 
 def explains(text, why, number, reason):
@@ -274,6 +289,7 @@ class Judged(unittest.TestCase):
         self.assertEqual([what for what in covered.SHAPED if not progress.count["shapes", what]], [])
         self.assertEqual([what for what in transacted.COVERED if not progress.count["transactions", what]], [])
         self.assertEqual([what for what in shared.COVERED if not progress.count["readers", what]], [])
+        self.assertEqual([what for what in ("restored", "refused by 64") if not progress.count["saves", what]], [])
         chosen = {kind.split()[1] for what, kind in progress.count if what.startswith("joins")}
         self.assertEqual(chosen, set(METHODS))
 

@@ -45,9 +45,16 @@ class Rows(ctypes.Structure):
         return integer if kind == INTEGER else None
 
 
+class Mark(ctypes.Structure):
+    """Where a save goes on."""
+
+    _fields_ = [("version", ctypes.c_uint64), ("table", ctypes.c_size_t), ("part", ctypes.c_uint32), ("row", ctypes.c_uint32)]
+
+
 CELL = struct.Struct("=qIHH")
 INTEGER, TEXT = 1, 2
 NO_MEMORY, REFUSED, SHARED = 7, 12, 14
+SAVE_OVER = 5
 
 
 def call(name, result, *arguments):
@@ -84,6 +91,11 @@ ROLLBACK = call("mmdb_rollback", NUMBER, ADDRESS)
 TRANSACTIONS = call("mmdb_transactions", SIZE, ADDRESS)
 SHARE = call("mmdb_share", NUMBER, ADDRESS, ADDRESS)
 LEAVE = call("mmdb_leave", NUMBER, ADDRESS)
+SAVE = call("mmdb_save", NUMBER, ADDRESS, ADDRESS, ADDRESS)
+RESTORE_OPEN = call("mmdb_restore_open", NUMBER, ADDRESS, NUMBER, NUMBER, NUMBER)
+RESTORE_TAKE = call("mmdb_restore_take", NUMBER, ADDRESS, ADDRESS, SIZE, ADDRESS)
+RESTORE_END = call("mmdb_restore_end", NUMBER, ADDRESS, ADDRESS)
+RESTORE_CLOSE = call("mmdb_restore_close", None, ADDRESS)
 CLOSE = call("mmdb_close", None, ADDRESS)
 
 
@@ -102,14 +114,17 @@ def through(library):
 
 
 class Handle:
-    """An open database, which is closed at the end of its `with`, or a handle that shares the tables of another."""
+    """An open database, which is closed at the end of its `with`: without tables, or of the pieces of a dump. Or a handle that shares the
+    tables of another."""
 
-    def __init__(self, policy="auto", limits=model.Limits(), shares=None):
+    def __init__(self, policy="auto", limits=model.Limits(), shares=None, restores=None):
         self.inside = ctypes.c_void_p(None)
         self.at = ctypes.addressof(self.inside)
         self.told = Bytes(None, 0)
         self.told_at = ctypes.addressof(self.told)
-        if shares is None:
+        if restores is not None:
+            self.restore(restores, harness.POLICIES.index(policy), limits)
+        elif shares is None:
             self.done(OPEN(self.at, harness.POLICIES.index(policy), limits.rows, limits.block))
         else:
             shares.share(self)
@@ -227,6 +242,27 @@ class Handle:
 
     def leave(self):
         self.done(LEAVE(self.at))
+
+    def saved(self):
+        """What the database is saved as, or None where it is refused."""
+        mark, pieces = Mark(), []
+        while mark.part != SAVE_OVER:
+            if not self.is_done(SAVE(self.at, ctypes.addressof(mark), self.told_at)):
+                return None
+            pieces.append(ctypes.string_at(self.told.at, self.told.length))
+        return b"".join(pieces)
+
+    def restore(self, pieces, policy, limits):
+        """Opens it of a dump in these pieces."""
+        inside = ctypes.c_void_p(None)
+        at = ctypes.addressof(inside)
+        self.done(RESTORE_OPEN(at, policy, limits.rows, limits.block))
+        try:
+            for piece in pieces:
+                self.done(RESTORE_TAKE(at, piece, len(piece), self.told_at))
+            self.done(RESTORE_END(at, self.at))
+        finally:
+            RESTORE_CLOSE(at)
 
     def declines(self, change):
         """Whether a change is declined in each way, and a transaction too, since another handle shares the tables."""

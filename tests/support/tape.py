@@ -40,6 +40,10 @@ class Tape:
         self.add(b"close")
         del self.handles[at]
 
+    def save(self, _, mark, __):
+        """The next piece, which is the first where the mark is at the beginning."""
+        self.add(b"save", embedded.Mark.from_address(mark).part == 0)
+
     def add(self, name, *numbers, behind=b""):
         first, second, third = (*numbers, 0, 0, 0)[:3]
         self.calls.append(b"%s %d %d %d\n%s" % (name, first, second, third % 2**64, behind))
@@ -47,7 +51,6 @@ class Tape:
     def written(self):
         """What writes each call down, by the name that embedded.py has for it."""
         return {
-            "OPEN": self.open,
             "COMMAND": lambda at, line, length, to: self.add(b"command+", length, behind=line),
             "LOAD": lambda at, line, length, block, more, to: self.add(b"load+", length, more, behind=line + block),
             "FEED": lambda at, piece, length: self.add(b"feed+", length, behind=piece),
@@ -73,7 +76,18 @@ class Tape:
             "SHARE": self.share,
             "LEAVE": lambda at: self.add(b"leave"),
             "QUERY": lambda at, line, length, to: self.add(b"query+", length, behind=line),
+            "SAVE": self.save,
             "CLOSE": self.close,
+        }
+
+    def written_without_handle(self):
+        """The same of calls that are on no handle. One restore is open at a time."""
+        return {
+            "OPEN": self.open,
+            "RESTORE_OPEN": lambda at, *numbers: self.add(b"restore_open", *numbers),
+            "RESTORE_TAKE": lambda at, piece, length, to: self.add(b"restore_take+", length, behind=piece),
+            "RESTORE_END": lambda at, db: self.add(b"restore_end", self.number(db)),
+            "RESTORE_CLOSE": lambda at: self.add(b"restore_close"),
         }
 
 
@@ -81,9 +95,10 @@ class Tape:
 def recorded():
     """The tape of the calls that are made in it."""
     tape, before = Tape(), {}
-    for name, write in tape.written().items():
+    written = {name: on_its_handle(tape, write) for name, write in tape.written().items()}
+    for name, write in {**written, **tape.written_without_handle()}.items():
         before[name] = getattr(embedded, name)
-        setattr(embedded, name, both(write if name == "OPEN" else on_its_handle(tape, write), before[name]))
+        setattr(embedded, name, both(write, before[name]))
     try:
         yield tape
     finally:

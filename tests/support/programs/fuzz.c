@@ -47,7 +47,7 @@ static handle handles[HANDLES];
 static interrupter interrupters[INTERRUPTERS];
 static uint64_t state;
 static uint64_t tables_made;
-static uint64_t statuses[MMDB_INTERRUPTED + 1];
+static uint64_t statuses[MMDB_CHANGED + 1];
 
 static uint64_t drawn(uint64_t below)
 {
@@ -207,11 +207,11 @@ static uint32_t only(mmdb_status status)
 
 static int is_within(mmdb_status status, uint32_t allowed, const char *call)
 {
-    const int is = status <= MMDB_INTERRUPTED && (allowed >> status & 1) != 0;
+    const int is = status <= MMDB_CHANGED && (allowed >> status & 1) != 0;
     if (!is)
         fprintf(stderr, "%s gives %u\n", call, (unsigned)status);
     checks_failed += !is;
-    statuses[status <= MMDB_INTERRUPTED ? status : 0]++;
+    statuses[status <= MMDB_CHANGED ? status : 0]++;
     return is;
 }
 
@@ -672,6 +672,8 @@ static void looks_at_rows(handle *of)
     CHECK(!of->queried.has_rows || sum_of(&of->queried.rows) == of->queried.sum);
 }
 
+#include "hostile_saves.h"
+
 static void calls_on_null(void)
 {
     uint64_t count = 7, version = 7;
@@ -696,6 +698,7 @@ static void calls_on_null(void)
     CHECK(mmdb_commit(NULL) == MMDB_NOT_OPEN && mmdb_rollback(NULL) == MMDB_NOT_OPEN);
     CHECK(mmdb_share(NULL, NULL) == MMDB_NOT_OPEN && mmdb_leave(NULL) == MMDB_NOT_OPEN && mmdb_clone(NULL, NULL) == MMDB_NOT_OPEN);
     CHECK(mmdb_interrupter_open(NULL, NULL) == MMDB_NOT_OPEN);
+    saves_and_restores_null();
     mmdb_interrupt(NULL);
     mmdb_interrupter_close(NULL);
     mmdb_close(NULL);
@@ -708,6 +711,7 @@ static const maker MAKERS[] = {
     binds,    binds,    binds,    binds,    executes, executes,  executes, asks_columns, asks_columns, looks_at_rows, tells,
     queries,  queries,  asks_why, asks_plan, counts,  begins,    leaves,   commits_or_rolls_back, commits_or_rolls_back,
     executes_many, executes_many, tells_the_version, asks_first, asks_first, interrupts, interrupts,
+    saves, saves, restores, restores, restores, restores,
 };
 
 /* One call. Handles are seldom opened, closed and shared, so that much becomes of what they have. */
@@ -739,7 +743,8 @@ int main(int count, char **words)
         closes(&handles[i]);
     for (size_t i = 0; i < INTERRUPTERS; i++)
         closes_interrupter(&interrupters[i]);
-    for (size_t i = 0; i <= MMDB_INTERRUPTED; i++)
+    ends_all_restores();
+    for (size_t i = 0; i <= MMDB_CHANGED; i++)
         printf("%s: %" PRIu64 "\n", mmdb_status_text((uint32_t)i), statuses[i]);
     return checks_failed != 0;
 }

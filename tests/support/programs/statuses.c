@@ -329,7 +329,7 @@ static void plans_want_memory_for_their_words(mmdb *db)
 
 static void each_status_has_words_of_its_own(void)
 {
-    for (uint32_t one = MMDB_DONE; one <= MMDB_INTERRUPTED + 1; one++)
+    for (uint32_t one = MMDB_DONE; one <= MMDB_CHANGED + 1; one++)
         for (uint32_t other = MMDB_DONE; other < one; other++)
             CHECK(strcmp(mmdb_status_text(one), mmdb_status_text(other)) != 0);
 }

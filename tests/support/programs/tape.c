@@ -47,6 +47,8 @@ static int is(const call *of, const char *name)
 }
 
 static mmdb handles[HANDLES];
+static mmdb_restore restore = MMDB_NO_RESTORE;
+static mmdb_save_mark mark = MMDB_SAVE_BEGIN;
 
 static mmdb *handle(uint64_t number)
 {
@@ -158,11 +160,32 @@ static int shares(mmdb *db, const call *of)
     return 1;
 }
 
+/* The calls that save a database and restore one. Gives 0 where it is none of these. */
+static int saves(mmdb *db, const call *of)
+{
+    static const mmdb_save_mark begin = MMDB_SAVE_BEGIN;
+    mmdb_bytes told;
+    if (is(of, "save")) {
+        mark = of->numbers[0] ? begin : mark;
+        mmdb_save(db, &mark, &told);
+    } else if (is(of, "restore_open"))
+        mmdb_restore_open(&restore, (uint32_t)of->numbers[0], (uint32_t)of->numbers[1], (uint32_t)of->numbers[2]);
+    else if (is(of, "restore_take+"))
+        mmdb_restore_take(&restore, of->bytes, (size_t)of->numbers[0], &told);
+    else if (is(of, "restore_end"))
+        mmdb_restore_end(&restore, handle(of->numbers[0]));
+    else if (is(of, "restore_close"))
+        mmdb_restore_close(&restore);
+    else
+        return 0;
+    return 1;
+}
+
 /* Makes a call, in which memory may be refused, and gives how many calls for memory there are to the refused one yet. */
 static long make(mmdb *db, const call *of, long to_refused)
 {
     refuse_nth(to_refused);
-    CHECK(asks(db, of) || states(db, of) || transacts(db, of) || shares(db, of));
+    CHECK(asks(db, of) || states(db, of) || transacts(db, of) || shares(db, of) || saves(db, of));
     return refuse_nth(0);
 }
 
@@ -183,5 +206,6 @@ int main(void)
         free(next.bytes);
     }
     close_all();
+    mmdb_restore_close(&restore);
     return checks_failed != 0;
 }
