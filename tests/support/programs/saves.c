@@ -81,10 +81,8 @@ static void are_requests(mmdb *db, const dump *of, uint32_t most)
 /* A restored database is used like another. */
 static void is_used(mmdb *db)
 {
-    mmdb_bytes answer;
     GIVES(mmdb_refusal(db), 0);
-    GIVES(mmdb_answer(db, &answer), MMDB_DONE);
-    CHECK(reads(answer, "") && mmdb_transactions(db) == 0);
+    CHECK(mmdb_transactions(db) == 0);
     GIVES(mmdb_begin(db), MMDB_DONE);
     GIVES(command(db, "table more (id int)", NULL), MMDB_DONE);
     GIVES(command(db, "insert more (1)", NULL), MMDB_DONE);
@@ -445,7 +443,7 @@ static void is_unsaved(mmdb *db, const char *answer)
         CHECK(status == MMDB_DONE || are_same_marks(mark, before));
     }
     GIVES(status, MMDB_REFUSED);
-    CHECK(reads(piece, answer) && is_refused_by(db, answer));
+    CHECK(reads(piece, "") && is_refused_by(db, answer));
     gives_no_piece(db, mark, MMDB_REFUSED);
     CHECK(is_refused_by(db, answer));
 }
