@@ -14,8 +14,8 @@
    have every other handle leave first. Nothing here but mmdb_interrupt is to be called from a signal handler.
 
    Nothing is kept on disk, and no call reads or writes a file or a socket. No call ends the process: one that runs out
-   of memory gives MMDB_NO_MEMORY or `error 90`. Only mmdb_close frees what a handle holds, and only
-   mmdb_interrupter_close what an interrupter holds.
+   of memory gives MMDB_NO_MEMORY or `error 90`. Only mmdb_close frees what a handle holds, and what an interrupter or a
+   restore holds only the call that closes it.
 
    Bytes go in by a pointer and a length. They need no zero byte behind them, are read during the call alone, and stay
    the caller's. They are not what the same handle answered: to give that back to it, copy it first. None of the
@@ -63,12 +63,31 @@ typedef struct mmdb_interrupter {
     void *inside;
 } mmdb_interrupter;
 
+/* A dump that is taken in, or nothing where inside is null. It is a handle of its own, and never copied. */
+typedef struct mmdb_restore {
+    void *inside;
+} mmdb_restore;
+
+/* Where a save goes on: MMDB_SAVE_BEGIN at first, and MMDB_SAVE_OVER in `part` behind the last piece. The rest is the
+   library's. It holds nothing, and may be copied. */
+typedef struct mmdb_save_mark {
+    uint64_t version;
+    size_t table;
+    uint32_t part;
+    uint32_t row;
+} mmdb_save_mark;
+
+#define MMDB_SAVE_BEGIN { 0, 0, 0, 0 }
+#define MMDB_SAVE_OVER UINT32_C(5)
+
 #ifdef __cplusplus
 #define MMDB_CLOSED {}
 #define MMDB_NO_INTERRUPTER {}
+#define MMDB_NO_RESTORE {}
 #else
 #define MMDB_CLOSED { NULL }
 #define MMDB_NO_INTERRUPTER { NULL }
+#define MMDB_NO_RESTORE { NULL }
 #endif
 
 /* Bytes that the library keeps. They do not end in a zero byte. `at` is never null, also of no bytes. */
@@ -113,23 +132,26 @@ typedef struct mmdb_statement {
 typedef enum mmdb_status {
     MMDB_DONE = 0,
     MMDB_NOT_OPEN = 1,           /* the handle is closed, or null */
-    MMDB_IS_OPEN = 2,            /* mmdb_open of a handle that is open, mmdb_clone into one, mmdb_interrupter_open of an
-                                    interrupter that is open; it stays as it is */
-    MMDB_NO_SUCH_POLICY = 3,     /* mmdb_open with a number that is none of mmdb_policy */
-    MMDB_LIMIT_OUT_OF_RANGE = 4, /* mmdb_open with rows that are not 1 to MMDB_MOST, or a block past MMDB_MOST */
+    MMDB_IS_OPEN = 2,            /* mmdb_open of a handle that is open, mmdb_clone and mmdb_restore_end into one;
+                                    mmdb_interrupter_open and mmdb_restore_open of what is open. It stays as it is */
+    MMDB_NO_SUCH_POLICY = 3,     /* mmdb_open, mmdb_restore_open with a number that is none of mmdb_policy */
+    MMDB_LIMIT_OUT_OF_RANGE = 4, /* mmdb_open, mmdb_restore_open with rows that are not 1 to MMDB_MOST, or a block past
+                                    MMDB_MOST */
     MMDB_NO_LINE = 5,            /* a line that is null or has no bytes; a block, a piece or a name that is null and has
                                     some */
     MMDB_NOT_ONE_REQUEST = 6,    /* a line feed in a line; a line that asks for a block of another length than given */
     MMDB_NO_MEMORY = 7,          /* mmdb_open, mmdb_interrupter_open, mmdb_begin, mmdb_share, mmdb_leave, mmdb_clone,
-                                    mmdb_prepare, mmdb_bind_text of more than 14 bytes, and the calls that tell a reason:
-                                    none was found. mmdb_feed: none for the answers; the stream is over */
+                                    mmdb_prepare, mmdb_bind_text of more than 14 bytes, mmdb_save, mmdb_restore_open,
+                                    mmdb_restore_take, mmdb_restore_end, and the calls that tell a reason: none was found.
+                                    mmdb_feed: none for the answers; the stream is over */
     MMDB_ENDED = 8,              /* mmdb_feed of a stream that is over; the other calls go on */
     MMDB_NO_SUCH_STATEMENT = 9,  /* the number names no statement, or one that was finalised */
     MMDB_NO_SUCH_PLACE = 10,     /* the statement has no place of that number */
     MMDB_NOT_UTF8 = 11,          /* mmdb_bind_text, mmdb_execute_many: a text is not UTF-8 */
     MMDB_REFUSED = 12,           /* mmdb_prepare, mmdb_execute, mmdb_execute_many, mmdb_first, mmdb_columns, mmdb_count,
-                                    mmdb_query, mmdb_plan, mmdb_version: refused. mmdb_answer and mmdb_refusal tell why,
-                                    as `error 41 key exists` and a line feed; nothing changed */
+                                    mmdb_query, mmdb_plan, mmdb_version, mmdb_save: refused. mmdb_answer and mmdb_refusal
+                                    tell why, as `error 41 key exists` and a line feed; nothing changed.
+                                    mmdb_restore_take: a line of the dump was refused */
     MMDB_TOO_LARGE = 13,         /* mmdb_execute, mmdb_first, mmdb_query: the texts of the rows are more than 4 GiB together;
                                     mmdb_prepare: the database has 4294967296 statements; mmdb_count, mmdb_execute_many: there
                                     are 2^64 rows or more. Nothing changed */
@@ -138,8 +160,10 @@ typedef enum mmdb_status {
     MMDB_NO_TRANSACTION = 15,    /* mmdb_commit, mmdb_rollback: no transaction is open */
     MMDB_IN_TRANSACTION = 16,    /* mmdb_share, mmdb_leave, mmdb_clone: a transaction is open. Nothing changed */
     MMDB_NOT_ROWS = 17,          /* mmdb_execute_many: the cells are no rows of the statement's values. Nothing changed */
-    MMDB_INTERRUPTED = 18        /* mmdb_execute, mmdb_first, mmdb_count and mmdb_query of a select: mmdb_interrupt ended it
+    MMDB_INTERRUPTED = 18,       /* mmdb_execute, mmdb_first, mmdb_count and mmdb_query of a select: mmdb_interrupt ended it
                                     while it was under way. Nothing changed */
+    MMDB_NOT_A_DUMP = 19,        /* mmdb_restore_take, mmdb_restore_end: what came is no dump, or not a whole one */
+    MMDB_CHANGED = 20            /* mmdb_save: a table was changed since the save began */
 } mmdb_status;
 
 /* How plans are chosen. No policy changes an answer, only what it costs. MMDB_AUTO is the one to take. */
@@ -154,7 +178,7 @@ typedef enum mmdb_policy {
 /* The greatest number of rows of a table, and of bytes of a block. */
 #define MMDB_MOST UINT32_C(16777216)
 
-/* The calls. Each gives an mmdb_status, but for the five that say otherwise or give nothing. */
+/* The calls. Each gives an mmdb_status, but for the six that say otherwise or give nothing. */
 
 /* Opens a database without tables. A table takes `rows` rows at most, from 1 to MMDB_MOST, and a block that is loaded
    or dumped has `block` bytes at most, from 0 to MMDB_MOST; no memory is taken ahead for either.
@@ -389,6 +413,45 @@ uint32_t mmdb_leave(mmdb *reader);
    MMDB_IN_TRANSACTION where a transaction of db is open, or MMDB_NO_MEMORY. Then copy is as it was. */
 uint32_t mmdb_clone(mmdb *db, mmdb *copy);
 
+/* Makes the next piece of a dump: the bytes that declare all tables, their rows and their indexes, so that these lines and
+   blocks make an empty database like this one. They are what the shell's .dump writes and mmdb_restore_take reads. The
+   mark is MMDB_SAVE_BEGIN at first and goes on by each piece; once `part` is MMDB_SAVE_OVER the dump is whole, and there
+   are only pieces of no bytes. A piece has one block at most, of 16384 rows at most; some have no bytes. Nothing is held
+   between two calls, so who stops early frees nothing. In a transaction its changes are saved too.
+
+       mmdb_save_mark mark = MMDB_SAVE_BEGIN;
+       while (mark.part != MMDB_SAVE_OVER && (status = mmdb_save(&db, &mark, &piece)) == MMDB_DONE)
+           fwrite(piece.at, 1, piece.length, file);
+
+   Gives MMDB_DONE and the piece, which is good until the next call on this handle. Or gives MMDB_NOT_OPEN where db is
+   closed or null, or the mark is null; MMDB_CHANGED where a table was changed, declared or dropped since the first piece,
+   and the save begins anew; MMDB_NO_MEMORY; or MMDB_REFUSED where no dump can hold a row: by 64 where it has no room in a
+   block, by 20 where its key has a line feed and a reference of it that takes nulls is the empty text. Then the mark is as
+   it was. */
+uint32_t mmdb_save(mmdb *db, mmdb_save_mark *mark, mmdb_bytes *piece);
+
+/* Opens what takes in a dump, to open a database of it under this policy and these limits, which are those of mmdb_open.
+   Gives MMDB_DONE, and then the restore is open until mmdb_restore_end or mmdb_restore_close; or MMDB_NOT_OPEN where it is
+   null, MMDB_IS_OPEN, MMDB_NO_SUCH_POLICY, MMDB_LIMIT_OUT_OF_RANGE or MMDB_NO_MEMORY, and then it is as it was. */
+uint32_t mmdb_restore_open(mmdb_restore *restore, uint32_t policy, uint32_t rows, uint32_t block);
+
+/* Takes in the next bytes of a dump, cut wherever it may be, and does the lines that end in them.
+   Gives MMDB_DONE; or MMDB_NOT_OPEN; MMDB_NO_LINE; MMDB_NO_MEMORY; MMDB_NOT_A_DUMP where the bytes so far don't begin as
+   a dump, or an earlier piece was not taken; or MMDB_REFUSED where a line is refused, with its answer, which is good until
+   the next call on this restore: `error 41 key exists (record 3)` and a line feed, say. Then no further piece is taken, and
+   there is no database. */
+uint32_t mmdb_restore_take(mmdb_restore *restore, const void *piece, size_t length, mmdb_bytes *answer);
+
+/* Opens a database of a dump that was taken in whole, and closes the restore.
+   Gives MMDB_DONE, and then db is open; or MMDB_NOT_OPEN where the restore is closed or a handle is null, MMDB_IS_OPEN
+   where db is open, MMDB_NOT_A_DUMP where the bytes so far don't end as a dump of these tables and rows, or a piece was not
+   taken, or MMDB_NO_MEMORY. Then both are as they were. */
+uint32_t mmdb_restore_end(mmdb_restore *restore, mmdb *db);
+
+/* Closes a restore and frees what was taken in. It is MMDB_NO_RESTORE then, and may be opened again. Of a closed one and of
+   null nothing is done. */
+void mmdb_restore_close(mmdb_restore *restore);
+
 /* Closes a handle and frees all that it holds; its answers are no longer valid. Tables that another handle shares stay.
    It is MMDB_CLOSED then, and may be opened again. Of a closed handle and of null nothing is done. */
 void mmdb_close(mmdb *db);
@@ -429,6 +492,8 @@ static inline const char *mmdb_status_text(uint32_t status)
     case MMDB_IN_TRANSACTION: return "not done in a transaction";
     case MMDB_NOT_ROWS: return "the cells are no rows of the statement's values";
     case MMDB_INTERRUPTED: return "the select was interrupted";
+    case MMDB_NOT_A_DUMP: return "no dump, or not a whole one";
+    case MMDB_CHANGED: return "a table was changed since the save began";
     default: return "no such status";
     }
 }
@@ -746,6 +811,45 @@ static inline mmdb_status mmdb_checked_clone(mmdb *db, mmdb *copy)
     return db == copy ? MMDB_IS_OPEN : mmdb_checked_status(mmdb_clone(db, copy));
 }
 
+static inline mmdb_status mmdb_checked_save(mmdb *db, mmdb_save_mark *mark, mmdb_bytes *piece)
+{
+    mmdb_bytes unwanted;
+    mmdb_bytes *to = mmdb_checked_answer_at(piece, &unwanted);
+    if (mmdb_checked_is_closed(db) || !mark)
+        return MMDB_NOT_OPEN;
+    return mmdb_checked_status(mmdb_save(db, mark, to));
+}
+
+static inline mmdb_status mmdb_checked_restore_open(mmdb_restore *restore, uint32_t policy, uint32_t rows, uint32_t block)
+{
+    return !restore ? MMDB_NOT_OPEN : mmdb_checked_status(mmdb_restore_open(restore, policy, rows, block));
+}
+
+static inline mmdb_status mmdb_checked_restore_take(mmdb_restore *restore, const void *piece, size_t length,
+                                                    mmdb_bytes *answer)
+{
+    mmdb_bytes unwanted;
+    mmdb_bytes *to = mmdb_checked_answer_at(answer, &unwanted);
+    if (!restore || !restore->inside)
+        return MMDB_NOT_OPEN;
+    if (!piece && length > 0)
+        return MMDB_NO_LINE;
+    return mmdb_checked_status(mmdb_restore_take(restore, mmdb_checked_bytes(piece), length, to));
+}
+
+static inline mmdb_status mmdb_checked_restore_end(mmdb_restore *restore, mmdb *db)
+{
+    if (!restore || !restore->inside || !db)
+        return MMDB_NOT_OPEN;
+    return mmdb_checked_status(mmdb_restore_end(restore, db));
+}
+
+static inline void mmdb_checked_restore_close(mmdb_restore *restore)
+{
+    if (restore && restore->inside)
+        mmdb_restore_close(restore);
+}
+
 static inline void mmdb_checked_close(mmdb *db)
 {
     if (!mmdb_checked_is_closed(db))
@@ -785,6 +889,11 @@ static inline void mmdb_checked_close(mmdb *db)
 #define mmdb_share mmdb_checked_share
 #define mmdb_leave mmdb_checked_leave
 #define mmdb_clone mmdb_checked_clone
+#define mmdb_save mmdb_checked_save
+#define mmdb_restore_open mmdb_checked_restore_open
+#define mmdb_restore_take mmdb_checked_restore_take
+#define mmdb_restore_end mmdb_checked_restore_end
+#define mmdb_restore_close mmdb_checked_restore_close
 #define mmdb_close mmdb_checked_close
 
 #ifdef __cplusplus
