@@ -39,7 +39,8 @@ mod shared;
 pub use cursor::Cursor;
 pub use database::{Database, Executed, Numbered, PreparedLine};
 pub use faults::{
-    BeginFault, CursorFault, ExecuteFault, PrepareFault, QueryFault, RequestFault, ShareFault, StreamFault,
+    BeginFault, CursorFault, ExecuteFault, PrepareFault, QueryFault, RequestFault, ShareFault,
+    StreamFault,
 };
 pub use mm_prepared::{Bound, Declined, LentValue, Prepared, Statements, finish};
 pub use mm_transactions::NoTransaction;
