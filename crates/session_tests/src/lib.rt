@@ -16,6 +16,4 @@ mod over;
 #[cfg(test)]
 mod pages;
 #[cfg(test)]
-mod saves;
-#[cfg(test)]
 mod selects;
