@@ -4,7 +4,7 @@ use lib.Chars.{codes}
 use Rattle.std.specs.Prelude.{◌==◌}
 use Rattle.plain_tables.specs.AnswerText.{answer_text, refusal_text}
 use Rattle.plain_tables.specs.Databases.{Database}
-use Rattle.plain_tables.specs.Effects.{Effect, Outcome, Refused}
+use Rattle.plain_tables.specs.Effects.{Outcome, Refused}
 use Rattle.plain_tables.specs.Refusals.{number_of}
 use Rattle.plain_tables.specs.declared.command.Limits.{Limits}
 use Rattle.plain_tables.specs.declared.command.TheConstants.Limits.{STANDARD}

@@ -1,5 +1,5 @@
 -- The stream that readers make, one read behind the other.
-use Rattle.std.specs.Prelude.{ℕ, ◌==◌, List, [], ◌∷◌, ◌++◌, Bool, true, false, not, drop, map, Option, Some, None, option_map, if◌then◌else◌}
+use Rattle.std.specs.Prelude.{ℕ, ◌==◌, List, [], ◌∷◌, ◌++◌, Bool, false, not, drop, map, Option, Some, None, option_map, if◌then◌else◌}
 use Rattle.mm_batch.specs.declared.joined.Joined.{Joined}
 
 -- whether bytes end inside a line, where those before them do or don't

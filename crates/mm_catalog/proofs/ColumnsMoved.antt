@@ -1,5 +1,5 @@
 -- A relation that is told column by column where its links lead, now that a table is gone or back.
-use Rattle.std.proofs.Common.{◌++◌, ◌≡◌, ℕ, ◌+◌, ◌<◌, ◌≤◌, List, Option, Some, None, refl, sym, ap, ◌∙◌, subst, arith, length, map, take, drop, set, get_or, length-set}
+use Rattle.std.proofs.Common.{◌++◌, ◌≡◌, ℕ, ◌+◌, ◌<◌, ◌≤◌, List, Option, Some, None, sym, ap, ◌∙◌, subst, arith, length, map, take, drop, set, get_or, length-set}
 use Rattle.std.specs.List.{slice_get}
 use Rattle.std.specs.Option.{option_and_then, option_map}
 use Rattle.std.proofs.lemmas.List.{length-map, length-take-le, set-get_or}
@@ -7,7 +7,7 @@ use Rattle.std.proofs.lemmas.List.Edits.{map_over_more}
 use Rattle.std.proofs.lemmas.Option.{slice_get-get_or, get_or_from_slice_get}
 use Rattle.mm_relation.specs.State.{RelationState}
 use Rattle.mm_catalog.specs.Linked.{target_at}
-use Rattle.mm_catalog.specs.Dropped.{with_column_moved, renumbered, IsRenumberedUpTo}
+use Rattle.mm_catalog.specs.Dropped.{with_column_moved, IsRenumberedUpTo}
 use Rattle.mm_catalog.proofs.Lists.{get-past}
 
 module _ (moved : ℕ → ℕ) (column : ℕ) (s : RelationState) where

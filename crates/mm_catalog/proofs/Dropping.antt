@@ -1,12 +1,10 @@
 -- A table that goes from a catalog: first the links of its rows, then the table, then the numbers of those behind it.
-use Rattle.std.proofs.Common.{◌≡◌, ◌≢◌, ℕ, zero, suc, ◌-◌, ◌<◌, ◌≤◌, false, List, [], ◌∷◌, ◌++◌, Option, Some, None, IsSome, refl, sym, ap, ◌∙◌, subst, arith, length, map, take, drop, get_or, length-append, inl, inr}
+use Rattle.std.proofs.Common.{◌≡◌, ◌≢◌, ℕ, suc, ◌-◌, ◌<◌, ◌≤◌, false, List, ◌++◌, Some, IsSome, refl, sym, ap, ◌∙◌, subst, arith, length, map, take, drop, get_or, length-append, inl, inr}
 use Rattle.std.specs.List.{All, slice_get, remove, count_by}
-use Rattle.std.specs.Option.{option_and_then, option_map}
 use Rattle.std.specs.FinMap as finite
 use Rattle.std.proofs.lemmas.Bool.{cases_lt}
-use Rattle.std.proofs.lemmas.List.{map-append, length-take, length-drop, take-append-drop}
+use Rattle.std.proofs.lemmas.List.{length-take, length-drop}
 use Rattle.std.proofs.lemmas.List.Elements.{All-append, All-take, All-drop}
-use Rattle.std.proofs.lemmas.List.Folds.{map_fixed}
 use Rattle.std.proofs.lemmas.Option.{same_Some, slice_get_within, slice_get-get_or}
 use Rattle.common_lemmas.proofs.Places.{slice_get-inside, slice_get-front}
 use Rattle.part_raw.specs.declared.tuple_ref.TupleRef.{TupleRef}

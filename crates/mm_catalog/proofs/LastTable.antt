@@ -3,17 +3,14 @@ use Rattle.std.proofs.Common.{◌≡◌, ℕ, ◌-◌, List, [], ◌∷◌, ◌+
 use Rattle.std.specs.List.{All, count_by, flat_map, slice_get}
 use Rattle.std.specs.Option.{option_map}
 use Rattle.std.specs.FinMap as finite
-use Rattle.std.specs.FinMap.{len-empty}
 use Rattle.std.proofs.lemmas.Grind.{flat_map-append}
 use Rattle.std.proofs.lemmas.List.{length-map, map-append, take-append-le}
 use Rattle.std.proofs.lemmas.Option.{same_Some, slice_get-map, slice_get-get_or, slice_get_within}
 use Rattle.common_lemmas.proofs.Options.{option_map_some}
 use Rattle.common_lemmas.proofs.Places.{slice_get-front, slice_get_behind}
-use Rattle.part_raw.specs.TupleRefs.{ref_cmp}
 use Rattle.plain_tables.specs.References.{IsSound}
 use Rattle.plain_tables.specs.declared.schema.Schema.{Schema}
-use Rattle.mm_relation.specs.Rows.{Row}
-use Rattle.mm_relation.specs.State.{IsCurrent, RelationState, linked_keys, tree_list}
+use Rattle.mm_relation.specs.State.{IsCurrent, RelationState, linked_keys}
 use Rattle.mm_catalog.specs.State.{CatalogState}
 use Rattle.mm_catalog.specs.Seen.{database_of}
 use Rattle.mm_catalog.specs.Consistent.{AreCounted, IsAmong, IsConsistent}

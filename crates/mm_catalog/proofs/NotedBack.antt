@@ -1,6 +1,6 @@
 -- A catalog of which rows were updated while what stood in their cells was noted: the outline it had is that of its rows with those cells.
 use Rattle.std.proofs.Common.{◌≡◌, ◌≢◌, ℕ, ◌+◌, ◌-◌, ◌<◌, ◌≤◌, ◌++◌, Bool, List, Some, IsSome, is_some, refl, sym, ap, ◌∙◌, subst, arith, length, map, set, take, get_or, inl, inr}
-use Rattle.std.specs.Prelude.{◌⊎◌, IsTrue, Result, Ok, Err, IfErr, IfOk, OnErr, OnOk}
+use Rattle.std.specs.Prelude.{◌⊎◌, IsTrue, Result, Ok, Err, IfErr, OnErr, OnOk}
 use Rattle.std.specs.List.{All, AllPairs, Contains, slice_get}
 use Rattle.std.specs.Option.{option_map}
 use Rattle.std.specs.FinMap.{get, len}

@@ -1,6 +1,6 @@
 -- A table without rows that is put back among others.
-use Rattle.std.proofs.Common.{◌≡◌, ◌≢◌, ℕ, ◌+◌, ◌<◌, ◌≤◌, false, List, [], ◌∷◌, ◌++◌, Option, Some, None, IsSome, is_some, refl, sym, ap, ◌∙◌, subst, arith, length, map, take, drop, get_or, inl, inr}
-use Rattle.std.specs.List.{All, AllPairs, count_by, insert, list_any, remove, slice_get}
+use Rattle.std.proofs.Common.{◌≡◌, ◌≢◌, ℕ, ◌+◌, ◌<◌, ◌≤◌, false, List, [], ◌∷◌, ◌++◌, Option, Some, None, is_some, refl, sym, ap, ◌∙◌, subst, arith, length, map, take, drop, get_or, inl, inr}
+use Rattle.std.specs.List.{All, AllPairs, count_by, insert, list_any, slice_get}
 use Rattle.std.specs.Option.{option_map}
 use Rattle.std.specs.FinMap as finite
 use Rattle.std.specs.FinMap.{get-empty}
@@ -11,17 +11,16 @@ use Rattle.std.proofs.lemmas.Bool.{cases_eq, false_from_ne_true, false≢true}
 use Rattle.std.proofs.lemmas.List.{length-map}
 use Rattle.std.proofs.lemmas.List.Edits.{length-insert}
 use Rattle.std.proofs.lemmas.List.Folds.{list_any_none}
-use Rattle.std.proofs.lemmas.Option.{same_Some, slice_get-map, slice_get-get_or, slice_get_within}
+use Rattle.std.proofs.lemmas.Option.{same_Some, slice_get-map, slice_get-get_or}
 use Rattle.std.proofs.lemmas.Simd.{map-map}
 use Rattle.std.proofs.lemmas.Slice.Eq.{bytes_eq-Decides}
 use Rattle.common_lemmas.proofs.Options.{option_map_some}
 use Rattle.common_lemmas.proofs.Pairs.{AllPairs-map}
 use Rattle.indexmap.proofs.SetLemmas.{map-insert}
 use Rattle.part_raw.specs.TupleRefs.{ref_cmp}
-use Rattle.part_raw.specs.declared.tuple_ref.TupleRef.{TupleRef}
 use Rattle.plain_tables.specs.References.{IsSound}
 use Rattle.plain_tables.specs.Tables.{Table}
-use Rattle.mm_relation.specs.Rows.{Row, referrers_at}
+use Rattle.mm_relation.specs.Rows.{referrers_at}
 use Rattle.mm_relation.specs.State.{IsCurrent, IsKept, RelationState, linked_keys, no_keys}
 use Rattle.mm_catalog.specs.State.{CatalogState}
 use Rattle.mm_catalog.specs.Seen.{database_of}
@@ -36,7 +35,7 @@ use Rattle.mm_catalog.proofs.Created.{named-there, new_key}
 use Rattle.mm_catalog.proofs.Gone.{get-inserted, get-remove, inserted_apart, moved_down-before, moved_down-other, moved_up-back, remove-inserted}
 use Rattle.mm_catalog.proofs.NoRows.{current_anywhere, no_links}
 use Rattle.mm_catalog.proofs.Renumbered.{LeadElsewhere, current_renumbered, kept_renumbered, keys_renumbered, less_one, links_less_one, renumbered_same, target_at-map, told_whole}
-use Rattle.mm_catalog.proofs.ShownAgain.{alike_at, database_alike}
+use Rattle.mm_catalog.proofs.ShownAgain.{database_alike}
 
 -- ---- the numbers of tables, once one is back
 

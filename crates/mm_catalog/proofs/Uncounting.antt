@@ -1,19 +1,18 @@
 -- Tables that count the links to their rows no longer, in a catalog where no link leads into them.
 use Rattle.std.proofs.Common.{◌≡◌, ℕ, zero, suc, ◌<◌, ◌==◌, ◌++◌, true, false, List, [], ◌∷◌, Option, Some, None, IsTrue, is_some, refl, sym, ap, ◌∙◌, subst, arith, length, map, set, get_or, append_assoc, length-set}
-use Rattle.std.specs.List.{All, count_by, slice_get}
+use Rattle.std.specs.List.{count_by, slice_get}
 use Rattle.std.specs.FinMap.{get}
 use Rattle.std.specs.Option.{option_map, option_map_or}
 use Rattle.std.specs.Ordering.{is_eq}
 use Rattle.std.specs.Prelude.{Result, OnOk}
 use Rattle.std.proofs.lemmas.Bool.{and_parts, eqb-true, false≢true}
-use Rattle.std.proofs.lemmas.List.{length-map, map-set, set-set}
+use Rattle.std.proofs.lemmas.List.{map-set, set-set}
 use Rattle.std.proofs.lemmas.List.Elements.{All-cons}
 use Rattle.std.proofs.lemmas.Option.{none-some, same_Some, slice_get-get_or, slice_get-map, slice_get_within}
 use Rattle.std.proofs.lemmas.Result.{on_ok_weaker}
 use Rattle.common_lemmas.proofs.Options.{option_map_some}
 use Rattle.common_lemmas.proofs.Places.{set_itself, slice_get-inside, slice_get_set}
 use Rattle.part_raw.specs.TupleRefs.{ref_cmp}
-use Rattle.part_raw.specs.declared.tuple_ref.TupleRef.{TupleRef}
 use Rattle.plain_tables.specs.References.{IsSound}
 use Rattle.plain_tables.specs.declared.numbers.TableNumber.{TableNumber}
 use Rattle.mm_relation.specs.Rows.{HaveNoReferrers, referrers_at}

@@ -9,7 +9,7 @@ use Rattle.mm_relation.specs.State.{RelationState, IsKept, IsReadable, IsCurrent
 use Rattle.mm_catalog.specs.Counted.{AreCountedBy, HaveRoom, IsHeldIn, naming, none}
 use Rattle.mm_catalog.specs.Deleted.{AreDeleted}
 use Rattle.mm_catalog.specs.Linked.{relation_links, row_links}
-use Rattle.mm_catalog.specs.Outline.{with_those, without}
+use Rattle.mm_catalog.specs.Outline.{with_those}
 use Rattle.mm_catalog.specs.Recounted.{KeepsColumns}
 
 -- one row more, under a reference that was free; no link names it

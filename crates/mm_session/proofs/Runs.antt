@@ -9,7 +9,7 @@ use Rattle.plain_tables.specs.Databases.{Database}
 use Rattle.plain_tables.specs.Effects.{refused}
 use Rattle.plain_tables.specs.declared.command.Limits.{Limits}
 use Rattle.plain_tables.specs.declared.refusal.Refusal.TheVariants.{LineTooLong, NotUtf8, BlockTooLong, BlockCutShort}
-use Rattle.plain_streams.specs.Requests.{Request, IsReadable, Asks, is_silent}
+use Rattle.plain_streams.specs.Requests.{Request, Asks, is_silent}
 use Rattle.plain_streams.specs.Requests as requests
 use Rattle.plain_streams.specs.Division.{IsWhole, IsUnfinished, in_line, in_block, Divides, request_bytes, request_of, last_request}
 use Rattle.plain_streams.specs.Runs.{Answers, AnswersAll, RunOf, HasBlock, line_of}

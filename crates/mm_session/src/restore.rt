@@ -1,7 +1,10 @@
 //! A session that is made of a dump, which comes in pieces.
 
-ghost use Rattle.std.specs.Prelude.{◌≡◌, ◌≤◌, [], IfOk, OnErr, OnOk, false, true};
-ghost use Rattle.mm_session.specs.Restoring.{IsRestored, StandsBehind, TakesIn};
+ghost use Rattle.std.specs.Prelude.{◌≡◌, ◌≢◌, ◌≤◌, ◌⊎◌, ◌∷◌, [], IfErr, IfOk, IsErrOf, IsTrue, OnErr, OnOk, false, nat_eq, reverse, true};
+ghost use Rattle.std.specs.List.{starts_with};
+ghost use Rattle.mm_session.specs.Restoring.{DiffersFromFirst, IsCutShort, IsRestored, RefusesOne, StandsBehind, TakesIn};
+ghost use Rattle.mm_session.specs.Saving.{last_line};
+ghost use Rattle.mm_session.specs.declared.restore.RestoreFault.TheVariants as fault;
 
 use crate::answer::Answer;
 use crate::execute::saving::{FIRST, push_last};
@@ -53,7 +56,7 @@ pub struct Restore {
     session: Session,
     // The answer to the last request.
     answer: Answer,
-    // How many bytes of the first line have come.
+    // How many bytes have come.
     begun: usize,
     // The last bytes that have come.
     last: Vec<u8>,
@@ -86,12 +89,13 @@ impl Restore {
 
     // Whether the dump goes on with this piece as its first line says.
     fn begins(&mut self, piece: &[u8]) -> bool
-        ensures { self.new.session ≡ self.old.session }
+        ensures session { self.new.session ≡ self.old.session }
+        ensures otherwise { result ≡ false → DiffersFromFirst self.old.begun piece.now }
     {
         let wanted = FIRST.get(self.begun..).unwrap_or(&[]);
-        let count = wanted.len().min(piece.len());
-        self.begun = self.begun.saturating_add(count);
-        piece.get(..count) == wanted.get(..count)
+        let begins = wanted.starts_with(piece) || piece.starts_with(wanted);
+        self.begun = self.begun.saturating_add(piece.len());
+        begins
     }
 
     // Keeps the last bytes.
@@ -110,7 +114,9 @@ impl Restore {
     // Does the requests that end in these bytes.
     fn do_requests(&mut self, bytes: &[u8]) -> Result<(), RestoreFault>
         requires { self.old.session.ended ≡ false }
-        ensures { OnOk result (TakesIn self.old.session self.new.session bytes.now) }
+        ensures taken { OnOk result (TakesIn self.old.session self.new.session bytes.now) }
+        ensures refused { OnErr result (RefusesOne self.old.session bytes.now self.new.answer) }
+        ensures only { IfErr result (λ why. why ≡ fault.Refused) }
     {
         let mut rest = bytes;
         while let Some(others) = self.session.answer_next(rest, &mut self.answer) {
@@ -124,7 +130,11 @@ impl Restore {
 
     // Takes in a piece, where none failed before.
     fn take_in(&mut self, piece: &[u8]) -> Result<(), RestoreFault>
-        ensures { OnOk result (TakesIn self.old.session self.new.session piece.now) }
+        ensures taken { OnOk result (TakesIn self.old.session self.new.session piece.now) }
+        ensures refused { IsErrOf result fault.Refused → RefusesOne self.old.session piece.now self.new.answer }
+        ensures not_a_dump { IsErrOf result fault.NotADump → DiffersFromFirst self.old.begun piece.now }
+        ensures over { IsErrOf result fault.Failed → IsTrue self.old.failed ⊎ IsTrue self.old.session.ended }
+        ensures begins { ¬ (IsErrOf result fault.CutShort) }
     {
         if self.failed || self.session.has_ended() {
             return Err(RestoreFault::Failed);
@@ -139,6 +149,10 @@ impl Restore {
     /// Takes in the next piece of the dump, and does the requests that end in it. The first that is refused is the last.
     pub fn take(&mut self, piece: &[u8]) -> Result<(), RestoreFault>
         ensures taken { OnOk result (TakesIn self.old.session self.new.session piece.now) }
+        ensures refused { IsErrOf result fault.Refused → RefusesOne self.old.session piece.now self.new.answer }
+        ensures not_a_dump { IsErrOf result fault.NotADump → DiffersFromFirst self.old.begun piece.now }
+        ensures over { IsErrOf result fault.Failed → IsTrue self.old.failed ⊎ IsTrue self.old.session.ended }
+        ensures begins { ¬ (IsErrOf result fault.CutShort) }
         ensures failed { OnErr result (self.new.failed ≡ true) }
     {
         let taken = self.take_in(piece);
@@ -147,7 +161,9 @@ impl Restore {
     }
 
     // Whether the last bytes are the last line of a dump of the tables.
-    fn has_last_line(&self, alloc: Global) -> Result<bool, NoMemory> {
+    fn has_last_line(&self, alloc: Global) -> Result<bool, NoMemory>
+        ensures { IfOk result (λ has. has ≡ starts_with nat_eq (reverse self.now.last) (reverse (10 ∷ last_line self.now.session.database))) }
+    {
         let mut line = Answer::new(alloc)?;
         line.push(b"\n")?;
         push_last(&mut line, self.session.catalog())?;
@@ -157,7 +173,11 @@ impl Restore {
     /// Whether the dump is whole: it has come to its last line, and nothing in it was refused. Else it says why not.
     pub fn check_whole(&self, alloc: Global) -> Result<(), RestoreFault>
         ensures restored { OnOk result (IsRestored self.now.session self.now.session.database) }
+        ensures whole { OnOk result (¬ (IsCutShort self.now.session self.now.last)) }
+        ensures cut_short { IsErrOf result fault.CutShort → IsCutShort self.now.session self.now.last }
         ensures good { OnOk result (self.now.failed ≡ false) }
+        ensures failed { IsErrOf result fault.Failed → IsTrue self.now.failed }
+        ensures others { (¬ (IsErrOf result fault.NotADump)) × (¬ (IsErrOf result fault.Refused)) }
     {
         if self.failed {
             return Err(RestoreFault::Failed);

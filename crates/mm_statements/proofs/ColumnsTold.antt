@@ -46,7 +46,6 @@ use Rattle.plain_statements.specs.declared.statement.Statement.TheVariants as st
 use Rattle.mm_session.specs.Columns.{column_told, columns_told}
 use Rattle.mm_session.specs.Shown.{places_shown}
 use Rattle.mm_statements.specs.Columns.{column_of, column_placed, columns_of_query, columns_of_table, columns_of_template, columns_shown, source_tables}
-use Rattle.mm_statements.specs.Databases.{DatabaseState}
 use Rattle.mm_statements.specs.Executing.{IsUntold, TellsColumns, columns_of}
 use Rattle.mm_prepared.specs.Kept.{IsKnown, SameSeen, named, seen}
 use Rattle.mm_statements.specs.Held.{Held}

@@ -27,7 +27,7 @@ use Rattle.mm_session.specs.Sessions.{State}
 use Rattle.mm_session.specs.declared.fault.SelectFault.{SelectFault}
 use Rattle.mm_session.specs.declared.fault.SelectFault.TheVariants as selecting
 use Rattle.mm_prepared.specs.Kept.{KeptStatement}
-use Rattle.mm_statements.specs.Databases.{DatabaseState, IsUnchanged}
+use Rattle.mm_statements.specs.Databases.{IsUnchanged}
 use Rattle.mm_statements.specs.Executing.{IsChangeOf, IsDeclined, IsEffectOf, IsSelectOf}
 use Rattle.mm_statements.specs.Held.{Held}
 use Rattle.mm_statements.specs.Faults.{IsUndone, execute_fault_of_change, execute_fault_of_select}

@@ -7,7 +7,7 @@ use Rattle.std.proofs.lemmas.List.Elements.{All-cons, All-head, All-nil, All-tai
 use Rattle.std.proofs.lemmas.Option.{same_Some}
 use Rattle.plain_tables.specs.Commands.{effect_of_resolved}
 use Rattle.plain_tables.specs.Databases.{Database}
-use Rattle.plain_tables.specs.Doing.{done, load}
+use Rattle.plain_tables.specs.Doing.{done}
 use Rattle.plain_tables.specs.Effects.{Changed, Done, Dumped, Effect, Listed, Outcome, Refused, Rows, refused}
 use Rattle.plain_tables.specs.Resolving.{resolved_of}
 use Rattle.plain_tables.specs.ResolvedLaws.{HasWidth, IsInsertable, IsMeant, OfTable, emptied}
@@ -30,7 +30,7 @@ use Rattle.plain_statements.specs.Filling.{filled, slot_value}
 use Rattle.plain_statements.specs.Finishing.{filled_template, finished}
 use Rattle.plain_statements.specs.Laws.{Refuses, Resolves}
 use Rattle.plain_statements.specs.StatementSpelling.{SpellsStatement}
-use Rattle.mm_prepared.specs.Many.{IsChangeWith, after_outcome, all_or_none, as_change, each_in_turn, effect_with, effect_with_each, executed_many, first_unfit, or_none, refusal_or, unless_refused}
+use Rattle.mm_prepared.specs.Many.{IsChangeWith, after_outcome, all_or_none, each_in_turn, effect_with, effect_with_each, executed_many, first_unfit, or_none, unless_refused}
 use Rattle.mm_prepared.proofs.ManyRows.{Inserts, first-same, fit-each, inserts-load}
 use Rattle.plain_statements.proofs.Schemas.{resolution-stays}
 use Rattle.mm_session.specs.Changing.{HasChanged, IsChange}
@@ -42,8 +42,8 @@ use Rattle.mm_prepared.specs.declared.kept.Statements.{Statements}
 use Rattle.mm_statements.specs.Held.{Held}
 use Rattle.mm_statements.specs.Databases.{DatabaseState, KeepsTables, statement_at}
 use Rattle.mm_statements.specs.Many.{EndsBy, HasFailed, IsDeclinedWithMany, IsEffectOfMany, IsMeaning, outcome_in_record}
-use Rattle.mm_statements.specs.Resolving.{IsUnresolved, LineMeans}
-use Rattle.mm_statements.specs.Right.{AreNoted, AreRight, IsRight}
+use Rattle.mm_statements.specs.Resolving.{IsUnresolved}
+use Rattle.mm_statements.specs.Right.{AreNoted, AreRight}
 use Rattle.mm_statements.specs.declared.noted.NotedTables.{NotedTables}
 use Rattle.mm_statements.specs.declared.faults.ExecuteFault.{ExecuteFault}
 use Rattle.mm_statements.specs.declared.faults.ExecuteFault.TheVariants as fault

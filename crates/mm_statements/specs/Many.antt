@@ -3,7 +3,6 @@ use Rattle.std.specs.Prelude.{◌≡◌, ◌≢◌, ℕ, List, Some, None}
 use Rattle.plain_tables.specs.Databases.{Database}
 use Rattle.plain_tables.specs.Doing.{in_record}
 use Rattle.plain_tables.specs.Effects.{Effect, Outcome, Refused, refused}
-use Rattle.plain_tables.specs.declared.refusal.Refusal.{Refusal}
 use Rattle.plain_tables.specs.declared.refusal.Refusal.TheVariants.{NoMemory}
 use Rattle.plain_tables.specs.declared.value.Value.{Value}
 use Rattle.plain_statements.specs.declared.resolution.Resolution.{Resolution}

@@ -1,5 +1,5 @@
 -- Cursors: what calls do that read the rows of a select page by page.
-use Rattle.std.specs.Prelude.{◌≡◌, ℕ, [], IsTrue, drop, take, true}
+use Rattle.std.specs.Prelude.{◌≡◌, ℕ, [], drop, take, true}
 use Rattle.std.specs.List.{flat_map}
 use Rattle.mm_cells.specs.Values.{values_of}
 use Rattle.plain_tables.specs.AnswerText.{refusal_text}

@@ -1,7 +1,7 @@
-use Rattle.std.proofs.Common.{◌≡◌, ◌<◌, ◌∙◌, length, ap, sym, arith}
+use Rattle.std.proofs.Common.{◌≡◌, ◌<◌, length, ap, arith}
 use Rattle.plain_tables.specs.declared.schema.Schema.{Schema}
 use Rattle.mm_catalog.specs.Dropped.{moved_by}
-use Rattle.mm_catalog.proofs.ColumnsMoved.{leads_still, renumbered_next}
+use Rattle.mm_catalog.proofs.ColumnsMoved.{renumbered_next}
 use Rattle.mm_catalog.proofs.renumbering.renumber.Goals as goal
 
 pub loop-column-preserved : goal.loop-column-preserved

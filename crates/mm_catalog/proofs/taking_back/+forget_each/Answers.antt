@@ -1,4 +1,4 @@
-use Rattle.std.proofs.Common.{◌≡◌, ◌<◌, ℕ, List, ◌∷◌, Some, get_or, rules, set, sym, ap, ◌∙◌, subst, arith, length, map}
+use Rattle.std.proofs.Common.{◌≡◌, ◌<◌, List, ◌∷◌, Some, get_or, rules, set, sym, ap, ◌∙◌, subst, arith, length, map}
 use Rattle.std.specs.List.{All, slice_get}
 use Rattle.std.proofs.lemmas.List.Elements.{All-head, All-tail}
 use Rattle.std.proofs.lemmas.Option.{slice_get-get_or}

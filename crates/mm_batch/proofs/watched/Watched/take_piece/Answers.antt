@@ -1,4 +1,4 @@
-use Rattle.std.proofs.Common.{◌≡◌, ◌++◌, [], refl, subst, ◌∙◌}
+use Rattle.std.proofs.Common.{◌++◌, [], refl, subst, ◌∙◌}
 use Rattle.mm_session.proofs.Writing.{Appends-append, Appends-keeps, Appends-nothing}
 use Rattle.mm_batch.specs.Watching.{EndsAt}
 use Rattle.mm_batch.specs.declared.watched.Ending.TheVariants.{Stopped, Whole}

@@ -16,7 +16,7 @@ use Rattle.mm_catalog.specs.State.{CatalogState}
 use Rattle.mm_catalog.specs.Seen.{database_of}
 use Rattle.mm_catalog.specs.Linked.{target_at}
 use Rattle.mm_catalog.specs.Counted.{LeadIntoCounted}
-use Rattle.mm_catalog.specs.Created.{aimed_relation, without_counts, GainCounts, HaveGained}
+use Rattle.mm_catalog.specs.Created.{aimed_relation, GainCounts, HaveGained}
 use Rattle.mm_catalog.specs.Consistent.{IsConsistent}
 use Rattle.mm_catalog.specs.Changes.{IsDone}
 use Rattle.mm_catalog.specs.Declarations.{HasTableMore}

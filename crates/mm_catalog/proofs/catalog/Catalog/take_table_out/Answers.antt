@@ -1,4 +1,4 @@
-use Rattle.std.proofs.Common.{◌≡◌, ◌<◌, ◌++◌, Some, length, map, take, drop, sym, ap, ◌∙◌, subst, arith, refl, ◌≤◌}
+use Rattle.std.proofs.Common.{◌≡◌, ◌++◌, Some, length, map, take, drop, sym, ap, ◌∙◌, subst, arith, refl, ◌≤◌}
 use Rattle.std.specs.List.{remove, slice_get}
 use Rattle.std.specs.FinMap as finite
 use Rattle.std.specs.Option.{option_map}

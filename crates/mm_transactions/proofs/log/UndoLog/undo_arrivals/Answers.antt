@@ -1,4 +1,4 @@
-use Rattle.std.proofs.Common.{◌≡◌, ◌-◌, ◌≤◌, length, take, drop, ◌∙◌, ap, arith}
+use Rattle.std.proofs.Common.{◌≡◌, ◌-◌, length, take, drop, ◌∙◌, ap, arith}
 use Rattle.mm_catalog.specs.Outline.{outline_of}
 use Rattle.mm_transactions.proofs.Arrivals.{arrivals_hold, arrivals_placed, arrivals_stand, arrivals_undone, arrivals_within}
 use Rattle.mm_transactions.proofs.log.UndoLog.undo_arrivals.Goals as goal
