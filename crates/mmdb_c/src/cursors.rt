@@ -69,9 +69,7 @@ impl OpenDatabase {
         };
         match Box::new(alloc, cursor) {
             Ok(cursor) => Ok(cursor),
-            Err(_) => Err(CursorFault::Declined(ExecuteFault::Refused(
-                Refusal::NoMemory,
-            ))),
+            Err(_) => Err(CursorFault::Declined(ExecuteFault::Refused(Refusal::NoMemory))),
         }
     }
 
