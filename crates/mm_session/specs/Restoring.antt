@@ -1,5 +1,5 @@
 -- Restoring: a dump that is taken in, of which no request is refused.
-use Rattle.std.specs.Prelude.{◌≡◌, ◌≢◌, ◌⊎◌, ℕ, List, [], ◌∷◌, ◌++◌, IsTrue, drop, false, nat_eq, reverse}
+use Rattle.std.specs.Prelude.{◌≡◌, ◌≢◌, ◌⊎◌, ℕ, List, [], ◌∷◌, ◌++◌, ◌-◌, IsTrue, drop, false, length, nat_eq, reverse}
 use Rattle.std.specs.List.{flat_map, starts_with}
 use Rattle.plain_tables.specs.Databases.{Database}
 use Rattle.plain_tables.specs.Effects.{Effect}
@@ -51,6 +51,10 @@ pub record RefusesOne (old : State) (piece answer : List ℕ) : Type 0 where
   pub number : ℕ
   pub tells : TellsRefusal answer number
   pub refused : number ≢ 0
+
+-- the last bytes, so many at most
+abbrev pub last_bytes : ℕ → List ℕ → List ℕ
+last_bytes most bytes = drop (length bytes - most) bytes
 
 -- Where so many bytes of a dump have come, neither the piece begins with what is left of its first line, nor that with the piece.
 abbrev pub DiffersFromFirst : ℕ → List ℕ → Type 0

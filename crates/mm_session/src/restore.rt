@@ -1,8 +1,8 @@
 //! A session that is made of a dump, which comes in pieces.
 
-ghost use Rattle.std.specs.Prelude.{◌≡◌, ◌≢◌, ◌≤◌, ◌⊎◌, ◌∷◌, [], IfErr, IfOk, IsErrOf, IsTrue, OnErr, OnOk, false, nat_eq, reverse, true};
+ghost use Rattle.std.specs.Prelude.{◌≡◌, ◌≢◌, ◌↔◌, ◌≤◌, ◌⊎◌, ◌+◌, ◌-◌, ◌^◌, ◌∷◌, ◌++◌, [], IfErr, IfOk, IsErrOf, IsTrue, OnErr, OnOk, false, length, min, nat_eq, reverse, true};
 ghost use Rattle.std.specs.List.{starts_with};
-ghost use Rattle.mm_session.specs.Restoring.{DiffersFromFirst, IsCutShort, IsRestored, RefusesOne, StandsBehind, TakesIn};
+ghost use Rattle.mm_session.specs.Restoring.{DiffersFromFirst, IsCutShort, IsRestored, RefusesOne, StandsBehind, TakesIn, last_bytes};
 ghost use Rattle.mm_session.specs.Saving.{last_line};
 ghost use Rattle.mm_session.specs.declared.restore.RestoreFault.TheVariants as fault;
 
@@ -70,6 +70,7 @@ impl Restore {
         ensures behind { IfOk result (λ r. StandsBehind r.session [] []) }
         ensures limits { IfOk result (λ r. r.session.limits ≡ limits) }
         ensures outside { IfOk result (λ r. r.session.saved ≡ []) }
+        ensures nothing { IfOk result (λ r. (r.begun ≡ 0) × ((r.last ≡ []) × (r.failed ≡ false))) }
     {
         Ok(Restore {
             session: Session::with_limits(alloc, policy, limits)?,
@@ -89,8 +90,9 @@ impl Restore {
 
     // Whether the dump goes on with this piece as its first line says.
     fn begins(&mut self, piece: &[u8]) -> bool
-        ensures session { self.new.session ≡ self.old.session }
-        ensures otherwise { result ≡ false → DiffersFromFirst self.old.begun piece.now }
+        ensures begun { self.new.begun ≡ min (self.old.begun + length piece.now) (2 ^ 64 - 1) }
+        ensures others { self.new ≡ record self.old { begun = self.new.begun } }
+        ensures otherwise { (result ≡ false) ↔ DiffersFromFirst self.old.begun piece.now }
     {
         let wanted = FIRST.get(self.begun..).unwrap_or(&[]);
         let begins = wanted.starts_with(piece) || piece.starts_with(wanted);
@@ -100,7 +102,8 @@ impl Restore {
 
     // Keeps the last bytes.
     fn keep_last(&mut self, piece: &[u8]) -> Result<(), NoMemory>
-        ensures { self.new.session ≡ self.old.session }
+        ensures last { OnOk result (self.new.last ≡ last_bytes 96 (self.old.last ++ piece.now)) }
+        ensures others { self.new ≡ record self.old { last = self.new.last } }
     {
         let behind = piece.len().saturating_sub(LONGEST_LAST);
         self.last
@@ -117,6 +120,7 @@ impl Restore {
         ensures taken { OnOk result (TakesIn self.old.session self.new.session bytes.now) }
         ensures refused { OnErr result (RefusesOne self.old.session bytes.now self.new.answer) }
         ensures only { IfErr result (λ why. why ≡ fault.Refused) }
+        ensures others { self.new ≡ record self.old { session = self.new.session; answer = self.new.answer } }
     {
         let mut rest = bytes;
         while let Some(others) = self.session.answer_next(rest, &mut self.answer) {
@@ -131,6 +135,9 @@ impl Restore {
     // Takes in a piece, where none failed before.
     fn take_in(&mut self, piece: &[u8]) -> Result<(), RestoreFault>
         ensures taken { OnOk result (TakesIn self.old.session self.new.session piece.now) }
+        ensures last { OnOk result (self.new.last ≡ last_bytes 96 (self.old.last ++ piece.now)) }
+        ensures begun { OnOk result (self.new.begun ≡ min (self.old.begun + length piece.now) (2 ^ 64 - 1)) }
+        ensures first { OnOk result (¬ (DiffersFromFirst self.old.begun piece.now)) }
         ensures refused { IsErrOf result fault.Refused → RefusesOne self.old.session piece.now self.new.answer }
         ensures not_a_dump { IsErrOf result fault.NotADump → DiffersFromFirst self.old.begun piece.now }
         ensures over { IsErrOf result fault.Failed → IsTrue self.old.failed ⊎ IsTrue self.old.session.ended }
@@ -149,6 +156,9 @@ impl Restore {
     /// Takes in the next piece of the dump, and does the requests that end in it. The first that is refused is the last.
     pub fn take(&mut self, piece: &[u8]) -> Result<(), RestoreFault>
         ensures taken { OnOk result (TakesIn self.old.session self.new.session piece.now) }
+        ensures last { OnOk result (self.new.last ≡ last_bytes 96 (self.old.last ++ piece.now)) }
+        ensures begun { OnOk result (self.new.begun ≡ min (self.old.begun + length piece.now) (2 ^ 64 - 1)) }
+        ensures first { OnOk result (¬ (DiffersFromFirst self.old.begun piece.now)) }
         ensures refused { IsErrOf result fault.Refused → RefusesOne self.old.session piece.now self.new.answer }
         ensures not_a_dump { IsErrOf result fault.NotADump → DiffersFromFirst self.old.begun piece.now }
         ensures over { IsErrOf result fault.Failed → IsTrue self.old.failed ⊎ IsTrue self.old.session.ended }
