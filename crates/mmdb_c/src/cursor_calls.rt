@@ -34,6 +34,7 @@ pub extern "C" fn mmdb_cursor_open(
     ensures no_such_statement { (result ≡ NO_SUCH_STATEMENT) ↔ (IsNone cursor.old.cursor × IsSomeAnd handle.old.database (IsMissing statement)) }
     ensures done { result ≡ DONE → IsSomeAnd cursor.new.cursor (λ c. Becomes handle.old.database handle.new.database (OpensCursor statement c)) }
     ensures in_transaction { result ≡ IN_TRANSACTION → IsSomeAnd handle.old.database IsInTransaction }
+    ensures waits { IsNone cursor.old.cursor × IsSomeAnd handle.old.database (λ d. (¬ (IsMissing statement d)) × IsInTransaction d) → result ≡ IN_TRANSACTION }
     ensures refused { result ≡ REFUSED → Becomes handle.old.database handle.new.database (IsUnopened statement) }
     ensures interrupted { result ≡ INTERRUPTED → IsSomeAnd handle.old.database (IsSelect statement) }
     ensures stays { IsSome handle.old.database → Becomes handle.old.database handle.new.database MayShare }

@@ -102,6 +102,7 @@ impl OpenDatabase {
         ensures missing { IsMissing number self.old → result ≡ Err unopened.NoSuchStatement }
         ensures none { result ≡ Err unopened.NoSuchStatement → IsMissing number self.old × (self.new ≡ self.old) }
         ensures open { IsErrOf result unopened.InTransaction → IsInTransaction self.old }
+        ensures waits { ¬ (IsMissing number self.old) → IsInTransaction self.old → result ≡ Err unopened.InTransaction }
         ensures refused { IsErrOf result unopened.Refused → IsUnopened number self.old self.new }
         ensures interrupted { IsErrOf result unopened.Interrupted → IsSelect number self.old }
         ensures stays { MayShare self.old self.new }
