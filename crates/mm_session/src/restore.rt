@@ -70,7 +70,7 @@ impl Restore {
         ensures behind { IfOk result (λ r. StandsBehind r.session [] []) }
         ensures limits { IfOk result (λ r. r.session.limits ≡ limits) }
         ensures outside { IfOk result (λ r. r.session.saved ≡ []) }
-        ensures nothing { IfOk result (λ r. (r.begun ≡ 0) × ((r.last ≡ []) × (r.failed ≡ false))) }
+        ensures nothing { IfOk result (λ r. (r.begun ≡ 0) × ((r.last.items ≡ []) × (r.failed ≡ false))) }
     {
         Ok(Restore {
             session: Session::with_limits(alloc, policy, limits)?,
@@ -102,7 +102,7 @@ impl Restore {
 
     // Keeps the last bytes.
     fn keep_last(&mut self, piece: &[u8]) -> Result<(), NoMemory>
-        ensures last { OnOk result (self.new.last ≡ last_bytes 96 (self.old.last ++ piece.now)) }
+        ensures last { OnOk result (self.new.last.items ≡ last_bytes 96 (self.old.last.items ++ piece.now)) }
         ensures others { self.new ≡ record self.old { last = self.new.last } }
     {
         let behind = piece.len().saturating_sub(LONGEST_LAST);
@@ -135,7 +135,7 @@ impl Restore {
     // Takes in a piece, where none failed before.
     fn take_in(&mut self, piece: &[u8]) -> Result<(), RestoreFault>
         ensures taken { OnOk result (TakesIn self.old.session self.new.session piece.now) }
-        ensures last { OnOk result (self.new.last ≡ last_bytes 96 (self.old.last ++ piece.now)) }
+        ensures last { OnOk result (self.new.last.items ≡ last_bytes 96 (self.old.last.items ++ piece.now)) }
         ensures begun { OnOk result (self.new.begun ≡ min (self.old.begun + length piece.now) (2 ^ 64 - 1)) }
         ensures first { OnOk result (¬ (DiffersFromFirst self.old.begun piece.now)) }
         ensures refused { IsErrOf result fault.Refused → RefusesOne self.old.session piece.now self.new.answer }
@@ -156,7 +156,7 @@ impl Restore {
     /// Takes in the next piece of the dump, and does the requests that end in it. The first that is refused is the last.
     pub fn take(&mut self, piece: &[u8]) -> Result<(), RestoreFault>
         ensures taken { OnOk result (TakesIn self.old.session self.new.session piece.now) }
-        ensures last { OnOk result (self.new.last ≡ last_bytes 96 (self.old.last ++ piece.now)) }
+        ensures last { OnOk result (self.new.last.items ≡ last_bytes 96 (self.old.last.items ++ piece.now)) }
         ensures begun { OnOk result (self.new.begun ≡ min (self.old.begun + length piece.now) (2 ^ 64 - 1)) }
         ensures first { OnOk result (¬ (DiffersFromFirst self.old.begun piece.now)) }
         ensures refused { IsErrOf result fault.Refused → RefusesOne self.old.session piece.now self.new.answer }
@@ -172,7 +172,7 @@ impl Restore {
 
     // Whether the last bytes are the last line of a dump of the tables.
     fn has_last_line(&self, alloc: Global) -> Result<bool, NoMemory>
-        ensures { IfOk result (λ has. has ≡ starts_with nat_eq (reverse self.now.last) (reverse (10 ∷ last_line self.now.session.database))) }
+        ensures { IfOk result (λ has. has ≡ starts_with nat_eq (reverse self.now.last.items) (reverse (10 ∷ last_line self.now.session.database))) }
     {
         let mut line = Answer::new(alloc)?;
         line.push(b"\n")?;
@@ -183,8 +183,8 @@ impl Restore {
     /// Whether the dump is whole: it has come to its last line, and nothing in it was refused. Else it says why not.
     pub fn check_whole(&self, alloc: Global) -> Result<(), RestoreFault>
         ensures restored { OnOk result (IsRestored self.now.session self.now.session.database) }
-        ensures whole { OnOk result (¬ (IsCutShort self.now.session self.now.last)) }
-        ensures cut_short { IsErrOf result fault.CutShort → IsCutShort self.now.session self.now.last }
+        ensures whole { OnOk result (¬ (IsCutShort self.now.session self.now.last.items)) }
+        ensures cut_short { IsErrOf result fault.CutShort → IsCutShort self.now.session self.now.last.items }
         ensures good { OnOk result (self.now.failed ≡ false) }
         ensures failed { IsErrOf result fault.Failed → IsTrue self.now.failed }
         ensures others { (¬ (IsErrOf result fault.NotADump)) × (¬ (IsErrOf result fault.Refused)) }

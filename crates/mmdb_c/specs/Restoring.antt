@@ -11,14 +11,14 @@ pub record IsAtStart (limits : Limits) (restore : OpenRestore) : Type 0 where
   pub behind : StandsBehind restore.inner.session [] []
   pub under : restore.inner.session.limits ≡ limits
   pub outside : restore.inner.session.saved ≡ []
-  pub nothing : (restore.inner.begun ≡ 0) × ((restore.inner.last ≡ []) × (restore.inner.failed ≡ false))
+  pub nothing : (restore.inner.begun ≡ 0) × ((restore.inner.last.items ≡ []) × (restore.inner.failed ≡ false))
 
 -- A piece that goes on as a dump does was taken in.
 pub record GoesOn (piece : List ℕ) (old new : OpenRestore) : Type 0 where
   pub first : ¬ (DiffersFromFirst old.inner.begun piece)
   pub taken : TakesIn old.inner.session new.inner.session piece
   pub begun : new.inner.begun ≡ min (old.inner.begun + length piece) (2 ^ 64 - 1)
-  pub last : new.inner.last ≡ last_bytes 96 (old.inner.last ++ piece)
+  pub last : new.inner.last.items ≡ last_bytes 96 (old.inner.last.items ++ piece)
 
 -- The restore was open and is, and took in the piece.
 abbrev pub HasTakenIn : List ℕ → Option OpenRestore → Option OpenRestore → Type 0
@@ -42,13 +42,13 @@ CannotGoOn piece restore = IsLost restore ⊎ DiffersFromFirst restore.inner.beg
 
 -- it has failed, or what has come is not a whole dump
 abbrev pub IsNotWhole : OpenRestore → Type 0
-IsNotWhole restore = IsTrue restore.inner.failed ⊎ IsCutShort restore.inner.session restore.inner.last
+IsNotWhole restore = IsTrue restore.inner.failed ⊎ IsCutShort restore.inner.session restore.inner.last.items
 
 -- The dump is whole. The database has the tables that the requests of the dump made, none of which was refused. It has no statements and shares nothing, and
 -- no call has answered.
 pub record IsRestoredOf (restore : OpenRestore) (d : OpenDatabase) : Type 0 where
   pub session : d.inner.session ≡ restore.inner.session
-  pub whole : ¬ (IsCutShort restore.inner.session restore.inner.last)
+  pub whole : ¬ (IsCutShort restore.inner.session restore.inner.last.items)
   pub restored : IsRestored restore.inner.session d.inner.session.database
   pub none : (number : ℕ) → statement_at d.inner number ≡ None
   pub alone : d.inner.shared ≡ false

@@ -12,7 +12,7 @@ returns-clause-done c =
     let made = subst (λ (r : OpenRestore). IsRestored r.inner.session r.inner.session.database) c.deref.ensures c.in-Ok.ensures.restored in
     record {
       session = same;
-      whole = subst (λ (r : OpenRestore). ¬ (IsCutShort r.inner.session r.inner.last)) c.deref.ensures c.in-Ok.ensures.whole;
+      whole = subst (λ (r : OpenRestore). ¬ (IsCutShort r.inner.session r.inner.last.items)) c.deref.ensures c.in-Ok.ensures.whole;
       restored = subst (λ (s : State). IsRestored own.inner.session s.database) (sym same) made;
       none = c.over.ensures.none;
       alone = c.over.ensures.alone;
