@@ -106,8 +106,7 @@ impl Restore {
         ensures others { self.new ≡ record self.old { last = self.new.last } }
     {
         let behind = piece.len().saturating_sub(LONGEST_LAST);
-        self.last
-            .extend_from_slice(piece.get(behind..).unwrap_or(&[]))?;
+        self.last.extend_from_slice(&piece[behind..])?;
         let before = self.last.len().saturating_sub(LONGEST_LAST);
         self.last.rotate_left(before);
         self.last.truncate(LONGEST_LAST);

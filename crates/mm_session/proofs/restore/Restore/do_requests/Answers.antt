@@ -24,8 +24,8 @@ loop-others-preserved c =
       split c.args.bytes.now done c.loop-others.rest.now front c.in-Some.others.now is parts,
     )
 
-pub returns-in-loop-others-then-refusal-ne0-clause-refused : goal.returns-in-loop-others-then-refusal-ne0-clause-refused
-returns-in-loop-others-then-refusal-ne0-clause-refused c =
+pub returns-then-refusal-ne0-clause-refused : goal.returns-then-refusal-ne0-clause-refused
+returns-then-refusal-ne0-clause-refused c =
     let (done, taken, is) = c.loop-others.invariant in
     let (front, parts, next) = c.in-Some.ensures.some in
     record {
