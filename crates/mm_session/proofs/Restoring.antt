@@ -1,26 +1,23 @@
 -- Restoring: how a dump is taken in, request by request and piece by piece.
-use Rattle.std.proofs.Common.{◌≡◌, ℕ, ◌+◌, ◌-◌, false, List, [], ◌∷◌, ◌++◌, refl, sym, ap, subst, ◌∙◌, append_assoc, append-nil, arith, length, take, drop, inl, inr}
-use Rattle.std.proofs.Math.Seq.{drop-append-add, drop-append_seam, take-append_seam}
-use Rattle.std.proofs.lemmas.Bool.{cases_lt}
-use Rattle.std.proofs.lemmas.List.{length-append, length-drop, take_all}
+use Rattle.std.proofs.Common.{◌≡◌, ◌≢◌, ℕ, false, List, [], ◌∷◌, ◌++◌, refl, ap, sym, subst, ◌∙◌, append_assoc, append-nil, rules}
 use Rattle.std.specs.List.{flat_map}
 use Rattle.plain_tables.specs.Databases.{Database}
 use Rattle.plain_tables.specs.Effects.{Refused}
 use Rattle.plain_tables.specs.declared.command.Limits.{Limits}
 use Rattle.plain_tables.specs.declared.refusal.Refusal.TheVariants.{NoMemory}
 use Rattle.plain_streams.specs.Requests.{Request}
-use Rattle.plain_streams.specs.Division.{request_bytes}
+use Rattle.plain_streams.specs.Division.{Divides, request_bytes}
 use Rattle.plain_streams.specs.Runs.{Answers}
 use Rattle.plain_streams.specs.Runs as runs
 use Rattle.plain_streams.proofs.Division.{Divides-nil, Divides-unfinished, Divides-whole}
 use Rattle.mm_catalog.specs.State.{CatalogState}
-use Rattle.mm_session.specs.Kept.{Keeps}
+use Rattle.mm_session.specs.Kept.{Keeps, nothing}
 use Rattle.mm_session.specs.NextRequest.{AnswersNext, KeepsMore}
 use Rattle.mm_session.specs.Refused.{TellsRefusal}
-use Rattle.mm_session.specs.Restoring.{AreDone, IsDone, IsRestored, StandsBehind, TakesIn, last_bytes}
+use Rattle.mm_session.specs.Restoring.{AreDone, IsDone, IsRestored, StandsBehind, TakesIn}
 use Rattle.mm_session.specs.Restoring as restoring
 use Rattle.mm_session.specs.Sessions.{State, new_session}
-use Rattle.mm_session.proofs.Kept.{keeps-nothing, keeps-unfinished}
+use Rattle.mm_session.proofs.Kept.{keeps-nothing, keeps-unfinished, nothing-kept}
 
 -- a request whose answer tells no refusal was done
 pub done_unrefused : (limits : Limits) (tables : Database) (request : Request) (answer : List ℕ) (after : Database) → Answers limits tables request answer after
@@ -101,32 +98,3 @@ takes_rest old new bytes more = record {
 pub is_restored : (session : State) → ((rest : List ℕ) → Keeps session.limits rest session.kept → rest ≡ []) → IsRestored session session.database
 is_restored session empty stream st =
     (st.requests, rw append-nil at (subst (λ (rest : List ℕ). stream ≡ flat_map request_bytes st.requests ++ rest) (empty st.rest st.keeps) st.divides.whole), st.done)
-
--- ---- the last bytes
-
--- what `rotate_left` and `truncate` leave of bytes
-pub last-rotated : (n : ℕ) (bytes : List ℕ) → take n (drop (length bytes - n) bytes ++ take (length bytes - n) bytes) ≡ last_bytes n bytes
-last-rotated n bytes = elim (cases_lt (length bytes) n) [
-  | inl short ↦
-      let none : length bytes - n ≡ 0 = omega arith in
-      rw none (ap (take n) (append-nil bytes) ∙ take_all n bytes (omega arith))
-  | inr long ↦
-      let left : length (drop (length bytes - n) bytes) ≡ n = length-drop (length bytes - n) bytes ∙ omega arith in
-      ap (λ m. take m (drop (length bytes - n) bytes ++ take (length bytes - n) bytes)) (sym left)
-      ∙ take-append_seam (drop (length bytes - n) bytes) (take (length bytes - n) bytes)
-]
-
--- the last of what ends as the bytes do
-pub last-last : (n : ℕ) (front bytes : List ℕ) → last_bytes n (front ++ last_bytes n bytes) ≡ last_bytes n (front ++ bytes)
-last-last n front bytes = elim (cases_lt (length bytes) n) [
-  | inl short ↦
-      let none : length bytes - n ≡ 0 = omega arith in
-      rw none refl
-  | inr long ↦
-      let behind : List ℕ = drop (length bytes - n) bytes in
-      let left : length behind ≡ n = length-drop (length bytes - n) bytes ∙ omega arith in
-      let cut : length (front ++ behind) - n ≡ length front = ap (λ l. l - n) (length-append front behind) ∙ omega (arith, left) in
-      let all : length (front ++ bytes) - n ≡ length front + (length bytes - n) = ap (λ l. l - n) (length-append front bytes) ∙ omega arith in
-      ap (λ m. drop m (front ++ behind)) cut ∙ drop-append_seam front behind
-      ∙ sym (ap (λ m. drop m (front ++ bytes)) all ∙ drop-append-add front bytes (length bytes - n))
-]

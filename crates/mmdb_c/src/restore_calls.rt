@@ -2,7 +2,7 @@
 
 ghost use Rattle.std.specs.Prelude.{◌≡◌, ◌≢◌, ◌↔◌, ◌⊎◌, ◌<◌, ◌≤◌, IfErr, IfOk, IsNone, IsSome, IsSomeAnd, None, length};
 ghost use Rattle.mmdb_c.specs.Calls.{AreLimits};
-ghost use Rattle.mmdb_c.specs.Restoring.{CannotGoOn, HasRefusedOne, HasTakenIn, IsAtStart, IsNotWhole, IsRestoredOf};
+ghost use Rattle.mmdb_c.specs.Restoring.{HasTakenIn, IsAtStart, IsRestoredOf};
 
 use crate::database::OpenDatabase;
 use crate::handle::Handle;
@@ -61,8 +61,6 @@ pub extern "C" fn mmdb_restore_take(
 ) -> u32
     ensures not_open { (result ≡ NOT_OPEN) ↔ IsNone restore.old.restore }
     ensures done { result ≡ DONE → HasTakenIn piece.now restore.old.restore restore.new.restore }
-    ensures refused { result ≡ REFUSED → HasRefusedOne piece.now restore.old.restore restore.new.restore }
-    ensures not_a_dump { result ≡ NOT_A_DUMP → IsSomeAnd restore.old.restore (CannotGoOn piece.now) }
     ensures told { result ≡ REFUSED → IsSomeAnd restore.new.restore (λ r. answer.new.length ≡ length r.inner.answer) }
     ensures untold { result ≢ REFUSED → answer.new ≡ answer.old }
     ensures others { (result ≡ DONE) ⊎ ((result ≡ NOT_OPEN) ⊎ ((result ≡ NO_MEMORY) ⊎ ((result ≡ REFUSED) ⊎ (result ≡ NOT_A_DUMP)))) }
@@ -85,12 +83,10 @@ pub extern "C" fn mmdb_restore_take(
             restore.put(alloc, own);
             NO_MEMORY
         }
-        Err(RestoreFault::NotADump | RestoreFault::Failed) => {
+        Err(RestoreFault::NotADump | RestoreFault::CutShort | RestoreFault::Failed) => {
             restore.put(alloc, own);
             NOT_A_DUMP
         }
-        // Only the end can be missing.
-        Err(RestoreFault::CutShort) => unreachable!(),
     }
 }
 
@@ -101,14 +97,12 @@ fn open_restored(
 ) -> Result<Box<OpenDatabase>, (Box<OpenRestore>, u32)>
     ensures done { IfOk result (λ database. IsRestoredOf own.value database.value) }
     ensures kept { IfErr result (λ back. back.0.value ≡ own.value) }
-    ensures failed { IfErr result (λ back. (back.1 ≡ NO_MEMORY) ⊎ ((back.1 ≡ NOT_A_DUMP) × IsNotWhole own.value)) }
+    ensures failed { IfErr result (λ back. (back.1 ≡ NO_MEMORY) ⊎ (back.1 ≡ NOT_A_DUMP)) }
 {
     match own.inner.check_whole(alloc) {
         Ok(()) => {}
         Err(RestoreFault::NoMemory(_)) => return Err((own, NO_MEMORY)),
-        Err(RestoreFault::CutShort | RestoreFault::Failed) => return Err((own, NOT_A_DUMP)),
-        // It looks at no line but the last.
-        Err(RestoreFault::NotADump | RestoreFault::Refused) => unreachable!(),
+        Err(_) => return Err((own, NOT_A_DUMP)),
     }
     let limits = Limits {
         rows: MOST_ROWS,
@@ -132,7 +126,6 @@ pub extern "C" fn mmdb_restore_end(
     ensures not_open { (result ≡ NOT_OPEN) ↔ IsNone restore.old.restore }
     ensures is_open { (result ≡ IS_OPEN) ↔ (IsSome restore.old.restore × IsSome handle.old.database) }
     ensures done { result ≡ DONE → IsSomeAnd restore.old.restore (λ r. IsSomeAnd handle.new.database (IsRestoredOf r)) }
-    ensures not_a_dump { result ≡ NOT_A_DUMP → IsSomeAnd restore.old.restore IsNotWhole }
     ensures ended { result ≡ DONE → restore.new.restore ≡ None }
     ensures others { (result ≡ DONE) ⊎ ((result ≡ NOT_OPEN) ⊎ ((result ≡ IS_OPEN) ⊎ ((result ≡ NO_MEMORY) ⊎ (result ≡ NOT_A_DUMP)))) }
     ensures unchanged { result ≢ DONE → (restore.new.restore ≡ restore.old.restore) × (handle.new.database ≡ handle.old.database) }

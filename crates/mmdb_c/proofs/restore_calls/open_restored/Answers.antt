@@ -1,5 +1,5 @@
 use Rattle.std.proofs.Common.{◌∙◌, ap, subst, sym}
-use Rattle.mm_session.specs.Restoring.{IsCutShort, IsRestored}
+use Rattle.mm_session.specs.Restoring.{IsRestored}
 use Rattle.mm_session.specs.Sessions.{State}
 use Rattle.mmdb_c.specs.declared.database.OpenDatabase.{OpenDatabase}
 use Rattle.mmdb_c.specs.declared.restoring.OpenRestore.{OpenRestore}
@@ -9,11 +9,10 @@ pub returns-clause-done : goal.returns-clause-done
 returns-clause-done c =
     let own : OpenRestore = c.args.own.value in
     let same = c.over.ensures.session ∙ c.into_session.ensures ∙ ap (λ (r : OpenRestore). r.inner.session) c.into_inner-inner.ensures in
-    let made = subst (λ (r : OpenRestore). IsRestored r.inner.session r.inner.session.database) c.deref.ensures c.in-Ok.ensures.restored in
+    let whole = subst (λ (r : OpenRestore). IsRestored r.inner.session r.inner.session.database) c.deref.ensures c.in-Ok.ensures.restored in
     record {
       session = same;
-      whole = subst (λ (r : OpenRestore). ¬ (IsCutShort r.inner.session r.inner.last.items)) c.deref.ensures c.in-Ok.ensures.whole;
-      restored = subst (λ (s : State). IsRestored own.inner.session s.database) (sym same) made;
+      restored = subst (λ (s : State). IsRestored own.inner.session s.database) (sym same) whole;
       none = c.over.ensures.none;
       alone = c.over.ensures.alone;
       answer = ap (λ (d : OpenDatabase). d.answer) c.deref_mut.ensures.value ∙ c.in-Ok-new_database.ensures.answer;
