@@ -11,7 +11,8 @@
    address. Each handle is for one call at a time, whichever thread makes it, also where it is the second handle of a
    call. A lock, or a thread's start or end, orders the calls on a handle. Calls on two handles may run at the same time.
    Handles share no tables unless mmdb_share says so: then each of them reads the tables, and none changes them. To write,
-   have every other handle leave first. Nothing here but mmdb_interrupt is to be called from a signal handler.
+   have every other handle leave first, and close every cursor. Nothing here but mmdb_interrupt is to be called from a
+   signal handler.
 
    Nothing is kept on disk, and no call reads or writes a file or a socket. No call ends the process: one that runs out
    of memory gives MMDB_NO_MEMORY or `error 90`. Only mmdb_close frees what a handle holds, and what an interrupter, a
@@ -141,8 +142,8 @@ typedef enum mmdb_status {
     MMDB_DONE = 0,
     MMDB_NOT_OPEN = 1,           /* the handle is closed, or null */
     MMDB_IS_OPEN = 2,            /* mmdb_open of a handle that is open, mmdb_clone and mmdb_restore_end into one;
-                                    mmdb_interrupter_open, mmdb_restore_open and mmdb_cursor_open of what is open. It stays as
-                                    it is */
+                                    mmdb_interrupter_open, mmdb_restore_open and mmdb_cursor_open of what is open. It stays
+                                    as it is */
     MMDB_NO_SUCH_POLICY = 3,     /* mmdb_open, mmdb_restore_open with a number that is none of mmdb_policy */
     MMDB_LIMIT_OUT_OF_RANGE = 4, /* mmdb_open, mmdb_restore_open with rows that are not 1 to MMDB_MOST, or a block past
                                     MMDB_MOST */
@@ -323,13 +324,13 @@ uint32_t mmdb_query(mmdb *db, const void *line, size_t length, mmdb_rows *rows);
 uint32_t mmdb_interrupter_open(mmdb *db, mmdb_interrupter *interrupter);
 
 /* Asks the select that is under way in a call on that handle to end; mmdb_execute, mmdb_first, mmdb_count,
-   mmdb_cursor_open or mmdb_query then gives MMDB_INTERRUPTED. Where none is under way nothing comes of it, as each select begins unasked. It is called from any
-   thread, also while the handle is in a call, and from a signal handler: it takes no memory and no lock, and waits for
-   nothing. Who interrupts from two threads, or from one and from a handler, opens two interrupters. The select looks once
-   for each row or pair that it joins, walks or shows. It doesn't look while it searches one table, makes a hash of one for
-   a join, sorts what it found, or tells rows apart for `distinct`. Each of these takes some seconds at most for a million
-   rows. No change is cut, nor an answer of mmdb_command, mmdb_load and mmdb_feed. Of a closed interrupter and of null
-   nothing is done. */
+   mmdb_cursor_open or mmdb_query then gives MMDB_INTERRUPTED. Where none is under way nothing comes of it, as each select
+   begins unasked. It is called from any thread, also while the handle is in a call, and from a signal handler: it takes no
+   memory and no lock, and waits for nothing. Who interrupts from two threads, or from one and from a handler, opens two
+   interrupters. The select looks once for each row or pair that it joins, walks or shows. It doesn't look while it searches
+   one table, makes a hash of one for a join, sorts what it found, or tells rows apart for `distinct`. Each of these takes
+   some seconds at most for a million rows. No change is cut, nor an answer of mmdb_command, mmdb_load and mmdb_feed, nor
+   what mmdb_cursor_fetch reads. Of a closed interrupter and of null nothing is done. */
 void mmdb_interrupt(mmdb_interrupter *interrupter);
 
 /* Closes an interrupter and frees it, while no mmdb_interrupt is in it. It is MMDB_NO_INTERRUPTER then, and may be opened
@@ -374,8 +375,9 @@ uint32_t mmdb_plan(mmdb *db, const void *line, size_t length, mmdb_bytes *answer
 
 /* The answers of the last call that was done or refused, one behind the other: of the piece that was fed, or of the
    line. Of a piece whose answers found no room it is a front of them. Where a statement was prepared, executed, counted or
-   asked for its first rows or columns, or a line queried, they are its refusal, or no bytes. Any other call leaves them as
-   they are: one that binds or finalises, and one that can't be answered, as of a number that names no statement.
+   asked for its first rows, its columns or a cursor, or a line queried, they are its refusal, or no bytes. Any other call
+   leaves them as they are: one that binds or finalises, and one that can't be answered, as of a number that names no
+   statement.
    Gives MMDB_DONE, and bytes that are good until the next call but this one, mmdb_refusal and those that tell a reason;
    or MMDB_NOT_OPEN. */
 uint32_t mmdb_answer(mmdb *db, mmdb_bytes *answer);
@@ -400,10 +402,10 @@ uint32_t mmdb_reason(mmdb *db, const void *line, size_t length, const void *bloc
    Gives MMDB_DONE and the words, as mmdb_reason does; or MMDB_NOT_OPEN, MMDB_NO_LINE or MMDB_NO_MEMORY. */
 uint32_t mmdb_prepare_reason(mmdb *db, const void *line, size_t length, mmdb_bytes *reason);
 
-/* Why a statement was refused by mmdb_execute, mmdb_columns, mmdb_count or mmdb_first, in words as those of mmdb_reason. It
-   is asked right behind that call, with the values still bound. Where a value is to blame that was bound to a ?, the words
-   begin with the column at which this ? stands in the line that was prepared, as `column 11: t has a row with the key 1`.
-   Tables, statements, rows and answers stay as they are.
+/* Why a statement was refused by mmdb_execute, mmdb_columns, mmdb_count, mmdb_first or mmdb_cursor_open, in words as those
+   of mmdb_reason. It is asked right behind that call, with the values still bound. Where a value is to blame that was bound
+   to a ?, the words begin with the column at which this ? stands in the line that was prepared, as `column 11: t has a row
+   with the key 1`. Tables, statements, rows and answers stay as they are.
    Gives MMDB_DONE and the words, which are good until the next call on this handle: no bytes where the last answers begin
    with no refusal, or it is none of this statement. Or gives MMDB_NOT_OPEN, MMDB_NO_SUCH_STATEMENT, or MMDB_NO_MEMORY
    where none was found for the words. */
