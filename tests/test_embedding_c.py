@@ -25,8 +25,9 @@ REASONS = {"mmdb_reason", "mmdb_prepare_reason", "mmdb_statement_reason"}
 INTERRUPTS = {"mmdb_interrupter_open", "mmdb_interrupt", "mmdb_interrupter_close"}
 SHARING = {"mmdb_share", "mmdb_leave", "mmdb_clone"}
 SAVES = {"mmdb_save", "mmdb_restore_open", "mmdb_restore_take", "mmdb_restore_end", "mmdb_restore_close"}
+CURSORS = {"mmdb_cursor_open", "mmdb_cursor_fetch", "mmdb_cursor_close"}
 TRANSACTIONS = {"mmdb_begin", "mmdb_commit", "mmdb_rollback", "mmdb_transactions"}
-EXPORTS = {"mmdb_open", "mmdb_close", *STATEMENTS, *LINES, *INTERRUPTS, *REASONS, *SHARING, *SAVES, *TRANSACTIONS}
+EXPORTS = {"mmdb_open", "mmdb_close", *STATEMENTS, *LINES, *INTERRUPTS, *REASONS, *SHARING, *SAVES, *CURSORS, *TRANSACTIONS}
 C_STANDARDS, CPP_STANDARDS = ("c99", "c11", "c17", "c2x"), ("c++11", "c++14", "c++17", "c++20")
 STRICT = ["-Wall", "-Wextra", "-Wpedantic", "-Wconversion", "-Wsign-conversion", "-Wshadow", "-Wcast-qual", "-Wcast-align", "-Wundef"]
 STRICT_C = [*STRICT, "-Wstrict-prototypes", "-Wmissing-prototypes", "-Wbad-function-cast", "-Wdeclaration-after-statement"]
@@ -41,12 +42,14 @@ int main(void)
     mmdb db = MMDB_CLOSED;
     mmdb_interrupter interrupter = MMDB_NO_INTERRUPTER;
     mmdb_restore restore = MMDB_NO_RESTORE;
+    mmdb_cursor cursor = MMDB_NO_CURSOR;
     mmdb_save_mark mark = MMDB_SAVE_BEGIN;
     mmdb_bytes piece;
     mmdb_interrupt(&interrupter);
     mmdb_interrupter_close(&interrupter);
     mmdb_save(&db, &mark, &piece);
     mmdb_restore_close(&restore);
+    mmdb_cursor_close(&cursor);
     mmdb_close(&db);
     return 0;
 }

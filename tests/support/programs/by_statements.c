@@ -7,10 +7,13 @@
    `integer LENGTH`, `text LENGTH` or `null 0` with the value, and `execute 0`. One that is prepared is finalised behind
    that. `open 1` with the digit of a policy begins anew, with no tables; lines stay lines from there on.
 
+   The rows of each select are also read by a cursor, in pages of few rows.
+
    Where INTERRUPTED is 1, all is asked to end at random times. A select that was ended is executed again until it isn't, and it is
    counted, asked for all of its first rows and queried beside. How many were ended is told on standard error. */
 #define _GNU_SOURCE
 #include "calls.h"
+#include "cells.h"
 
 #include <errno.h>
 #include <inttypes.h>
@@ -306,6 +309,23 @@ static void write_refusal(mmdb *db)
     fwrite(answer.at, 1, answer.length, stdout);
 }
 
+/* Reads a cursor to its end, and closes it. Its pages, each of another number of rows, are the rows of an execution. */
+static void is_read_in_pages(mmdb_cursor *from, const mmdb_rows *all)
+{
+    size_t read = 0, most = 1;
+    mmdb_rows page = *all;
+    while (page.rows > 0) {
+        GIVES(mmdb_cursor_fetch(from, most, &page), MMDB_DONE);
+        CHECK(page.columns == all->columns && page.rows == (all->rows - read < most ? all->rows - read : most));
+        for (size_t i = 0; i < page.rows * page.columns; i++)
+            CHECK(are_same(&page, page.cells + i, all, all->cells + read * all->columns + i));
+        read += page.rows;
+        most = most % 5 * 3 + 1;
+    }
+    CHECK(read == all->rows);
+    mmdb_cursor_close(from);
+}
+
 #if INTERRUPTED
 
 static storm asks;
@@ -363,6 +383,7 @@ static void shows_beside(mmdb *db, uint32_t number, const written *line, size_t 
 
 static mmdb_status executed(mmdb *db, uint32_t number, const written *line, mmdb_rows *rows)
 {
+    mmdb_cursor cursor = MMDB_NO_CURSOR;
     mmdb_status status;
     while (is_ended(status = mmdb_execute(db, number, rows)))
         continue;
@@ -371,6 +392,11 @@ static mmdb_status executed(mmdb *db, uint32_t number, const written *line, mmdb
     shows_beside(db, number, line, rows->rows);
     while (is_ended(status = mmdb_execute(db, number, rows)))
         continue;
+    GIVES(status, MMDB_DONE);
+    while (is_ended(status = mmdb_cursor_open(db, number, &cursor)))
+        continue;
+    GIVES(status, MMDB_DONE);
+    is_read_in_pages(&cursor, rows);
     return status;
 }
 
@@ -385,8 +411,14 @@ static void end_asking(void) {}
 
 static mmdb_status executed(mmdb *db, uint32_t number, const written *line, mmdb_rows *rows)
 {
+    mmdb_cursor cursor = MMDB_NO_CURSOR;
+    const mmdb_status status = mmdb_execute(db, number, rows);
     (void)line;
-    return mmdb_execute(db, number, rows);
+    if (status != MMDB_DONE || rows->columns == 0)
+        return status;
+    GIVES(mmdb_cursor_open(db, number, &cursor), MMDB_DONE);
+    is_read_in_pages(&cursor, rows);
+    return status;
 }
 
 #endif

@@ -3,14 +3,15 @@
    closed, null or open. The words are the SEED and the number of CALLS.
 
    Each status must be one that the header names, and NOT_OPEN, NO_LINE, NO_SUCH_STATEMENT and NO_SUCH_PLACE come exactly where they
-   must, and NOT_ROWS of null. So do IN_TRANSACTION, and SHARED of a piece and of a transaction. Answers are read to their end. The rows of each
-   statement stay until it is executed again or asked for its first rows, and those of a line until the next query. */
+   must, and NOT_ROWS of null. So do IN_TRANSACTION, and SHARED of a piece and of a transaction. Answers are read to their end. The rows
+   of each statement stay until it is executed again or asked for its first rows, those of a line until the next query, and those of a
+   cursor until the next call on it. */
 #include "checking.h"
 
 #include <inttypes.h>
 #include <stdlib.h>
 
-enum { HANDLES = 3, MOST_STATEMENTS = 24, MOST_BYTES = 20000, MOST_TRANSACTIONS = 5, INTERRUPTERS = 4 };
+enum { HANDLES = 3, MOST_STATEMENTS = 24, MOST_BYTES = 20000, MOST_TRANSACTIONS = 5, INTERRUPTERS = 4, CURSORS = 2 };
 
 /* A statement that is there, or the line last queried: whether the last call was done, its rows then, and what they add up to. */
 typedef struct statement {
@@ -43,7 +44,17 @@ typedef struct interrupter {
     int is_open;
 } interrupter;
 
+/* A cursor holds the tables of that number. So many rows are still to be read; and those that were read last. */
+typedef struct reading {
+    mmdb_cursor with;
+    int is_open;
+    uint64_t tables;
+    uint64_t left;
+    statement last;
+} reading;
+
 static handle handles[HANDLES];
+static reading readings[CURSORS];
 static interrupter interrupters[INTERRUPTERS];
 static uint64_t state;
 static uint64_t tables_made;
@@ -216,12 +227,21 @@ static int is_within(mmdb_status status, uint32_t allowed, const char *call)
 }
 
 /* Whether another handle shares the tables of this one. */
-static int is_shared(const handle *of)
+static int has_sharer(const handle *of)
 {
     int others = 0;
     for (size_t i = 0; i < HANDLES; i++)
         others += &handles[i] != of && handles[i].is_open && handles[i].tables == of->tables;
     return of->is_open && others > 0;
+}
+
+/* Whether another handle shares them, or a cursor holds them. */
+static int is_shared(const handle *of)
+{
+    int holders = has_sharer(of);
+    for (size_t i = 0; i < CURSORS; i++)
+        holders += readings[i].is_open && readings[i].tables == of->tables;
+    return of->is_open && holders > 0;
 }
 
 /* What more a call may give where tables are shared, if it would change them. */
@@ -622,7 +642,7 @@ static void shares(handle *of)
 static void leaves(handle *of)
 {
     const mmdb_status left = of->transactions > 0 ? MMDB_IN_TRANSACTION : MMDB_DONE;
-    if (of->is_open && !is_shared(of) && is_drawn(95))
+    if (of->is_open && !has_sharer(of) && is_drawn(95))
         return;
     is_within(mmdb_leave(&of->db), only(of->is_open ? left : MMDB_NOT_OPEN), "leave");
     if (left == MMDB_DONE)
@@ -672,6 +692,7 @@ static void looks_at_rows(handle *of)
     CHECK(!of->queried.has_rows || sum_of(&of->queried.rows) == of->queried.sum);
 }
 
+#include "hostile_cursors.h"
 #include "hostile_saves.h"
 
 static void calls_on_null(void)
@@ -698,6 +719,7 @@ static void calls_on_null(void)
     CHECK(mmdb_commit(NULL) == MMDB_NOT_OPEN && mmdb_rollback(NULL) == MMDB_NOT_OPEN);
     CHECK(mmdb_share(NULL, NULL) == MMDB_NOT_OPEN && mmdb_leave(NULL) == MMDB_NOT_OPEN && mmdb_clone(NULL, NULL) == MMDB_NOT_OPEN);
     CHECK(mmdb_interrupter_open(NULL, NULL) == MMDB_NOT_OPEN);
+    reads_null();
     saves_and_restores_null();
     mmdb_interrupt(NULL);
     mmdb_interrupter_close(NULL);
@@ -711,7 +733,7 @@ static const maker MAKERS[] = {
     binds,    binds,    binds,    binds,    executes, executes,  executes, asks_columns, asks_columns, looks_at_rows, tells,
     queries,  queries,  asks_why, asks_plan, counts,  begins,    leaves,   commits_or_rolls_back, commits_or_rolls_back,
     executes_many, executes_many, tells_the_version, asks_first, asks_first, interrupts, interrupts,
-    saves, saves, restores, restores, restores, restores,
+    saves, saves, restores, restores, restores, restores, reads_by_cursors, reads_by_cursors, reads_by_cursors,
 };
 
 /* One call. Handles are seldom opened, closed and shared, so that much becomes of what they have. */
@@ -741,6 +763,8 @@ int main(int count, char **words)
         call();
     for (size_t i = 0; i < HANDLES; i++)
         closes(&handles[i]);
+    for (size_t i = 0; i < CURSORS; i++)
+        closes_cursor(&readings[i]);
     for (size_t i = 0; i < INTERRUPTERS; i++)
         closes_interrupter(&interrupters[i]);
     ends_all_restores();

@@ -132,6 +132,7 @@ static void it_is_refused_as_ever(mmdb *db)
 static void it_reads(mmdb *db)
 {
     mmdb_rows rows, columns;
+    mmdb_cursor cursor = MMDB_NO_CURSOR;
     mmdb_bytes answer;
     uint64_t count = 0;
     mmdb_statement find = prepared(db, SELECT);
@@ -140,6 +141,10 @@ static void it_reads(mmdb *db)
     CHECK(count == 1);
     GIVES(mmdb_first(db, find.number, 5, &rows), MMDB_DONE);
     CHECK(shows_one(&rows));
+    GIVES(mmdb_cursor_open(db, find.number, &cursor), MMDB_DONE);
+    GIVES(mmdb_cursor_fetch(&cursor, 5, &rows), MMDB_DONE);
+    CHECK(shows_one(&rows));
+    mmdb_cursor_close(&cursor);
     GIVES(mmdb_columns(db, find.number, &columns), MMDB_DONE);
     CHECK(columns.rows == 1 && reads(mmdb_text(&columns, mmdb_cell_at(&columns, 0, 0)), "t.s"));
     GIVES(mmdb_indexes(db, "t", 1, &answer), MMDB_DONE);

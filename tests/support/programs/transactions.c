@@ -492,6 +492,7 @@ static void statements_are_refused_as_ever(pair *both)
 static void tables_are_neither_shared_nor_left(mmdb *db)
 {
     mmdb closed = MMDB_CLOSED;
+    mmdb_cursor cursor = MMDB_NO_CURSOR;
     pair other = opened();
     GIVES(mmdb_share(db, &closed), MMDB_IN_TRANSACTION);
     CHECK(closed.inside == NULL);
@@ -499,6 +500,8 @@ static void tables_are_neither_shared_nor_left(mmdb *db)
     GIVES(mmdb_share(&other.db, db), MMDB_IN_TRANSACTION);
     GIVES(mmdb_share(db, &other.db), MMDB_IN_TRANSACTION);
     GIVES(mmdb_leave(db), MMDB_IN_TRANSACTION);
+    GIVES(mmdb_cursor_open(db, prepared(db, "select * from t").number, &cursor), MMDB_IN_TRANSACTION);
+    CHECK(cursor.inside == NULL);
     mmdb_close(&other.db);
 }
 
