@@ -26,6 +26,7 @@ enum { LONGEST_WAIT = 60, ROWS = 30, LEAST_STOPS = 200 };
 /* A database, a reader of its tables, and a database apart. */
 static mmdb db, reader, apart;
 static mmdb_interrupter of_db, of_apart;
+static mmdb_cursor cursor;
 static mmdb_statement insert, find, find_on_reader;
 static mmdb_rows rows;
 
@@ -148,6 +149,8 @@ static mmdb_status calls_reader(void) { return mmdb_execute(&reader, find_on_rea
 static mmdb_status calls_share(void) { return mmdb_share(&db, &reader); }
 static mmdb_status calls_leave(void) { return mmdb_leave(&reader); }
 static mmdb_status calls_interrupter(void) { return mmdb_interrupter_open(&db, &of_db); }
+static mmdb_status calls_cursor(void) { return mmdb_cursor_open(&db, find.number, &cursor); }
+static mmdb_status calls_fetch(void) { return mmdb_cursor_fetch(&cursor, ROWS, &rows); }
 
 static mmdb_status calls_close(void)
 {
@@ -155,7 +158,8 @@ static mmdb_status calls_close(void)
     return MMDB_DONE;
 }
 
-/* A call, the handle that is in it, whether the reader shares the tables before it, and whether these stay shared. */
+/* A call, the handle that is in it or null where that is the cursor, whether the reader shares the tables before it, and whether these stay
+   shared. */
 typedef struct tried {
     mmdb_status (*call)(void);
     mmdb *on;
@@ -169,6 +173,7 @@ static const tried CALLS[] = {
     { calls_prepare, &db, 0, 0 }, { calls_finalize, &db, 0, 0 }, { calls_rollback, &db, 0, 0 },  { calls_close, &db, 0, 0 },
     { calls_select, &db, 1, 1 },  { calls_query, &db, 1, 1 },    { calls_close, &db, 1, 0 },     { calls_reader, &reader, 1, 1 },
     { calls_leave, &reader, 1, 0 }, { calls_share, &reader, 0, 0 }, { calls_interrupter, &db, 0, 0 },
+    { calls_cursor, &db, 0, 0 },  { calls_fetch, NULL, 0, 1 },
 };
 
 /* Which call is made, before which call for memory it stops, what it gave, and whether it has ended. */
@@ -214,6 +219,17 @@ static void is_closed(mmdb *was)
     mmdb_close(was);
 }
 
+/* A cursor that was in a call, or that one was to open, is closed and opens anew. */
+static void cursor_is_closed(void)
+{
+    GIVES(mmdb_cursor_fetch(&cursor, 1, &rows), MMDB_NOT_OPEN);
+    prepare(&apart, "select s from t", &find);
+    GIVES(mmdb_cursor_open(&apart, find.number, &cursor), MMDB_DONE);
+    GIVES(mmdb_cursor_fetch(&cursor, ROWS + 1, &rows), MMDB_DONE);
+    CHECK(rows.rows == ROWS);
+    mmdb_cursor_close(&cursor);
+}
+
 /* A database that no other thread was in a call on is changed, rolled back and closed. Its interrupter outlives it. */
 static void goes_on_apart(void)
 {
@@ -228,7 +244,7 @@ static void goes_on_apart(void)
     mmdb_interrupter_close(&of_apart);
 }
 
-/* A handle that shared its tables with that in a call reads them, and none changes them any more. */
+/* A handle that shared its tables with that in a call, or with a cursor in one, reads them, and none changes them any more. */
 static void reads_on(mmdb *other)
 {
     CHECK(has_rows(other, ROWS));
@@ -243,8 +259,10 @@ static void check_child(const turn *now)
 {
     checks_failed = 0;
     alarm(LONGEST_WAIT);
-    if (now != NULL)
+    if (now != NULL && now->of->on != NULL)
         is_closed(now->of->on);
+    if (now != NULL && (now->of->call == calls_cursor || now->of->call == calls_fetch))
+        cursor_is_closed();
     if (now != NULL && now->of->call == calls_share)
         is_closed(&db);
     if (now != NULL && now->of->goes_on)
@@ -280,6 +298,8 @@ static int forks_within(const tried *of, long stop)
         GIVES(mmdb_begin(&db), MMDB_DONE);
         GIVES(command(&db, "delete t where id > 2", NULL), MMDB_DONE);
     }
+    if (of->call == calls_fetch)
+        GIVES(calls_cursor(), MMDB_DONE);
     CHECK(pthread_create(&thread, NULL, make_call, &now) == 0);
     sem_wait(&stopped);
     if (!now.has_ended) {
@@ -290,6 +310,7 @@ static int forks_within(const tried *of, long stop)
     CHECK(pthread_join(thread, NULL) == 0);
     GIVES(now.given, MMDB_DONE);
     mmdb_interrupter_close(&of_db);
+    mmdb_cursor_close(&cursor);
     mmdb_close(&reader);
     mmdb_close(&db);
     return !now.has_ended;
