@@ -1,6 +1,6 @@
-/* Cursors: the rows of selects that are read in pages of any size, beside those of an execution and under each policy; each status of the
-   three calls; what is done, and what is declined, while one is open; and what it needs no longer. Each call for memory of an open and
-   of a fetch is refused in turn. */
+/* Cursors: the rows of selects that are read in pages of any size, beside those of an execution and under each policy. Each status of the
+   three calls; what is done, and what is declined, while a cursor is open; and what it needs no longer. Each call for memory of an open
+   and of a fetch is refused in turn. */
 #include "allocations.h"
 #include "selecting.h"
 
