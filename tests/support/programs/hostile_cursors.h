@@ -77,9 +77,9 @@ static void reads_by_cursors(handle *of)
 {
     reading *to = &readings[drawn(CURSORS)];
     const uint64_t luck = drawn(100);
-    if (luck < 25)
+    if (luck < 30)
         opens_cursor(of, to);
-    else if (luck < 65)
+    else if (luck < 75)
         fetches(to);
     else
         closes_cursor(to);
