@@ -1,7 +1,8 @@
 """Very many random streams in one process over the library, judged by plain lists of rows: whole under each policy, in pieces, line by
 line and as statements. Line by line each refusal has its number and a reason. As statements values are bound and rows are cells. In
 transactions, whose ends are drawn, all of this is mixed, and after each rollback all tables and indexes are looked at. Between them readers
-are drawn, which share the tables for a while. Behind its lines a database is saved, and one that is restored of that is like it.
+are drawn, which share the tables for a while, and cursors are read. Behind its lines a database is saved, and one that is restored of that is
+like it.
 
 In large sizes (`tests/fire many_streams`) the environment selects streams: MMDB_FIRST is the number of the first, MMDB_STREAMS how many,
 MMDB_SEED the seed, MMDB_JOBS the number of processes. MMDB_KEPT names a file that keeps the progress, so that a run can go on later.
@@ -312,6 +313,7 @@ class Planted(unittest.TestCase):
         "a new one has tables of its own": ("SHARE", lambda call, db, reader: call(db, reader) if is_open(reader) else own_tables(reader)),
         "a change is told as done": ("QUERY", lambda call, db, *given: 0 * call(db, *given)),
         "a transaction begins": ("BEGIN", lambda call, db: 0 * call(db)),
+        "a page of a cursor is passed over": ("CURSOR_FETCH", lambda call, *given: call(*given) or call(*given)),
     }
 
     def test_mistakes_are_seen(self):

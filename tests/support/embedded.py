@@ -83,6 +83,9 @@ EXECUTE = call("mmdb_execute", NUMBER, ADDRESS, NUMBER, ADDRESS)
 COLUMNS = call("mmdb_columns", NUMBER, ADDRESS, NUMBER, ADDRESS)
 COUNT = call("mmdb_count", NUMBER, ADDRESS, NUMBER, ADDRESS)
 FIRST = call("mmdb_first", NUMBER, ADDRESS, NUMBER, SIZE, ADDRESS)
+CURSOR_OPEN = call("mmdb_cursor_open", NUMBER, ADDRESS, NUMBER, ADDRESS)
+CURSOR_FETCH = call("mmdb_cursor_fetch", NUMBER, ADDRESS, SIZE, ADDRESS)
+CURSOR_CLOSE = call("mmdb_cursor_close", None, ADDRESS)
 FINALIZE = call("mmdb_finalize", NUMBER, ADDRESS, NUMBER)
 QUERY = call("mmdb_query", NUMBER, ADDRESS, ADDRESS, SIZE, ADDRESS)
 BEGIN = call("mmdb_begin", NUMBER, ADDRESS)
@@ -270,6 +273,24 @@ class Handle:
         commanded = COMMAND(self.at, change, len(change), self.told_at)
         queried = QUERY(self.at, change, len(change), ctypes.addressof(rows))
         return {commanded, queried, BEGIN(self.at)} == {SHARED}
+
+
+class Cursor:
+    """The rows that a statement has, to be read page by page."""
+
+    def __init__(self, handle, statement):
+        self.inside = ctypes.c_void_p(None)
+        self.at = ctypes.addressof(self.inside)
+        handle.done(CURSOR_OPEN(handle.at, statement.number, self.at))
+
+    def page(self, most):
+        """The values of the next rows, so many at most."""
+        rows = Rows()
+        Handle.done(CURSOR_FETCH(self.at, most, ctypes.addressof(rows)))
+        return rows.values()
+
+    def close(self):
+        CURSOR_CLOSE(self.at)
 
 
 def answers_to(pieces, policy="auto", limits=model.Limits()):

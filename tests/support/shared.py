@@ -1,19 +1,22 @@
 """Readers that are drawn between the units of a stream: handles that share the tables of another, read them, leave, and share them again.
+A cursor of one of them is read meanwhile.
 
 What must hold: a reader answers each select as the judge does, nothing changes while tables are shared, and afterwards the handle goes on.
 """
 
 import collections
 
-from . import embedded, prepared, transacted
+from . import embedded, model, prepared, transacted
 
 # How many readers there are at most, how much they do in a visit, and the chances of its ends.
 MOST_READERS = 3
 STEPS = 8
 CLOSED, HANDED_OVER = 0.3, 0.3
+# How many rows a page of a cursor has at most.
+PAGE = 2
 NO_TABLE = b"error 30 no such table\n"
 COVERED = ["opened", "shared again", "left", "closed", "reads", "reads refused", "reads after leaving", "changes declined"]
-COVERED += ["indexes read", "tables handed over", "visits in a fed unit"]
+COVERED += ["indexes read", "cursors read", "tables handed over", "visits in a fed unit"]
 
 
 class Reader:
@@ -22,6 +25,28 @@ class Reader:
     def __init__(self, source, draw, count):
         self.handle = embedded.Handle(shares=source)
         self.statements = prepared.Statements(self.handle, draw, count)
+
+
+class Reading:
+    """A cursor on the rows of a select, the first of which are read, and the answer that its line has."""
+
+    def __init__(self, handle, line, answer):
+        statement = handle.prepare(line)
+        if statement is None:
+            raise AssertionError(f"{line!r} is refused on a reader")
+        self.line = line
+        self.answer = answer
+        self.names = [name for name, _ in handle.columns(statement)]
+        self.cursor = embedded.Cursor(handle, statement)
+        handle.finalize(statement)
+        self.rows = self.cursor.page(PAGE)
+
+    def end(self):
+        """The answer that its pages make. It is closed."""
+        while page := self.cursor.page(PAGE):
+            self.rows += page
+        self.cursor.close()
+        return b"rows %d\n" % len(self.rows) + b"".join(map(model.record, [self.names, *self.rows]))
 
 
 class Readers:
@@ -43,9 +68,12 @@ class Readers:
         self.note("visits in a fed unit", is_fed)
         for _ in range(self.draw.randrange(1, MOST_READERS + 1)):
             self.come()
+        reading = self.begin_reading()
         steps = [self.read, self.read, self.read_again, self.read_indexes, self.decline, self.go_and_come]
         for _ in range(STEPS):
             self.draw.choice(steps)()
+        if reading:
+            self.end_reading(reading)
         if self.draw.random() < HANDED_OVER:
             self.hand_over()
         while self.here:
@@ -109,6 +137,21 @@ class Readers:
         self.note("tables handed over")
 
     # ---- what they do
+
+    def begin_reading(self):
+        """A cursor of a reader, on a select of the stream, mostly with joins or `distinct`, or on a table; or None if there is none."""
+        lines = sorted(self.selects, key=lambda line: b"join" not in line and b"distinct" not in line)
+        for line in [*lines, *(f"select * from {name}".encode() for name in self.judge.tables.by_name)]:
+            answer = self.judge.answer(line, b"")
+            if answer.startswith(b"rows "):
+                self.note("cursors read")
+                return Reading(self.here[0].handle, line, answer)
+        return None
+
+    def end_reading(self, reading):
+        told = reading.end()
+        if told != reading.answer:
+            self.misfits.append(f"{reading.line!r} is read by a cursor as {told!r}, not {reading.answer!r}")
 
     def compare(self, line, statements, expected):
         answer = statements.ask(line, b"")

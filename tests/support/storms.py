@@ -13,7 +13,7 @@ INTERRUPTED = 18
 # The most binary digits of the nanoseconds between two asks.
 DIGITS_OF_PAUSES = 18
 # The calls that do a select.
-SELECTS = ("EXECUTE", "FIRST", "COUNT", "QUERY")
+SELECTS = ("EXECUTE", "FIRST", "COUNT", "QUERY", "CURSOR_OPEN")
 
 
 class Storms:

@@ -68,6 +68,7 @@ class Tape:
             "COLUMNS": lambda at, of, to: self.add(b"columns", of),
             "FIRST": lambda at, of, most, to: self.add(b"first", of, most),
             "COUNT": lambda at, of, to: self.add(b"count", of),
+            "CURSOR_OPEN": lambda at, of, to: self.add(b"cursor_open", of),
             "FINALIZE": lambda at, of: self.add(b"finalize", of),
             "BEGIN": lambda at: self.add(b"begin"),
             "COMMIT": lambda at: self.add(b"commit"),
@@ -81,9 +82,11 @@ class Tape:
         }
 
     def written_without_handle(self):
-        """The same of calls that are on no handle. One restore is open at a time."""
+        """The same of calls that are on no handle. One restore and one cursor are open at a time."""
         return {
             "OPEN": self.open,
+            "CURSOR_FETCH": lambda at, most, to: self.add(b"cursor_fetch", most),
+            "CURSOR_CLOSE": lambda at: self.add(b"cursor_close"),
             "RESTORE_OPEN": lambda at, *numbers: self.add(b"restore_open", *numbers),
             "RESTORE_TAKE": lambda at, piece, length, to: self.add(b"restore_take+", length, behind=piece),
             "RESTORE_END": lambda at, db: self.add(b"restore_end", self.number(db)),

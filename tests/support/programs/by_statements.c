@@ -7,7 +7,7 @@
    `integer LENGTH`, `text LENGTH` or `null 0` with the value, and `execute 0`. One that is prepared is finalised behind
    that. `open 1` with the digit of a policy begins anew, with no tables; lines stay lines from there on.
 
-   The rows of each select are also read by a cursor, in pages of few rows.
+   Where VALUES_STAY is 0 the rows of each select are also read by a cursor, in pages of few rows.
 
    Where INTERRUPTED is 1, all is asked to end at random times. A select that was ended is executed again until it isn't, and it is
    counted, asked for all of its first rows and queried beside. How many were ended is told on standard error. */
@@ -414,7 +414,7 @@ static mmdb_status executed(mmdb *db, uint32_t number, const written *line, mmdb
     mmdb_cursor cursor = MMDB_NO_CURSOR;
     const mmdb_status status = mmdb_execute(db, number, rows);
     (void)line;
-    if (status != MMDB_DONE || rows->columns == 0)
+    if (VALUES_STAY || status != MMDB_DONE || rows->columns == 0)
         return status;
     GIVES(mmdb_cursor_open(db, number, &cursor), MMDB_DONE);
     is_read_in_pages(&cursor, rows);

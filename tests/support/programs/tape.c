@@ -48,6 +48,7 @@ static int is(const call *of, const char *name)
 
 static mmdb handles[HANDLES];
 static mmdb_restore restore = MMDB_NO_RESTORE;
+static mmdb_cursor cursor = MMDB_NO_CURSOR;
 static mmdb_save_mark mark = MMDB_SAVE_BEGIN;
 
 static mmdb *handle(uint64_t number)
@@ -130,6 +131,21 @@ static int states(mmdb *db, const call *of)
     return 1;
 }
 
+/* The calls that read the rows of a statement page by page. Gives 0 where it is none of these. */
+static int reads_pages(mmdb *db, const call *of)
+{
+    mmdb_rows rows;
+    if (is(of, "cursor_open"))
+        mmdb_cursor_open(db, (uint32_t)of->numbers[0], &cursor);
+    else if (is(of, "cursor_fetch"))
+        mmdb_cursor_fetch(&cursor, (size_t)of->numbers[0], &rows);
+    else if (is(of, "cursor_close"))
+        mmdb_cursor_close(&cursor);
+    else
+        return 0;
+    return 1;
+}
+
 /* The calls on transactions. Gives 0 where it is none of these. */
 static int transacts(mmdb *db, const call *of)
 {
@@ -185,7 +201,7 @@ static int saves(mmdb *db, const call *of)
 static long make(mmdb *db, const call *of, long to_refused)
 {
     refuse_nth(to_refused);
-    CHECK(asks(db, of) || states(db, of) || transacts(db, of) || shares(db, of) || saves(db, of));
+    CHECK(asks(db, of) || states(db, of) || reads_pages(db, of) || transacts(db, of) || shares(db, of) || saves(db, of));
     return refuse_nth(0);
 }
 
@@ -206,6 +222,7 @@ int main(void)
         free(next.bytes);
     }
     close_all();
+    mmdb_cursor_close(&cursor);
     mmdb_restore_close(&restore);
     return checks_failed != 0;
 }
