@@ -1,7 +1,7 @@
 """Very many random streams in one process over the library, judged by plain lists of rows: whole under each policy, in pieces, line by
 line and as statements. Line by line each refusal has its number and a reason. As statements values are bound and rows are cells. In
 transactions, whose ends are drawn, all of this is mixed, and after each rollback all tables and indexes are looked at. Between them readers
-are drawn, which share the tables for a while, and cursors are read. Behind its lines a database is saved, and one that is restored of that is
+are drawn, which share the tables for a while and read cursors. Behind its lines a database is saved, and one that is restored of that is
 like it.
 
 In large sizes (`tests/fire many_streams`) the environment selects streams: MMDB_FIRST is the number of the first, MMDB_STREAMS how many,
