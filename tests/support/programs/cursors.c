@@ -476,7 +476,7 @@ static void rows_of_others_stay(void)
     mmdb_close(&db);
 }
 
-/* A cursor needs neither its statement nor its database, and is closed before or behind them. With the last of them all memory comes back. */
+/* A cursor needs neither its statement nor its database, and is closed before or behind it. All memory comes back with the last of them. */
 static void it_outlives_its_statement_and_database(void)
 {
     for (int order = 0; order < 4; order++) {
