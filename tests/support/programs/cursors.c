@@ -522,12 +522,12 @@ static long bytes_held(mmdb *db, const char *line, size_t *rows)
 static void it_holds_references(mmdb *db, const char *line, size_t tables)
 {
     size_t rows;
-    long before;
+    long blocks;
     bytes_held(db, line, &rows);
-    before = allocations_bytes();
+    blocks = allocations_held();
     /* (a list that grows doubles) */
     CHECK(bytes_held(db, line, &rows) < (long)(2 * BYTES_OF_REFERENCE * tables * rows) + LITTLE);
-    CHECK(rows >= ROWS / 2 && allocations_bytes() == before);
+    CHECK(rows >= ROWS / 2 && allocations_held() == blocks);
 }
 
 static void each_holds_references(void)
