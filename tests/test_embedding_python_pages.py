@@ -1,4 +1,6 @@
-"""The binding for Python: selects that are iterated over page by page, by a line, by a statement and by a reader."""
+"""The binding for Python: selects that are iterated over page by page, by a line, by a statement and by a reader. What is read by a cursor
+is also tested by test_embedding_python_cursors.py.
+"""
 
 import datetime
 import enum
@@ -12,8 +14,8 @@ from support.binding import mmdb
 
 SEED = 20261130
 ROWS = 300
-# Selects that are read by pages, each with one parameter.
-BY_PAGE = (
+# Selects that are read by their key, each with one parameter.
+BY_KEY = (
     "select * from t where id > ?",
     "select*from t where id>?",
     "select s from t where id >= ? and id < 250",
@@ -23,8 +25,8 @@ BY_PAGE = (
     "select t.s from t where s <> 'from u join t where distinct ? :a ' and n < ?",
     "select * from t where t.n > ?",
 )
-# And others, which are read whole.
-WHOLE = (
+# And others, which are read by a cursor.
+BY_CURSOR = (
     "select distinct s from t where id > ?",
     "select\tdistinct n, id from t where id > ?",
     "select u.id, t.s from u join t on u.t = t.id where u.id > ?",
@@ -54,21 +56,24 @@ class Pages(binding.WithDatabase):
         self.assertEqual(found, rows)
         self.assertEqual(list(map(type, found)), list(map(type, rows)))
 
-    def sees_changes(self, line, *parameters):
-        """Whether a select of two rows or more is read by pages, so that a change between the two is seen."""
+    def met_by_changes(self, line, *parameters):
+        """What is raised where a table is changed between two rows of a select: by the next row if it is read by its key, and by the
+        change if by a cursor."""
         rows = self.db.iterate(line, *parameters, page=1)
         self.assertEqual(next(rows), self.db.first(1, line, *parameters)[0])
-        self.db.change("update t set s = 'other' where id = 0")
         try:
-            self.assertGreater(len(list(rows)), 0)
-            return False
-        except mmdb.Changed:
-            return True
+            self.db.change("update t set s = 'other' where id = 0")
+        except mmdb.Shared as why:
+            self.assertEqual(len(list(rows)), self.db.count(line, *parameters) - 1)
+            return type(why)
+        with self.assertRaises(mmdb.Changed) as raised:
+            next(rows)
+        return type(raised.exception)
 
     def test_they_are_all_rows(self):
         draw = random.Random(SEED)
         with self.db.reader() as reader:
-            for line in (*BY_PAGE, *WHOLE):
+            for line in (*BY_KEY, *BY_CURSOR):
                 statements = [handle.prepare(line) for handle in (self.db, reader)]
                 for page in (1, 2, 7, ROWS - 1, ROWS, ROWS + 1, 1 << 70):
                     value = draw.choice([-1, 0, 5, ROWS // 2, ROWS - 2, ROWS])
@@ -79,11 +84,11 @@ class Pages(binding.WithDatabase):
                         for statement in statements:
                             self.check_same(statement.iterate(value, page=page), rows)
 
-    def test_what_is_read_by_pages(self):
-        for lines, is_paged in ((BY_PAGE, True), (WHOLE, False)):
+    def test_how_they_are_read(self):
+        for lines, raised in ((BY_KEY, mmdb.Changed), (BY_CURSOR, mmdb.Shared)):
             for line in lines:
                 with self.subTest(line=line):
-                    self.assertEqual(self.sees_changes(line, 5), is_paged)
+                    self.assertEqual(self.met_by_changes(line, 5), raised)
 
     def test_more_rows_than_a_page_has(self):
         count = 2 * 10_000 + 1
@@ -122,8 +127,8 @@ class Pages(binding.WithDatabase):
             for long in (line + " " * (length - len(line)), line.replace("''", f"'{'x' * (length - len(line))}'")):
                 with self.subTest(item=item, length=length):
                     self.check_same(self.db.iterate(long, page=70), self.db.select(long))
-                    seen.add(self.sees_changes(long))
-        self.assertEqual(seen, {True, False})
+                    seen.add(self.met_by_changes(long))
+        self.assertEqual(seen, {mmdb.Changed, mmdb.Shared})
         self.refused(10, self.db.iterate, line + " " * (8193 - len(line)))
 
     def test_names_that_are_nearly_words(self):

@@ -8,7 +8,7 @@ from support.binding import mmdb
 READERS = 4
 READS, WRITES = sizes.size(200, 5_000, 60), sizes.size(40, 1_000, 15)
 ALL = "select * from t"
-SHARED = "^mmdb: readers share the tables, and nothing changes them until all have left$"
+SHARED = "^mmdb: readers or iterators share the tables, and nothing changes them until all have left or are closed$"
 
 
 class Readers(binding.WithDatabase):

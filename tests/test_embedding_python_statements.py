@@ -442,7 +442,9 @@ class Stub(binding.WithDatabase):
     def test_each_call(self):
         self.db.execute("table t (id int)")
         self.db.execute("insert t (1)")
+        line = "select distinct id from t"
         made = {"Named": self.db.dump("t")[0], "Handle": self.db, "Prepared": self.db.prepare("select * from t")}
+        made["Cursor"] = self.db._cursor(line, mmdb.lines.placed(line), ())  # pylint: disable=protected-access
         stub = ast.parse((binding.FOLDER / "mmdb" / "_mmdb.pyi").read_text())
         classes = [each for each in stub.body if isinstance(each, ast.ClassDef)]
         self.assertEqual([each.name for each in classes], list(made))

@@ -29,12 +29,14 @@ BROUGHT = ("release/libmmdb.so", "release/THIRD-PARTY", "LICENSE-MIT", "LICENSE-
 BUILT_OF = ("release/libmmdb.a", "release/mmdb.h")
 SOURCES = (
     "_mmdb.c",
+    "_cursor.c",
     "_interrupts.c",
     "_kept.c",
     "_named.c",
     "_prepared.c",
     "_quotes.c",
     "_records.c",
+    "_rows.c",
     "_statement.c",
     "_turns.c",
 )

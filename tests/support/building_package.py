@@ -17,7 +17,8 @@ from . import harness, tested
 FOLDER = harness.ROOT / "bindings" / "python"
 BROUGHT = {"libmmdb.so", "LICENSE-APACHE", "LICENSE-MIT", "THIRD-PARTY"}
 BUILT_OF = {"libmmdb.a", "mmdb.h"}
-SOURCES = {f"_{name}.c" for name in ("interrupts", "kept", "mmdb", "named", "prepared", "quotes", "records", "statement", "turns")} | {"_mmdb.h"}
+PARTS = ("cursor", "interrupts", "kept", "mmdb", "named", "prepared", "quotes", "records", "rows", "statement", "turns")
+SOURCES = {f"_{part}.c" for part in PARTS} | {"_mmdb.h"}
 EXTENSION = "_mmdb.abi3.so"
 # (pip reads these; nothing is to be sought in a network, and nothing kept)
 QUIETLY = {"PIP_NO_INDEX": "1", "PIP_NO_CACHE_DIR": "1", "PIP_DISABLE_PIP_VERSION_CHECK": "1", "PIP_ROOT_USER_ACTION": "ignore"}

@@ -266,13 +266,24 @@ static PyObject *page_of(Handle *handle, Statement *statement, PyObject *asked)
     return found;
 }
 
-static PyObject *handle_page(PyObject *self, PyObject *words)
+/* Does a select with stored values. */
+static PyObject *done_with_stored(PyObject *self, PyObject *words, PyObject *(*done)(Handle *, Statement *, PyObject *))
 {
     Given given;
     if (!PyArg_ParseTuple(words, "OO!O!", &given.line, &PyTuple_Type, &given.placed, &PyTuple_Type, &given.values))
         return NULL;
-    PyObject *found = done_with(self, &given, given.values, page_of);
+    PyObject *found = done_with(self, &given, given.values, done);
     return found != NULL || PyErr_Occurred() ? found : nothing_raised();
+}
+
+static PyObject *handle_page(PyObject *self, PyObject *words)
+{
+    return done_with_stored(self, words, page_of);
+}
+
+static PyObject *handle_cursor(PyObject *self, PyObject *words)
+{
+    return done_with_stored(self, words, cursor_of);
 }
 
 /* The bytes of an answer, or none of an empty line; or null, and what a status says is raised. */
@@ -563,6 +574,8 @@ static PyMethodDef handle_methods[] = {
     { "_first", handle_first, METH_VARARGS,
       "The first rows of a select, which is kept by its line: how many at most comes before its values." },
     { "_page", handle_page, METH_VARARGS, "The same of stored values. Those of the rows are as they are stored too." },
+    { "_cursor", handle_cursor, METH_VARARGS,
+      "A cursor on the rows of a select, which is kept by its line, with these stored values. None in a transaction." },
     { "_command", handle_command, METH_VARARGS, "What is answered to a line." },
     { "_load", handle_load, METH_VARARGS, "What is answered to a line with its block." },
     { "_indexes", handle_indexes, METH_VARARGS, "What is answered to who asks how the indexes of a table stand." },
@@ -636,8 +649,9 @@ PyMODINIT_FUNC PyInit__mmdb(void)
     if (made == NULL)
         return NULL;
     handle_type = (PyTypeObject *)PyType_FromSpec(&handle_spec);
-    if (handle_type == NULL || PyModule_AddObjectRef(made, "Handle", (PyObject *)handle_type) < 0 || statement_begin() < 0 ||
-        kept_begin() < 0 || turns_begin() < 0 || interrupts_begin() < 0 || named_begin(made) < 0 || prepared_begin(made) < 0)
+    if (handle_type == NULL || PyModule_AddObjectRef(made, "Handle", (PyObject *)handle_type) < 0 || rows_begin() < 0 ||
+        kept_begin() < 0 || turns_begin() < 0 || interrupts_begin() < 0 || named_begin(made) < 0 || prepared_begin(made) < 0 ||
+        cursor_begin(made) < 0)
         Py_CLEAR(made);
     return made;
 }

@@ -34,6 +34,9 @@ typedef struct {
     uint64_t commands; /* how many lines and loads there were when that was found */
 } Pace;
 
+/* After how many rows it is asked whether the user wants an end. */
+#define ROWS_BETWEEN_SIGNALS 1024
+
 /* How many kinds of lines a pace is known of at most. */
 #define PACES 64
 
@@ -118,6 +121,7 @@ typedef struct Step {
     size_t most;
     mmdb_rows *rows;
     uint64_t count;
+    mmdb_cursor *cursor;
 } Step;
 
 /* What is given in the place of an mmdb_status where something was raised. */
@@ -159,10 +163,26 @@ PyObject *nothing_raised(void);
 /* What _prepared.c has: statements that are prepared by name. Makes the type of them, and puts it into the module. */
 int prepared_begin(PyObject *module);
 
-/* What _statement.c has: what is done with one statement. */
+/* What _cursor.c has: selects that are read page by page. */
 
-/* Makes what the statements share. */
-int statement_begin(void);
+/* Makes the type of cursors, and puts it into the module. */
+int cursor_begin(PyObject *module);
+
+/* A cursor on the rows that a select shows with the stored values of a tuple. Gives None in a transaction. */
+PyObject *cursor_of(Handle *handle, Statement *statement, PyObject *values);
+
+/* What _rows.c has: rows and their values, which are made of cells. */
+
+/* Makes what they share. */
+int rows_begin(void);
+
+/* Rows of a shape. How many bytes their cells and texts are is added to the size. */
+PyObject *rows_of(PyObject *shape, const mmdb_rows *rows, size_t *size);
+
+/* The values of a column, as a tuple. */
+PyObject *column_of(const mmdb_rows *rows, size_t column);
+
+/* What _statement.c has: what is done with one statement. */
 
 /* Takes the fields of Placed, by their order. */
 int statement_take(Statement *statement, PyObject *placed);
@@ -197,6 +217,10 @@ PyObject *statement_count(Handle *handle, Statement *statement, PyObject *values
 /* The first rows that a select shows, by a tuple of how many at most and of its values. Gives null, and nothing is raised, where one
    of the values isn't stored as it is. */
 PyObject *statement_first(Handle *handle, Statement *statement, PyObject *asked);
+
+/* Opens a cursor on the rows that a select shows with the values of a tuple, and gives their shape; or None in a transaction, where it
+   isn't opened. Gives null, and nothing is raised, where one of the values isn't stored as it is. */
+PyObject *statement_open_cursor(Handle *handle, Statement *statement, PyObject *values, mmdb_cursor *cursor);
 
 /* Does an insert, an update or a delete with each row of a list of tuples, and gives how many rows all were about. Gives
    null, and nothing is raised or done, where one of the values isn't stored as it is. */

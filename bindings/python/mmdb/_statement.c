@@ -1,4 +1,4 @@
-/* What is done with one statement: values in, rows out, and what is raised. */
+/* What is done with one statement: values in, and what is raised. */
 #include "_mmdb.h"
 
 #include <string.h>
@@ -14,9 +14,6 @@
 
 /* How many values are put in order without asking for memory. No command that is accepted has as many places. */
 #define MOST_VALUES 64
-
-/* After how many rows it is asked whether the user wants an end. */
-#define ROWS_BETWEEN_SIGNALS 1024
 
 void statement_clear(Statement *statement)
 {
@@ -205,120 +202,7 @@ static int bind_all(Handle *handle, Statement *statement, PyObject *const *value
     return MMDB_DONE;
 }
 
-/* ---- rows out */
-
-static PyObject *value_of(const mmdb_rows *rows, const mmdb_cell *cell)
-{
-    if (cell->kind == MMDB_INTEGER)
-        return PyLong_FromLongLong(cell->integer);
-    if (cell->kind == MMDB_TEXT) {
-        mmdb_bytes text = mmdb_text(rows, cell);
-        return PyUnicode_DecodeUTF8((const char *)text.at, (Py_ssize_t)text.length, "strict");
-    }
-    return none();
-}
-
-/* How objects are made of a type that is made of list or tuple. */
-typedef struct {
-    PyTypeObject *type;
-    newfunc make;
-} Maker;
-
-/* No arguments. */
-static PyObject *nothing;
-
-static Maker maker_of(PyObject *type)
-{
-    return (Maker){ (PyTypeObject *)type, (newfunc)PyType_GetSlot((PyTypeObject *)type, Py_tp_new) };
-}
-
-static PyObject *empty_list(Maker maker)
-{
-    return maker.make(maker.type, nothing, NULL);
-}
-
-/* Puts a value at the end of a list, and lets go of it. */
-static int push(PyObject *list, PyObject *value)
-{
-    int status = value == NULL ? -1 : PyList_Append(list, value);
-    Py_XDECREF(value);
-    return status;
-}
-
-/* Puts the values of a row into a new tuple, which may be null, and gives it. Their bytes in the library are added to the
-   size. */
-static PyObject *filled(PyObject *tuple, const mmdb_rows *rows, size_t number, size_t *size)
-{
-    for (size_t column = 0; tuple != NULL && column < rows->columns; column++) {
-        const mmdb_cell *cell = mmdb_cell_at(rows, number, column);
-        PyObject *value = value_of(rows, cell);
-        *size += sizeof *cell + (cell->kind == MMDB_TEXT ? cell->length : 0);
-        if (value == NULL || PyTuple_SetItem(tuple, (Py_ssize_t)column, value) < 0)
-            Py_CLEAR(tuple);
-    }
-    return tuple;
-}
-
-/* Whether a tuple has nothing but its items, so that it is whole once they are put into it. From Python 3.14 on it also
-   has its hash, and is made by its type alone. */
-static int is_items_alone;
-
-/* A row. */
-static PyObject *row_of(Maker maker, const mmdb_rows *rows, size_t number, size_t *size)
-{
-    Py_ssize_t columns = (Py_ssize_t)rows->columns;
-    if (is_items_alone)
-        return filled(PyType_GenericAlloc(maker.type, columns), rows, number, size);
-    PyObject *values = filled(PyTuple_New(columns), rows, number, size), *row = NULL;
-    PyObject *argument = values == NULL ? NULL : PyTuple_Pack(1, values);
-    if (argument != NULL)
-        row = maker.make(maker.type, argument, NULL);
-    Py_XDECREF(argument);
-    Py_XDECREF(values);
-    return row;
-}
-
-/* The names under which rows have their columns' names and types. */
-static PyObject *names_word, *types_word;
-
-static PyObject *list_of_rows(const Statement *statement, const mmdb_rows *rows, size_t *size)
-{
-    Maker maker = maker_of(PyTuple_GetItem(statement->shape, 3));
-    PyObject *list = empty_list(maker_of(PyTuple_GetItem(statement->shape, 0)));
-    if (list != NULL && (PyObject_SetAttr(list, names_word, PyTuple_GetItem(statement->shape, 1)) < 0 ||
-                         PyObject_SetAttr(list, types_word, PyTuple_GetItem(statement->shape, 2)) < 0))
-        Py_CLEAR(list);
-    for (size_t number = 0; list != NULL && number < rows->rows; number++) {
-        int wants_end = number % ROWS_BETWEEN_SIGNALS == ROWS_BETWEEN_SIGNALS - 1 && PyErr_CheckSignals() < 0;
-        if (wants_end || push(list, row_of(maker, rows, number, size)) < 0)
-            Py_CLEAR(list);
-    }
-    return list;
-}
-
-/* The rows, whose cells are good until the statement is done again. What the collector ends could do so, and waits. */
-static PyObject *rows_of(const Statement *statement, const mmdb_rows *rows, size_t *size)
-{
-    int is_collecting = PyGC_Disable();
-    PyObject *list = list_of_rows(statement, rows, size);
-    if (is_collecting)
-        PyGC_Enable();
-    return list;
-}
-
-/* The values of a column, as a tuple. */
-static PyObject *column_of(const mmdb_rows *rows, size_t column)
-{
-    PyObject *tuple = PyTuple_New((Py_ssize_t)rows->rows);
-    for (size_t number = 0; tuple != NULL && number < rows->rows; number++) {
-        PyObject *value = value_of(rows, mmdb_cell_at(rows, number, column));
-        if (value == NULL)
-            Py_CLEAR(tuple);
-        else
-            PyTuple_SetItem(tuple, (Py_ssize_t)number, value);
-    }
-    return tuple;
-}
+/* ---- its columns */
 
 int statement_know_shape(Handle *handle, Statement *statement)
 {
@@ -364,6 +248,11 @@ static uint32_t first_by(Handle *handle, Step *step)
 static uint32_t count_by(Handle *handle, Step *step)
 {
     return mmdb_count(&handle->db, step->statement, &step->count);
+}
+
+static uint32_t cursor_by(Handle *handle, Step *step)
+{
+    return mmdb_cursor_open(&handle->db, step->statement, step->cursor);
 }
 
 /* Whether a step was done. Else what its status says is raised, if it hasn't been yet. */
@@ -420,7 +309,7 @@ static PyObject *selected(Handle *handle, Statement *statement, PyObject *const 
         if (statement->shape != NULL && statement->columns == rows.columns) {
             if (PyTuple_GetItem(statement->shape, 4) != Py_None)
                 handle->converting = Py_NewRef(statement->shape);
-            return rows_of(statement, &rows, size);
+            return rows_of(statement->shape, &rows, size);
         }
         Py_CLEAR(statement->shape);
     }
@@ -562,6 +451,56 @@ PyObject *statement_first(Handle *handle, Statement *statement, PyObject *asked)
     if (values != room)
         PyMem_Free(values);
     return given;
+}
+
+/* Opens a cursor on the rows of a select whose values are bound, while other threads go on. Gives whether it is open; in a transaction
+   it isn't, and nothing is raised. */
+static int open_cursor(Handle *handle, Statement *statement, PyObject *const *values, Py_ssize_t count, mmdb_cursor *cursor)
+{
+    Pace unknown = { .kind = 0 };
+    Step step = { .take = cursor_by, .statement = statement->given.number, .cursor = cursor };
+    uint32_t status = take_step(handle, &step, &unknown, 1);
+    return status != MMDB_IN_TRANSACTION && was_done(handle, statement, status, values, count);
+}
+
+/* The shape of the rows of a cursor. Where the columns that are known aren't theirs, they are asked for once more. */
+static PyObject *shape_of_cursor(Handle *handle, Statement *statement, mmdb_cursor *cursor)
+{
+    mmdb_rows rows;
+    uint32_t status = mmdb_cursor_fetch(cursor, 0, &rows);
+    if (status != MMDB_DONE) {
+        handle_failed(handle, status);
+        return NULL;
+    }
+    if (statement->columns != rows.columns)
+        Py_CLEAR(statement->shape);
+    if (statement_know_shape(handle, statement) < 0)
+        return NULL;
+    if (statement->shape != NULL && statement->columns == rows.columns)
+        return Py_NewRef(statement->shape);
+    handle_failed(handle, MMDB_REFUSED);
+    return NULL;
+}
+
+PyObject *statement_open_cursor(Handle *handle, Statement *statement, PyObject *tuple, mmdb_cursor *cursor)
+{
+    PyObject *room[MOST_VALUES], *shape = NULL;
+    Py_ssize_t count;
+    size_t size = 0;
+    PyObject **values = values_of(tuple, room, &count);
+    if (values == NULL)
+        return NULL;
+    if (prepare(handle, statement, values, count) == 0 && bind_all(handle, statement, values, count, &size) == MMDB_DONE) {
+        if (open_cursor(handle, statement, values, count, cursor))
+            shape = shape_of_cursor(handle, statement, cursor);
+        else if (!PyErr_Occurred())
+            shape = none();
+    }
+    if (size > HELD)
+        statement_finalize(handle, statement);
+    if (values != room)
+        PyMem_Free(values);
+    return shape;
 }
 
 /* Looks at all values of rows: gives MMDB_DONE, NO_VALUE or RAISED. */
@@ -786,14 +725,4 @@ PyObject *named_of(PyObject *const *values, PyObject *keywords)
         if (PyDict_SetItem(named, PyTuple_GetItem(keywords, at), values[at]) < 0)
             Py_CLEAR(named);
     return named;
-}
-
-int statement_begin(void)
-{
-    PyObject *version = PySys_GetObject("hexversion");
-    is_items_alone = version != NULL && PyLong_AsLong(version) < 0x030E0000;
-    names_word = PyUnicode_InternFromString("names");
-    types_word = PyUnicode_InternFromString("types");
-    nothing = PyTuple_New(0);
-    return names_word == NULL || types_word == NULL || nothing == NULL ? -1 : 0;
 }

@@ -13,6 +13,7 @@ from typing import (
     Any,
     Callable,
     Dict,
+    Generator,
     Iterable,
     Iterator,
     List,
@@ -192,15 +193,18 @@ class Database(Handle):
         rows: Rows = self._first(str.__str__(line), at, (count, *at.fitting(parameters, named)))
         return rows
 
-    def iterate(self, line: str, /, *parameters: Any, page: int = PAGE, **named: Any) -> Iterator[Row]:
+    def iterate(self, line: str, /, *parameters: Any, page: int = PAGE, **named: Any) -> Generator[Row, None, None]:
         """The rows of a select one after the other, as `select` returns them, of which so many are held at a time.
 
-        The first page is read at once, and each further one when it is asked for, by the last key. A select of several tables, a
-        `distinct` one, and one that has as many items or conditions as may be are read whole. (A place `:page` takes its value
-        from a mapping.)
+        The first page is read at once, and each further one when it is asked for, of one table by the last key. If the table was
+        changed since, the iterator raises `Changed` in the place of the first row of the page. (A place `:page` takes its value from
+        a mapping.)
 
-        Raises what `select` raises, and ValueError if `page` is less than 1. The iterator raises `Changed` if the table was changed
-        since the first page was read, in the place of the first row of a further one.
+        A select of several tables, a `distinct` one, and one that has as many items or conditions as may be hold their rows as
+        references, and the tables: until the last page was read, or `close()` of the iterator, a change raises `Shared`. In a
+        transaction they are read whole.
+
+        Raises what `select` raises, and ValueError if `page` is less than 1.
         """
         check_kind("iterate", line, "select")
         at, size = placed(line), page_size(page)
@@ -257,7 +261,7 @@ class Database(Handle):
     def begin(self) -> None:
         """Begins a transaction, which `commit` or `rollback` ends. In another it is a savepoint of that.
 
-        It is one of the database, for all threads. Raises `Shared` while readers share the tables.
+        It is one of the database, for all threads. Raises `Shared` while readers or iterators share the tables.
         """
         with self._turn:
             self._begin()
@@ -663,7 +667,7 @@ class Database(Handle):
             many = "the texts of the rows are more than 4 GiB, or there are 4294967296 statements, or 2^64 rows to count"
             raise OperationalError(f"mmdb: {many}")
         if status == _SHARED:
-            raise Shared("mmdb: readers share the tables, and nothing changes them until all have left")
+            raise Shared("mmdb: readers or iterators share the tables, and nothing changes them until all have left or are closed")
         if status == _INTERRUPTED:
             raise Interrupted("mmdb: the select was interrupted")
         if status == _NO_TRANSACTION:

@@ -111,7 +111,7 @@ class NoMemory(Refused, OperationalError, MemoryError):
 
 
 class Shared(OperationalError):
-    """Other handles share the tables, so that nobody changes them. Nothing has changed."""
+    """Readers share the tables, or an iterator that isn't closed, so that nobody changes them. Nothing has changed."""
 
 
 class Interrupted(OperationalError):

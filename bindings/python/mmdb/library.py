@@ -20,7 +20,7 @@ from .values import encoded, stored_rows, stored_values
 _NAME = "libmmdb.so"
 
 # What a call answers, of mmdb.h.
-_NOT_OPEN, _NO_LINE, _NO_MEMORY, _NO_SUCH_STATEMENT, _NO_SUCH_PLACE, _REFUSED = 1, 5, 7, 9, 10, 12
+_NOT_OPEN, _NO_LINE, _NO_MEMORY, _NO_SUCH_STATEMENT, _NO_SUCH_PLACE, _REFUSED, _IN_TRANSACTION = 1, 5, 7, 9, 10, 12, 16
 
 # How many statements are kept by their lines, and how many bytes a statement that waits may hold, beside texts of rows.
 _KEPT = 128
@@ -143,6 +143,9 @@ _COLUMNS = _call(_LIBRARY, "mmdb_columns", _NUMBER, _ADDRESS, _NUMBER, _ADDRESS)
 _COUNT = _call(_LIBRARY, "mmdb_count", _NUMBER, _ADDRESS, _NUMBER, _ADDRESS)
 _FIRST = _call(_LIBRARY, "mmdb_first", _NUMBER, _ADDRESS, _NUMBER, _SIZE, _ADDRESS)
 _FINALIZE = _call(_LIBRARY, "mmdb_finalize", _NUMBER, _ADDRESS, _NUMBER)
+_CURSOR_OPEN = _call(_LIBRARY, "mmdb_cursor_open", _NUMBER, _ADDRESS, _NUMBER, _ADDRESS)
+_CURSOR_FETCH = _call(_LIBRARY, "mmdb_cursor_fetch", _NUMBER, _ADDRESS, _SIZE, _ADDRESS)
+_CURSOR_CLOSE = _call(_LIBRARY, "mmdb_cursor_close", None, _ADDRESS)
 
 
 class _Unstored(Exception):
@@ -292,6 +295,11 @@ class Handle:
         """The same of stored values. Those of the rows are as they are stored too."""
         with self._turn:
             return self._statement(line, placed).done(self, asked[1:], asked[0])
+
+    def _cursor(self, line: str, placed: Placed, values: Tuple[Any, ...]) -> Optional[Cursor]:
+        """A cursor on the rows of a select, which is kept by its line, with these stored values. None in a transaction."""
+        with self._turn:
+            return self._statement(line, placed).cursor(self, values)
 
     def _done_many(self, line: str, placed: Placed, rows: List[Tuple[Any, ...]]) -> int:
         """Does a statement, which is kept by its line, with each of these rows of values."""
@@ -475,6 +483,37 @@ class _Statement:
             self.finalize(handle)
         return given.value
 
+    def cursor(self, handle: Handle, values: Tuple[Any, ...]) -> Optional[Cursor]:
+        """A cursor on the rows that it shows with these values. None in a transaction."""
+        self.prepare(handle, values)
+        size, cursor = self.bind(handle, values), Cursor(handle, self.placed, values)
+        try:
+            status = _CURSOR_OPEN(handle._at, self.number, cursor.at)
+            if status == _IN_TRANSACTION:
+                return None
+            if status:
+                self.failed(handle, status, values)
+            cursor.shape = self.shape_of_cursor(handle, cursor)
+        except BaseException:
+            cursor.close()
+            raise
+        finally:
+            if size > _HELD:
+                self.finalize(handle)
+        return cursor
+
+    def shape_of_cursor(self, handle: Handle, cursor: Cursor) -> Shape:
+        """The shape of the rows of a cursor. Where the columns that are known aren't theirs, they are asked for once more."""
+        handle._check(_CURSOR_FETCH(cursor.at, 0, handle._cells_at))
+        width = handle._cells.columns
+        if self.shape is None or len(self.shape.names) != width:
+            self.shape = None
+        self.know_shape(handle)
+        if self.shape is None or len(self.shape.names) != width:
+            handle._failed(_REFUSED)
+        assert self.shape is not None
+        return self.shape
+
     def prepare(self, handle: Handle, values: Sequence[Any]) -> None:
         """Prepares it where it isn't. The values are for the words of a refusal."""
         if self.number is not None:
@@ -566,6 +605,46 @@ class _Statement:
             line = self.placed.prepared
             return handle._words(_PREPARE_REASON(handle._at, line, len(line), handle._told_at))
         return handle._words(_STATEMENT_REASON(handle._at, self.number, handle._told_at))
+
+
+class Cursor:
+    """The rows of a select, which are read page by page. Until it is closed, nobody changes the tables.
+
+    A generator of pages.py has each. It may be closed at any time, also where waiting for a turn could last for ever, and the library wants
+    none for that: a cursor is a handle of its own.
+    """
+
+    def __init__(self, handle: Handle, placed: Placed, values: Tuple[Any, ...]) -> None:
+        self._handle, self._placed, self._values = handle, placed, values
+        self._inside = ctypes.c_void_p(None)
+        #: Where it is.
+        self.at = ctypes.addressof(self._inside)
+        #: What its rows are made of, once it is open.
+        self.shape: Optional[Shape] = None
+
+    @property
+    def closed(self) -> bool:
+        """Whether it is closed."""
+        return not self._inside
+
+    def fetch(self, most: int) -> Rows:
+        """The next rows, so many at most, with their values as they are stored."""
+        handle, cells = self._handle, self._handle._cells
+        with handle._turn:
+            status = _CURSOR_FETCH(self.at, most, handle._cells_at)
+            if status == _NO_MEMORY:
+                handle._refuse(self._placed, self._values, b"error 90 no memory\n", None)
+            handle._check(status)
+            assert self.shape is not None
+            return self.shape.rows(_columns_of(cells))
+
+    def close(self) -> None:
+        """Lets the tables go. A second call does nothing. It wants no turn."""
+        _CURSOR_CLOSE(self.at)
+
+    def __del__(self) -> None:
+        if hasattr(self, "at"):
+            self.close()
 
 
 def _columns_of(cells: _Cells) -> List[List[Any]]:

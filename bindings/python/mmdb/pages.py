@@ -1,4 +1,5 @@
-"""Selects that are read page by page: the last key of a page finds the next, so that nothing is held between the two."""
+"""Selects that are read page by page. Of one table the last key of a page finds the next, so that nothing is held between the two. Others
+are read by a cursor, which holds the rows as references, and the tables."""
 
 from __future__ import annotations
 
@@ -6,14 +7,15 @@ import itertools
 import operator
 import re
 import sys
-from typing import TYPE_CHECKING, Any, Iterator, List, NamedTuple, Optional, Tuple
+from typing import TYPE_CHECKING, Any, Generator, List, NamedTuple, Optional, Tuple
 
 from .errors import Changed, Refused, WrongUse
 from .lines import LONGEST, Placed, placed
-from .rows import Row, Rows
+from .rows import Row, Rows, Shape
 
 if TYPE_CHECKING:
     from .database import Database
+    from .handles import Cursor
 
 #: How many rows a page has if nothing else is said.
 PAGE = 10_000
@@ -30,7 +32,7 @@ _MOST_ITEMS, _MOST_CONDITIONS = 16, 8
 
 
 class Paged(NamedTuple):
-    """How a select is read page by page."""
+    """How a select is read page by page by its key."""
 
     table: str
     #: The line of the first page if the key has to be asked for besides, as the last value of a row. Else it is that of the select.
@@ -49,13 +51,12 @@ def page_size(page: Any) -> int:
     return min(size, sys.maxsize)
 
 
-def rows_by_page(database: Database, line: str, at: Placed, values: Tuple[Any, ...], page: int) -> Iterator[Row]:
-    """The rows of a select with these stored values, of which a page is held at a time. The first is read at once, and so are all
-    rows of a select that can't be read by pages."""
+def rows_by_page(database: Database, line: str, at: Placed, values: Tuple[Any, ...], page: int) -> Generator[Row, None, None]:
+    """The rows of a select with these stored values, of which a page is held at a time. The first is read at once."""
     with database._alone():
         paged = _paged(database, at)
         if paged is None:
-            return _each(database._done(line, at, values))
+            return _all_by_cursor(database, line, at, values, page)
         state = _state(database, paged)
         if paged.first is not None:
             # (what is refused is so by its own line)
@@ -64,13 +65,48 @@ def rows_by_page(database: Database, line: str, at: Placed, values: Tuple[Any, .
         return _each_by_page(database, paged, state, values, page, database._page(line, at, (page, *values)))
 
 
-def _each(rows: Rows) -> Iterator[Row]:
+def _all_by_cursor(database: Database, line: str, at: Placed, values: Tuple[Any, ...], page: int) -> Generator[Row, None, None]:
+    """The same of a select that can't be read by its key. In a transaction, where no cursor is opened, all rows are read at once."""
+    cursor = database._cursor(line, at, values)
+    if cursor is None:
+        return _each(database._done(line, at, values))
+    each = _each_by_cursor(database, cursor, page)
+    # (from here on it closes the cursor, whatever ends it)
+    next(each)
+    return each
+
+
+def _each(rows: Rows) -> Generator[Row, None, None]:
     yield from rows
+
+
+def _each_by_cursor(database: Database, cursor: Cursor, page: int) -> Generator[Any, None, None]:
+    """None once the first page is read, and then the rows of all. The cursor is closed as soon as the last was read."""
+    try:
+        rows = _next_page(database, cursor, page)
+        yield None
+        yield from rows
+        while not cursor.closed:
+            # (they go before the next come)
+            del rows
+            rows = _next_page(database, cursor, page)
+            yield from rows
+    finally:
+        cursor.close()
+
+
+def _next_page(database: Database, cursor: Cursor, page: int) -> Rows:
+    """The next rows of a cursor, as their columns are read. It is closed if they are the last."""
+    rows = cursor.fetch(page)
+    if len(rows) < page:
+        cursor.close()
+    shape = _shape_of(database, rows, len(rows.names))
+    return rows if shape.converters is None else shape.converted(rows)
 
 
 def _each_by_page(
     database: Database, paged: Paged, state: Tuple[object, int], values: Tuple[Any, ...], page: int, rows: Rows
-) -> Iterator[Row]:
+) -> Generator[Row, None, None]:
     """The rows of the first page, and of those behind it."""
     at = placed(paged.further)
     while True:
@@ -100,15 +136,19 @@ def _state(database: Database, paged: Paged) -> Tuple[object, int]:
 def _shown(database: Database, paged: Paged, rows: Rows) -> Rows:
     """Rows of stored values as the select shows them: without a key that was asked for besides, and as their columns are read."""
     width = len(rows.names) if paged.first is None else paged.key
-    kinds = tuple(2 if kind is str else 1 for kind in rows.types[:width])
-    shape = database._shaped(rows.names[:width], kinds)
+    shape = _shape_of(database, rows, width)
     if shape.converters is not None:
         return shape.converted(rows)
     return rows if paged.first is None else shape.rows(itertools.islice(zip(*rows), width))
 
 
+def _shape_of(database: Database, rows: Rows, width: int) -> Shape:
+    """What the first columns of rows of stored values are read as, so many."""
+    return database._shaped(rows.names[:width], tuple(2 if kind is str else 1 for kind in rows.types[:width]))
+
+
 def _paged(database: Database, at: Placed) -> Optional[Paged]:
-    """How a select is read by pages. None if it can't be: it is of several tables, `distinct`, or as long as a line may be."""
+    """How a select is read by its key. None if it can't be: it is of several tables, `distinct`, or as long as a line may be."""
     line = at.prepared.decode().rstrip(" \t\r")
     found = _OF_ONE_TABLE.fullmatch(line)
     if found is None or _DISTINCT.match(found[1]):

@@ -2,7 +2,7 @@
 
 from __future__ import annotations
 
-from typing import TYPE_CHECKING, Any, Iterable, Iterator, Mapping, Tuple
+from typing import TYPE_CHECKING, Any, Generator, Iterable, Mapping, Tuple
 
 from .errors import WrongUse
 from .handles import Prepared
@@ -59,7 +59,7 @@ class Statement(Prepared):
         rows: Rows = self._first((count, *self._placed.fitting(parameters, named)))
         return rows
 
-    def iterate(self, /, *parameters: Any, page: int = PAGE, **named: Any) -> Iterator[Row]:
+    def iterate(self, /, *parameters: Any, page: int = PAGE, **named: Any) -> Generator[Row, None, None]:
         """The rows of the select one after the other, of which so many are held at a time. It works as `Database.iterate`, and goes on
         when the statement is executed again or closed.
         """
