@@ -40,6 +40,17 @@ LINES = (
 )
 
 
+# A program that ends within its loop.
+PROGRAM = """
+import mmdb
+db = mmdb.Database()
+db.execute("table v (id int)")
+db.load("v", [(1,), (2,), (3,)])
+rows, more = db.iterate("select distinct id from v", page=1), db.iterate("select distinct id from v", page=1)
+print(next(rows).id)
+"""
+
+
 class WithTables(binding.WithDatabase):
     """A test with tables whose joins have more rows than a few pages."""
 
@@ -358,6 +369,11 @@ class Held(WithTables):
             self.db.iterate(JOIN)
         for iterator in each:
             self.check_same(iterator, rows)
+
+    def test_at_the_end_of_the_program(self):
+        for last in ("", "del db\n", "import gc; gc.disable(); db.rows = rows; del rows, db\n"):
+            ended = binding.run_python("-c", PROGRAM + last)
+            self.assertEqual((ended.status, ended.out, ended.err), (0, "1\n", ""))
 
     def test_in_a_transaction(self):
         """All rows are read at once, and nothing is held."""

@@ -60,10 +60,11 @@ class Forked(binding.WithDatabase):
         while not self.is_over:
             self.db.select("select distinct s from t where id >= ?", 0)
 
-    def use(self, reader):
+    def use(self, reader, rows):
         """What the child does."""
         signal.alarm(SECONDS)
         self.assertEqual(len(reader.select("select * from t")), ROWS)
+        self.assertEqual(len(list(rows)), ROWS - 1)
         self.assertRaises(mmdb.Shared, self.db.execute, "delete t")
         reader.close()
         with self.db.transaction():
@@ -98,9 +99,11 @@ class Forked(binding.WithDatabase):
     def test_other_handles_go_on(self):
         reader = self.db.reader()
         self.addCleanup(reader.close)
+        rows = self.db.iterate("select distinct s from t", page=100)
+        next(rows)
         with self.beside(self.keep_busy):
-            self.assertEqual({status_of_child(self.use, reader) for _ in range(FORKS)}, {DONE})
-        self.assertEqual(len(self.db.select("select * from t")), ROWS)
+            self.assertEqual({status_of_child(self.use, reader, rows) for _ in range(FORKS)}, {DONE})
+        self.assertEqual((len(self.db.select("select * from t")), len(list(rows))), (ROWS, ROWS - 1))
 
     def test_a_database_in_a_call_is_closed(self):
         found = set()

@@ -162,6 +162,15 @@ class Interrupts(WithJoin):
                     self.db.select(JOIN)
             self.assertEqual((self.db.in_transaction, self.db.count("select * from a")), (True, ROWS + 1))
 
+    def test_an_iterator_holds_nothing(self):
+        self.check_interrupted(self.db, lambda: self.db.iterate(JOIN, page=1))
+        self.assertEqual(self.db.change("update a set n = 0 where id = 0"), 1)
+        # (a page is no select, and isn't cut)
+        rows = self.db.iterate("select distinct id from a", page=1)
+        with Poked(self.db.interrupt):
+            self.assertEqual([row.id for row in rows], list(range(ROWS)))
+        self.assertEqual(self.db.change("update a set n = 0 where id = 0"), 1)
+
     def test_a_cursor(self):
         connection = mmdb.connect("scan")
         self.addCleanup(connection.close)
@@ -385,6 +394,9 @@ class EndedByCtrlC(WithSignals):
         """The rows of a select that was long found are made one after the other."""
         self.db.load("a", ((id, 0) for id in range(ROWS, 60_000)))
         self.check_raised(lambda: self.db.select("select * from a"))
+        self.check_raised(lambda: list(self.db.iterate("select distinct n, id from a", page=1 << 40)))
+        self.check_raised(lambda: list(self.db.iterate("select distinct n, id from a", page=10)))
+        self.assertEqual(self.db.change("update a set n = 0 where id = 0"), 1)
 
     def test_a_child_of_fork_in_another_thread(self):
         """The child isn't in the select, and its signals are Python's."""

@@ -7,7 +7,7 @@
 
    Each call has its turn, so that they come one after another. The interpreter's lock is released while the library is in
    a call that may last, so that other threads go on; those that call the same database wait for their turn. What may
-   last: a line, a load, a close, and the execution of a statement that isn't known to be quick. */
+   last: a line, a load, a close, a cursor, and the execution of a statement that isn't known to be quick. */
 #ifndef MMDB_EXTENSION_H
 #define MMDB_EXTENSION_H
 

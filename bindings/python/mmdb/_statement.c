@@ -463,8 +463,10 @@ static int open_cursor(Handle *handle, Statement *statement, PyObject *const *va
     return status != MMDB_IN_TRANSACTION && was_done(handle, statement, status, values, count);
 }
 
-/* The shape of the rows of a cursor. Where the columns that are known aren't theirs, they are asked for once more. */
-static PyObject *shape_of_cursor(Handle *handle, Statement *statement, mmdb_cursor *cursor)
+/* The shape of the rows of a cursor. Where the columns that are known aren't theirs, they are asked for once more, which is only refused
+   for memory. */
+static PyObject *shape_of_cursor(Handle *handle, Statement *statement, PyObject *const *values, Py_ssize_t count,
+                                 mmdb_cursor *cursor)
 {
     mmdb_rows rows;
     uint32_t status = mmdb_cursor_fetch(cursor, 0, &rows);
@@ -478,7 +480,10 @@ static PyObject *shape_of_cursor(Handle *handle, Statement *statement, mmdb_curs
         return NULL;
     if (statement->shape != NULL && statement->columns == rows.columns)
         return Py_NewRef(statement->shape);
-    handle_failed(handle, MMDB_REFUSED);
+    if (statement->shape == NULL)
+        refused(handle, statement, MMDB_REFUSED, values, count);
+    else
+        handle_failed(handle, MMDB_REFUSED);
     return NULL;
 }
 
@@ -492,7 +497,7 @@ PyObject *statement_open_cursor(Handle *handle, Statement *statement, PyObject *
         return NULL;
     if (prepare(handle, statement, values, count) == 0 && bind_all(handle, statement, values, count, &size) == MMDB_DONE) {
         if (open_cursor(handle, statement, values, count, cursor))
-            shape = shape_of_cursor(handle, statement, cursor);
+            shape = shape_of_cursor(handle, statement, values, count, cursor);
         else if (!PyErr_Occurred())
             shape = none();
     }

@@ -493,7 +493,7 @@ class _Statement:
                 return None
             if status:
                 self.failed(handle, status, values)
-            cursor.shape = self.shape_of_cursor(handle, cursor)
+            cursor.shape = self.shape_of_cursor(handle, cursor, values)
         except BaseException:
             cursor.close()
             raise
@@ -502,16 +502,19 @@ class _Statement:
                 self.finalize(handle)
         return cursor
 
-    def shape_of_cursor(self, handle: Handle, cursor: Cursor) -> Shape:
+    def shape_of_cursor(self, handle: Handle, cursor: Cursor, values: Tuple[Any, ...]) -> Shape:
         """The shape of the rows of a cursor. Where the columns that are known aren't theirs, they are asked for once more."""
         handle._check(_CURSOR_FETCH(cursor.at, 0, handle._cells_at))
         width = handle._cells.columns
-        if self.shape is None or len(self.shape.names) != width:
+        if self.shape is not None and len(self.shape.names) != width:
             self.shape = None
         self.know_shape(handle)
-        if self.shape is None or len(self.shape.names) != width:
-            handle._failed(_REFUSED)
+        # (the cursor is open, so that it is only refused for memory)
+        if self.shape is None:
+            self.failed(handle, _REFUSED, values)
         assert self.shape is not None
+        if len(self.shape.names) != width:
+            handle._failed(_REFUSED)
         return self.shape
 
     def prepare(self, handle: Handle, values: Sequence[Any]) -> None:

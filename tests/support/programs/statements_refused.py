@@ -62,6 +62,13 @@ class Kept:
             self.db.execute("table t (id int, s text, c ref u null)")
             self.insert.execute(4, LONG)
 
+    def iterate(self):
+        """The rows of selects that are read by a cursor, page by page. Then nothing holds the tables."""
+        rows = [*self.db.iterate("select distinct s, id from t where s <> ?", LONG, page=1)]
+        rows += self.db.iterate("select t.s, u.k from t join u on t.c = u.k", page=2)
+        self.db.change("update t set c = ? where id = ?", KEY, 1)
+        return rows
+
     def prepare(self):
         self.more.append(self.db.prepare("select s, c from t where s = ? and id < ? and c <> 'a text that is given'"))
 
@@ -96,6 +103,7 @@ STEPS = (
     lambda of: of.declare_in_transaction(),
     lambda of: of.drop_in_transaction(),
     lambda of: of.restored(),
+    lambda of: of.iterate(),
     lambda of: of.db.change("update t set c = ? where id = ?", KEY, 1),
 )
 

@@ -1,5 +1,6 @@
 """A program that uses the package as its annotations allow: mypy finds nothing in it in strict mode."""
 
+import contextlib
 import datetime
 import pathlib
 import tempfile
@@ -36,6 +37,9 @@ with mmdb.Database() as database:
         print(found == [next(each), *each])
         reader.leave()
         database.share(reader)
+    with contextlib.closing(database.iterate("select distinct name from emp", page=1)) as names_of:
+        one: mmdb.Row = next(names_of)
+        print(one.name)
     with tempfile.TemporaryDirectory(prefix="mmdb-tests-") as folder:
         database.save(pathlib.Path(folder, "all.mmdb"))
         with mmdb.Database.restore(f"{folder}/all.mmdb", policy="tree") as restored:
