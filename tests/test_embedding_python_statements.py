@@ -458,7 +458,7 @@ class Stub(binding.WithDatabase):
 
 
 class Streams(unittest.TestCase):
-    """Each statement of random streams does what its line does, whichever of its values are bound."""
+    """Each statement of random streams does what its line does, whichever of its values are bound. A select is iterated over as well."""
 
     def test_random_streams(self):
         draw = random.Random(SEED)
@@ -488,5 +488,7 @@ def answer_of(db, draw, line, values):
         return f"error {why.number} {why.text}\n".encode()
     if not isinstance(found, mmdb.Rows):
         return b"ok %d\n" % found
+    if list(db.iterate(line, *values, page=draw.randrange(1, 9))) != found:
+        return b"iterated otherwise\n"
     rows = [[value.encode() if isinstance(value, str) else value for value in row] for row in [found.names, *found]]
     return b"rows %d\n" % len(found) + b"".join(map(model.record, rows))
