@@ -8,7 +8,7 @@ use crate::error::{Error, Result};
 use crate::index::{indexes_of, Index};
 use crate::kept::{why_not_kept, why_not_prepared, InUse, Kept, Lines};
 use crate::known::Known;
-use crate::library::{Declined, Handle};
+use crate::library::{Cursor, Declined, Handle};
 use crate::limits::{Limits, Policy};
 use crate::line::{first_word, has_places, is_change, is_select};
 use crate::outcome::{count_of, Outcome};
@@ -242,10 +242,13 @@ impl Database {
 
     /// What a function makes of each row of a select, in order, of which so many are held at a time: a page, of 1 row at least.
     ///
-    /// The first page is read here, and each further one when its first row is asked for, by the last key. A select of several
-    /// tables, a `distinct` one, and one that has as many items or conditions as may be are read whole here. [`Error::NotASelect`]
-    /// says that the line is none. [`Error::Changed`] is given in the place of the first row of a page, and is the last, if the
-    /// table was changed since the first page was read.
+    /// The first page is read here, and each further one when its first row is asked for, of one table by the last key.
+    /// [`Error::Changed`] is given in the place of the first row of a page, and is the last, if the table was changed since the first
+    /// page was read. [`Error::NotASelect`] says that the line is none.
+    ///
+    /// A select of several tables, a `distinct` one, and one that has as many items or conditions as may be are read by a cursor: their
+    /// rows are found here, and held as references to those of the tables. Until the last page was read, or this is dropped, nobody
+    /// changes the tables, by [`Error::Shared`]. In a transaction such a select is read whole here.
     ///
     /// ```
     /// let db = mmdb::Database::open_in_memory()?;
@@ -262,6 +265,11 @@ impl Database {
     /// db.execute("delete t where id = 1", [])?;
     /// assert_eq!((ids.next(), ids.next()), (Some(Ok(0)), Some(Ok(1))));
     /// assert!(matches!(ids.next(), Some(Err(mmdb::Error::Changed { .. }))) && ids.next().is_none());
+    ///
+    /// let mut texts = db.query_pages(1, "select distinct s from t", [], |row| row.get::<_, String>(0))?;
+    /// assert_eq!((texts.next(), db.execute("delete t", [])), (Some(Ok("a".to_string())), Err(mmdb::Error::Shared)));
+    /// drop(texts);
+    /// assert_eq!(db.execute("delete t", [])?, 999);
     /// # Ok::<(), mmdb::Error>(())
     /// ```
     pub fn query_pages<T, P, F>(&self, most: usize, line: &str, params: P, map: F) -> Result<MappedPages<'_, F>>
@@ -576,6 +584,12 @@ impl Database {
                 Err(declined) => Err(why_not_kept(handle, line, params, declined)),
             },
         }
+    }
+
+    /// A cursor on the rows of a select, and the names of their columns.
+    pub(crate) fn cursor<P: Params>(&self, line: &str, params: P) -> Result<(Cursor<'_>, Arc<Vec<String>>)> {
+        let (mut kept, params) = self.kept_select(line, params)?;
+        kept.cursor(self.handle(), params, self.known.declared())
     }
 
     /// What is made of the rows of a select, which its statement lends, or of the first of them. Where they are many, their room

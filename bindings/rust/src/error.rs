@@ -150,7 +150,7 @@ pub enum Error {
     /// 2^64 rows or more to count.
     TooLarge,
     /// Readers share the tables, so that nobody may change them: a reader was asked to, or one was forgotten and never dropped
-    /// ([`std::mem::forget`]).
+    /// ([`std::mem::forget`]). Or [`Database::query_pages`](crate::Database::query_pages) is to read further rows of a join.
     Shared,
     /// A select was asked to end by an [`Interrupter`](crate::Interrupter). Nothing has changed.
     Interrupted,
@@ -288,7 +288,7 @@ impl fmt::Display for Error {
                 to,
                 "the texts of the rows are more than 4 GiB, or there are 4294967296 statements, or 2^64 rows to count"
             ),
-            Error::Shared => write!(to, "readers share the tables"),
+            Error::Shared => write!(to, "readers share the tables, or a select of them is read page by page"),
             Error::Interrupted => write!(to, "the select was interrupted"),
             Error::Changed { table } => write!(to, "the table {table} was changed between two pages of its rows"),
             Error::NoTransaction => write!(to, "no transaction is open"),

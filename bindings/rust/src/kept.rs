@@ -9,12 +9,13 @@ use std::sync::Arc;
 use crate::bound::Bound;
 use crate::database::Database;
 use crate::error::{Error, Result};
-use crate::library::{Declined, Handle, Prepared};
+use crate::library::{Cursor, Declined, Handle, Prepared};
 use crate::line::{bind, fill, find_places, is_select, pointed, with_marks, with_nulls, Place};
 use crate::many::Many;
 use crate::params::Params;
 use crate::rows::RowsRef;
 use crate::session::refused;
+use crate::value::Value;
 
 /// A statement, and what has to be known to put values into its places and to read its rows.
 pub(crate) struct Kept {
@@ -131,8 +132,7 @@ impl Kept {
         many.in_the_whole(self.written.why(handle, number, declined))
     }
 
-    /// The rows of a select, which are lent: all of them, or only the first, so many at most. The names of its columns are asked
-    /// for where the declarations are others.
+    /// The rows of a select, which are lent: all of them, or only the first, so many at most.
     pub(crate) fn rows<'k, P: Params>(
         &'k mut self,
         handle: &'k Handle,
@@ -140,22 +140,29 @@ impl Kept {
         declared: u64,
         most: Option<usize>,
     ) -> Result<RowsRef<'k>> {
-        if !self.is_select {
-            return Err(Error::NotASelect);
-        }
-        self.bind(handle, params)?;
+        self.bind_and_name(handle, params, declared)?;
         let number = self.prepared.number();
-        if self.named_at != Some(declared) {
-            let names = handle.columns(&mut self.prepared);
-            self.names = Arc::new(names.map_err(|declined| self.written.why(handle, number, declined))?);
-            self.named_at = Some(declared);
-        }
         let found = match most {
             None => handle.execute(&mut self.prepared).map(|executed| executed.cells),
             Some(most) => handle.first(&mut self.prepared, most),
         };
         match found {
             Ok(cells) => Ok(RowsRef::new(&self.names, cells)),
+            Err(declined) => Err(self.written.why(handle, number, declined)),
+        }
+    }
+
+    /// A cursor on the rows of a select, and the names of their columns.
+    pub(crate) fn cursor<'d, P: Params>(
+        &mut self,
+        handle: &'d Handle,
+        params: P,
+        declared: u64,
+    ) -> Result<(Cursor<'d>, Arc<Vec<String>>)> {
+        self.bind_and_name(handle, params, declared)?;
+        let number = self.prepared.number();
+        match handle.open_cursor(&mut self.prepared) {
+            Ok(cursor) => Ok((cursor, Arc::clone(&self.names))),
             Err(declined) => Err(self.written.why(handle, number, declined)),
         }
     }
@@ -192,6 +199,21 @@ impl Kept {
     /// Frees it.
     pub(crate) fn finalize(&mut self, handle: &Handle) {
         handle.finalize(&mut self.prepared);
+    }
+
+    /// Binds values to a select. The names of its columns are asked for where the declarations are others.
+    fn bind_and_name<P: Params>(&mut self, handle: &Handle, params: P, declared: u64) -> Result<()> {
+        if !self.is_select {
+            return Err(Error::NotASelect);
+        }
+        self.bind(handle, params)?;
+        if self.named_at != Some(declared) {
+            let names = handle.columns(&mut self.prepared);
+            let number = self.prepared.number();
+            self.names = Arc::new(names.map_err(|declined| self.written.why(handle, number, declined))?);
+            self.named_at = Some(declared);
+        }
+        Ok(())
     }
 
     fn bind<P: Params>(&mut self, handle: &Handle, params: P) -> Result<()> {
@@ -252,6 +274,15 @@ pub(crate) fn why_not_kept<P: Params>(handle: &Handle, line: &str, params: P, de
     }
     fill(line, &places, bound.iter(), &mut filled);
     not_prepared(handle, declined, line, &places, filled)
+}
+
+/// Why no further rows were read of the select of a line, which has these values in its places.
+#[cold]
+pub(crate) fn why_not_read(handle: &Handle, line: &str, values: &[Value], declined: Declined) -> Error {
+    let (mut places, mut filled) = (Vec::new(), String::new());
+    find_places(line, &mut places);
+    fill(line, &places, values.iter().map(Into::into), &mut filled);
+    refusal_of(handle, declined, line, &places, filled, || None)
 }
 
 /// Why a line with these places, which are filled so, wasn't kept as a statement.

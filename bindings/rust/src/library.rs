@@ -2,6 +2,7 @@
 
 use std::cell::{Cell as Changing, UnsafeCell};
 use std::ffi::c_void;
+use std::marker::PhantomData;
 use std::{mem, ptr, slice, str};
 
 use crate::cells::{Cell, Cells, GivenCells};
@@ -121,6 +122,9 @@ extern "C" {
     fn mmdb_columns(db: *mut Inside, statement: u32, columns: *mut Found) -> u32;
     fn mmdb_count(db: *mut Inside, statement: u32, count: *mut u64) -> u32;
     fn mmdb_first(db: *mut Inside, statement: u32, most: usize, rows: *mut Found) -> u32;
+    fn mmdb_cursor_open(db: *mut Inside, statement: u32, cursor: *mut CursorInside) -> u32;
+    fn mmdb_cursor_fetch(cursor: *mut CursorInside, most: usize, rows: *mut Found) -> u32;
+    fn mmdb_cursor_close(cursor: *mut CursorInside);
     fn mmdb_finalize(db: *mut Inside, statement: u32) -> u32;
     fn mmdb_indexes(db: *mut Inside, table: *const u8, length: usize, answer: *mut Told) -> u32;
     fn mmdb_version(db: *mut Inside, table: *const u8, length: usize, version: *mut u64) -> u32;
@@ -173,6 +177,50 @@ impl Drop for Asker {
             // SAFETY: it is open, and is used no more.
             unsafe { mmdb_interrupter_close(self) }
         }
+    }
+}
+
+/// The `mmdb_cursor` of mmdb.h.
+#[repr(C)]
+struct CursorInside {
+    inside: *mut c_void,
+}
+
+/// A cursor of a handle, which is open until it is dropped, and the page that it has read last. While it is open nobody changes the
+/// tables, so it ends before the handle is lent no longer.
+pub(crate) struct Cursor<'h> {
+    opened: CursorInside,
+    page: Found,
+    handle: PhantomData<&'h Handle>,
+}
+
+// SAFETY: what the pointers lead to belongs to this cursor alone, but for the tables, which nobody changes while it is open. The
+// library takes these calls from any thread, and asks only that they come one after another for each. They do, as each has it as
+// `&mut`.
+unsafe impl Send for Cursor<'_> {}
+
+impl Cursor<'_> {
+    /// Reads the next rows, so many at most, in the place of those that it has read. Behind the last there are none.
+    pub(crate) fn fetch(&mut self, most: usize) -> Result<(), Declined> {
+        self.page = Found::NOTHING;
+        let mut found = Found::NOTHING;
+        // SAFETY: it is open.
+        done(unsafe { mmdb_cursor_fetch(&mut self.opened, most, &mut found) })?;
+        self.page = found;
+        Ok(())
+    }
+
+    /// The rows that it has read last.
+    pub(crate) fn page(&self) -> Cells<'_> {
+        // SAFETY: the rows are good until the next call on the cursor, which has it as `&mut`. The library has UTF-8 texts alone.
+        unsafe { self.page.cells() }
+    }
+}
+
+impl Drop for Cursor<'_> {
+    fn drop(&mut self) {
+        // SAFETY: it is open, and is used no more.
+        unsafe { mmdb_cursor_close(&mut self.opened) }
     }
 }
 
@@ -406,6 +454,20 @@ impl Handle {
         done(unsafe { mmdb_first(self.inside.get(), statement.0, most, &mut found) })?;
         // SAFETY: the rows are good as long as those of `execute`.
         Ok(unsafe { found.cells() })
+    }
+
+    /// A cursor on the rows that a statement of this handle shows. What it has shown stays.
+    pub(crate) fn open_cursor(&self, statement: &mut Prepared) -> Result<Cursor<'_>, Declined> {
+        let mut opened = CursorInside {
+            inside: ptr::null_mut(),
+        };
+        // SAFETY: the handle is open, and the cursor is closed, as null says.
+        done(unsafe { mmdb_cursor_open(self.inside.get(), statement.0, &mut opened) })?;
+        Ok(Cursor {
+            opened,
+            page: Found::NOTHING,
+            handle: PhantomData,
+        })
     }
 
     /// Does what a statement of this handle says with rows of values, all of them or none, and returns how many rows were changed.

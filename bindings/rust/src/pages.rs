@@ -1,15 +1,19 @@
-//! Selects that are read page by page: the last key of a page finds the next, so that nothing is held between the two.
+//! Selects that are read page by page. Of one table the last key of a page finds the next, so that nothing is held between the two.
+//! Of others a cursor holds where their rows are.
 
-use std::fmt;
+use std::sync::Arc;
+use std::{fmt, mem};
 
 use crate::bound::Bound;
 use crate::columns::Tables;
 use crate::database::Database;
 use crate::error::{Error, Result};
+use crate::kept::why_not_read;
+use crate::library::Cursor;
 use crate::line::{bind, find_places, is_select, with_marks, word_at, BLANKS};
 use crate::params::{InOrder, Params};
 use crate::row::Row;
-use crate::rows::Rows;
+use crate::rows::{Rows, RowsRef};
 use crate::value::Value;
 
 /// How many items and conditions a select has at most, and how many bytes a line.
@@ -32,34 +36,54 @@ struct Paged {
     key: usize,
 }
 
+/// A page, and how those behind it are read.
+#[derive(Default)]
+struct Page<'db> {
+    /// Its rows, unless a cursor lends them.
+    rows: Rows,
+    /// There is nothing ahead of the last page, or where all rows were read at once.
+    ahead: Option<Ahead<'db>>,
+}
+
 /// How the pages behind one are read.
-struct Ahead {
+enum Ahead<'db> {
+    Keys(Keys),
+    Cursor(Lending<'db>),
+}
+
+/// By the last key of each page.
+struct Keys {
     paged: Paged,
     /// The values of the select, and behind them the last key of the page before.
     values: Vec<Value>,
-    /// How many rows a page has.
-    most: usize,
     /// The number of the newest change of the table.
     version: u64,
+}
+
+/// By a cursor, which lends a page. Nobody changes the tables meanwhile.
+struct Lending<'db> {
+    cursor: Cursor<'db>,
+    names: Arc<Vec<String>>,
+    line: String,
+    values: Vec<Value>,
 }
 
 /// What [`Database::query_pages`] returns: what the function makes of each row.
 #[must_use = "the function is called as its results are asked for"]
 pub struct MappedPages<'db, F> {
     database: &'db Database,
-    /// The page.
-    rows: Rows,
-    /// The number of its next row.
+    page: Page<'db>,
+    /// How many rows a page has.
+    most: usize,
+    /// The number of the next row of the page.
     next: usize,
     /// How many of its columns are shown.
     width: usize,
-    /// There is nothing ahead of the last page, or where all rows were read at once.
-    ahead: Option<Ahead>,
     map: F,
 }
 
 impl<'db, F> MappedPages<'db, F> {
-    /// Reads the first page of a select, or all of its rows if it can't be read by pages.
+    /// Reads the first page of a select. In a transaction all of its rows are read, if it can't be by keys.
     pub(crate) fn begin<P: Params>(
         database: &'db Database,
         most: usize,
@@ -67,64 +91,125 @@ impl<'db, F> MappedPages<'db, F> {
         params: P,
         map: F,
     ) -> Result<MappedPages<'db, F>> {
-        let (marked, values) = marked_and_bound(line, params)?;
-        let given = InOrder(&values);
-        let (rows, ahead) = match Paged::of(&marked, &*database.tables()?) {
-            None => (database.query(line, given)?, None),
-            Some(paged) => {
-                let (most, version) = (most.max(1), version_of(database, &paged.table)?);
-                let rows = match &paged.first {
-                    None => database.first(most, line, given)?,
-                    // (what is refused is so by its own line)
-                    Some(first) => database
-                        .first(0, line, given)
-                        .and_then(|_| database.first(most, first, &values))?,
-                };
-                let ahead = Ahead {
-                    paged,
-                    values,
-                    most,
-                    version,
-                };
-                (rows, Some(ahead))
-            }
+        let (most, (marked, values)) = (most.max(1), marked_and_bound(line, params)?);
+        let paged = Paged::of(&marked, &*database.tables()?);
+        let hidden = usize::from(paged.as_ref().map_or(false, |paged| paged.first.is_some()));
+        let page = match paged {
+            Some(paged) => Keys::begin(database, most, line, paged, values)?,
+            None if database.in_transaction() => Page {
+                rows: database.query(line, InOrder(&values))?,
+                ahead: None,
+            },
+            None => Lending::open(database, line, values)?.read_on(database, most)?,
         };
-        let hidden = ahead
-            .as_ref()
-            .map_or(0, |ahead| usize::from(ahead.paged.first.is_some()));
         Ok(MappedPages {
             database,
-            width: rows.column_names().len() - hidden,
-            rows,
+            most,
             next: 0,
-            ahead,
+            width: page.lent().column_names().len() - hidden,
+            page,
             map,
         })
     }
 
     /// Reads the next page, unless this one is the last. It goes before the next comes.
     fn read_on(&mut self) -> Result<()> {
-        let mut ahead = match self.ahead.take() {
-            Some(ahead) if ahead.most == self.rows.len() => ahead,
-            _ => return Ok(()),
-        };
-        let last = self
-            .rows
-            .get(ahead.most - 1)
-            .map(|row| row.value(ahead.paged.key).into());
-        let rows = std::mem::take(&mut self.rows);
+        let Page { rows, ahead } = mem::take(&mut self.page);
         self.next = 0;
-        drop(rows);
-        if version_of(self.database, &ahead.paged.table)? != ahead.version {
+        self.page = match ahead {
+            None => Page::default(),
+            Some(Ahead::Keys(keys)) => keys.read_on(self.database, self.most, rows)?,
+            Some(Ahead::Cursor(lending)) => lending.read_on(self.database, self.most)?,
+        };
+        Ok(())
+    }
+}
+
+impl Page<'_> {
+    #[inline]
+    fn lent(&self) -> RowsRef<'_> {
+        match &self.ahead {
+            Some(Ahead::Cursor(lending)) => lending.page(),
+            _ => self.rows.lent(),
+        }
+    }
+}
+
+impl Keys {
+    /// Reads the first page. The key of its rows is asked for besides, where it isn't shown.
+    fn begin<'db>(
+        database: &'db Database,
+        most: usize,
+        line: &str,
+        paged: Paged,
+        values: Vec<Value>,
+    ) -> Result<Page<'db>> {
+        let (given, version) = (InOrder(&values), version_of(database, &paged.table)?);
+        let rows = match &paged.first {
+            None => database.first(most, line, given)?,
+            // (what is refused is so by its own line)
+            Some(first) => database
+                .first(0, line, given)
+                .and_then(|_| database.first(most, first, &values))?,
+        };
+        let keys = Keys { paged, values, version };
+        Ok(keys.before(most, rows))
+    }
+
+    /// Reads the page behind one, which goes before.
+    fn read_on(mut self, database: &Database, most: usize, before: Rows) -> Result<Page<'_>> {
+        let last = before.get(most - 1).map(|row| row.value(self.paged.key).into());
+        drop(before);
+        if version_of(database, &self.paged.table)? != self.version {
             return Err(Error::Changed {
-                table: ahead.paged.table,
+                table: self.paged.table,
             });
         }
-        ahead.values.extend(last);
-        self.rows = self.database.first(ahead.most, &ahead.paged.further, &ahead.values)?;
-        ahead.values.pop();
-        self.ahead = Some(ahead);
-        Ok(())
+        self.values.extend(last);
+        let rows = database.first(most, &self.paged.further, &self.values)?;
+        self.values.pop();
+        Ok(self.before(most, rows))
+    }
+
+    /// A page of these rows, which is the last where there are fewer than a page has.
+    fn before<'db>(self, most: usize, rows: Rows) -> Page<'db> {
+        let ahead = (rows.len() == most).then_some(Ahead::Keys(self));
+        Page { rows, ahead }
+    }
+}
+
+impl<'db> Lending<'db> {
+    /// Finds the rows of a select. None was read then.
+    fn open(database: &'db Database, line: &str, values: Vec<Value>) -> Result<Lending<'db>> {
+        let (cursor, names) = database.cursor(line, InOrder(&values))?;
+        Ok(Lending {
+            cursor,
+            names,
+            line: line.to_string(),
+            values,
+        })
+    }
+
+    /// Reads the next page. Of the last one the rows are kept, and the tables may change.
+    fn read_on(mut self, database: &Database, most: usize) -> Result<Page<'db>> {
+        if let Err(declined) = self.cursor.fetch(most) {
+            return Err(why_not_read(database.handle(), &self.line, &self.values, declined));
+        }
+        if self.page().len() < most {
+            return Ok(Page {
+                rows: self.page().to_rows(),
+                ahead: None,
+            });
+        }
+        Ok(Page {
+            rows: Rows::default(),
+            ahead: Some(Ahead::Cursor(self)),
+        })
+    }
+
+    #[inline]
+    fn page(&self) -> RowsRef<'_> {
+        RowsRef::new(&self.names, self.cursor.page())
     }
 }
 
@@ -132,12 +217,12 @@ impl<T, E: From<Error>, F: FnMut(&Row<'_>) -> Result<T, E>> Iterator for MappedP
     type Item = Result<T, E>;
 
     fn next(&mut self) -> Option<Result<T, E>> {
-        if self.next == self.rows.len() {
+        if self.next == self.page.lent().len() {
             if let Err(why) = self.read_on() {
                 return Some(Err(why.into()));
             }
         }
-        let row = self.rows.get(self.next)?.front(self.width);
+        let row = self.page.lent().get(self.next)?.front(self.width);
         self.next += 1;
         Some((self.map)(&row))
     }
@@ -145,8 +230,8 @@ impl<T, E: From<Error>, F: FnMut(&Row<'_>) -> Result<T, E>> Iterator for MappedP
 
 impl<F> fmt::Debug for MappedPages<'_, F> {
     fn fmt(&self, to: &mut fmt::Formatter<'_>) -> fmt::Result {
-        let left = self.rows.iter().skip(self.next).map(|row| row.front(self.width));
-        to.debug_list().entries(left).finish()
+        let left = self.page.lent().iter().skip(self.next);
+        to.debug_list().entries(left.map(|row| row.front(self.width))).finish()
     }
 }
 

@@ -211,6 +211,17 @@ impl Drop for SharedReader {
 /// # Ok::<(), mmdb::Error>(())
 /// ```
 ///
+/// So do pages that are still to be read, which would keep a writer from writing:
+///
+/// ```compile_fail,E0505
+/// # let shared = mmdb::Shared::new(mmdb::Database::open_in_memory()?);
+/// # let mut reader = shared.reader()?;
+/// let tables = reader.read()?;
+/// let pages = tables.query_pages(10, "select distinct s from t", [], |row| row.get::<_, String>(0))?;
+/// drop(tables);
+/// # Ok::<(), mmdb::Error>(())
+/// ```
+///
 /// A reader has one at a time:
 ///
 /// ```compile_fail,E0499

@@ -8,8 +8,8 @@ use mmdb::{named_params, Database, Error, MappedPages, Params, Row, Value};
 
 const ROWS: i64 = 300;
 
-/// Selects that are read by pages, each with one parameter.
-const BY_PAGE: [&str; 8] = [
+/// Selects that are read by keys, each with one parameter.
+const BY_KEY: [&str; 8] = [
     "select * from t where id > ?",
     "select*from t where id>?",
     "select s from t where id >= ? and id < 250",
@@ -19,8 +19,8 @@ const BY_PAGE: [&str; 8] = [
     "select t.s from t where s <> 'from u join t where distinct ? :a ' and n < ?",
     "select * from t where t.n > ?",
 ];
-/// And others, which are read whole.
-const WHOLE: [&str; 4] = [
+/// And others, which are read by a cursor.
+const BY_CURSOR: [&str; 4] = [
     "select distinct s from t where id > ?",
     "select\tdistinct n, id from t where id > ?",
     "select u.id, t.s from u join t on u.t = t.id where u.id > ?",
@@ -55,8 +55,8 @@ fn all<P: Params>(db: &Database, most: usize, line: &str, params: P) -> Vec<Vec<
 fn they_are_all_rows() {
     let (mut db, mut draw) = (filled(), Draw(2026));
     let params: Vec<i64> = vec![-1, 0, 5, ROWS / 2, ROWS - 2, ROWS];
-    for line in BY_PAGE.iter().chain(&WHOLE) {
-        for most in [0, 1, 2, 7, ROWS as usize - 1, ROWS as usize, usize::MAX] {
+    for line in BY_KEY.iter().chain(&BY_CURSOR) {
+        for most in [0, 1, 2, 3, 7, ROWS as usize - 1, ROWS as usize, 10_000, usize::MAX] {
             let param = draw.of(&params);
             let rows = selected(&db, line, [param]);
             assert_eq!(all(&db, most, line, [param]), rows, "{line}, {most}, {param}");
@@ -90,32 +90,53 @@ fn places_with_names() {
     }
 }
 
-/// Whether a select of two rows or more is read by pages, so that a change between the two is seen.
-fn sees_changes<F>(db: &Database, mut pages: MappedPages<'_, F>) -> bool
+/// How a select is read.
+#[derive(Debug, PartialEq)]
+enum Way {
+    /// By the last key of each page, so that a change between two is seen.
+    Keys,
+    /// By a cursor, so that there is no change.
+    Cursor,
+    Whole,
+}
+
+/// How a select of two rows or more is read, by pages of one row.
+fn way_of<F>(db: &Database, mut pages: MappedPages<'_, F>) -> Way
 where
     F: FnMut(&Row<'_>) -> Result<Vec<Value>, Error>,
 {
     pages.next().expect("a row").expect("a row that is read");
-    db.execute("update t set s = 'other' where id = 0", []).unwrap();
-    match pages.next().expect("another one, or why there is none") {
-        Ok(_) => false,
-        Err(Error::Changed { table, .. }) => {
+    let changed = db.execute("update t set s = 'other' where id = 0", []);
+    let next = pages.next().expect("another one, or why there is none");
+    match (changed, next) {
+        (Ok(1), Ok(_)) => Way::Whole,
+        (Err(Error::Shared), Ok(_)) => Way::Cursor,
+        (Ok(1), Err(Error::Changed { table, .. })) => {
             assert_eq!((table.as_str(), pages.next().is_none()), ("t", true));
-            true
+            Way::Keys
         }
-        Err(why) => panic!("{why}"),
+        other => panic!("{other:?}"),
     }
 }
 
 #[test]
 fn what_is_read_by_pages() {
     let db = filled();
-    for (lines, is_paged) in [(&BY_PAGE[..], true), (&WHOLE[..], false)] {
+    let check = |lines: &[&str], way| {
         for line in lines {
             let pages = db.query_pages(1, line, [5], values).unwrap();
-            assert_eq!(sees_changes(&db, pages), is_paged, "{line}");
+            assert_eq!(way_of(&db, pages), way, "{line}");
+            let pages = db.prepare(line).unwrap().query_pages(1, [5], values).unwrap();
+            assert_eq!(way_of(&db, pages), way, "{line}");
         }
-    }
+    };
+    check(&BY_KEY, Way::Keys);
+    check(&BY_CURSOR, Way::Cursor);
+    db.begin().unwrap();
+    check(&BY_KEY, Way::Keys);
+    check(&BY_CURSOR, Way::Whole);
+    db.rollback().unwrap();
+    check(&BY_CURSOR, Way::Cursor);
 }
 
 #[test]
@@ -149,7 +170,7 @@ fn as_many_items_and_conditions_as_may_be() {
 #[test]
 fn lines_that_are_as_long_as_may_be() {
     let db = filled();
-    let mut seen = [false; 2];
+    let mut seen = Vec::new();
     for item in ["id", "n"] {
         let line = format!("select {item} from t where s <> ''");
         for length in 8165..=8192 {
@@ -158,13 +179,14 @@ fn lines_that_are_as_long_as_may_be() {
             for long in [format!("{line}{}", " ".repeat(filling)), line.replace("''", &text)] {
                 assert_eq!(all(&db, 70, &long, []), selected(&db, &long, []), "{item}, {length}");
                 let pages = db.query_pages(1, &long, [], values).unwrap();
-                seen[usize::from(sees_changes(&db, pages))] = true;
+                seen.push(way_of(&db, pages));
             }
         }
         let longer = format!("{line}{}", " ".repeat(8193 - line.len()));
         assert_eq!(number(db.query_pages(7, &longer, [], values)), Some(10));
     }
-    assert_eq!(seen, [true, true]);
+    seen.dedup();
+    assert!(seen.contains(&Way::Keys) && seen.contains(&Way::Cursor) && !seen.contains(&Way::Whole));
 }
 
 #[test]
@@ -233,6 +255,8 @@ fn refusals_come_at_the_call() {
         "select s from",
         "select",
         "select distinct none from t",
+        "select * from t join none on t.id = none.id",
+        "select * from u join t on u.t = t.s",
     ] {
         let why = db.query_pages(5, line, [], values).unwrap_err();
         assert_eq!(why, db.query(line, []).unwrap_err(), "{line}");
