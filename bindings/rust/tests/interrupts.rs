@@ -98,6 +98,13 @@ fn each_call_of_a_statement() {
         assert_eq!((ended, join.count([0])), (Some(Error::Interrupted), Ok(0)));
         let ended = asked(&interrupter, || error_of(|| join.count([0])));
         assert_eq!(ended, Some(Error::Interrupted));
+        let ended = asked(&interrupter, || {
+            error_of(|| join.query_pages(1, [0], |_| Ok(())).map(Iterator::count))
+        });
+        assert_eq!(
+            (ended, db.execute("delete b where id < 0", [])),
+            (Some(Error::Interrupted), Ok(0))
+        );
     }
     assert_eq!(db.count("select * from a", []), Ok(ROWS as usize));
 }
@@ -153,6 +160,18 @@ fn changes_are_not_cut() {
         assert_eq!(db.answer(join.as_bytes()), Ok(&b"rows 0\na.id,b.id\n"[..]));
     });
     assert_eq!(db.count("select * from a", []), Ok(ROWS as usize));
+}
+
+/// Once the rows are found each page is read to its end.
+#[test]
+fn pages_are_not_cut() {
+    let db = filled(ROWS);
+    let interrupter = db.interrupter().unwrap();
+    for most in [1, 3, 100] {
+        let pages = db.query_pages(most, "select distinct n, id from a", [], |row| row.get::<_, i64>(1));
+        let ids = asked(&interrupter, || pages.unwrap().map(Result::unwrap).sum::<i64>());
+        assert_eq!(ids, ROWS * (ROWS - 1) / 2);
+    }
 }
 
 /// What asks one handle doesn't ask another that shares its tables, or has copies of them.

@@ -137,21 +137,46 @@ fn a_load_takes_as_much_as_its_blocks() {
     assert!(most < 400_000, "{most} bytes");
 }
 
-/// Rows that are read by pages take as much as a page of them.
-#[test]
-fn pages_take_as_much_as_one() {
+/// A table of 20,000 rows, and another that refers to each of them.
+fn with_many_rows() -> Database {
     let db = filled();
     db.execute("delete t", []).unwrap();
     db.load("t", (0..20_000).map(|id| (id, "a text"))).unwrap();
+    db.execute("table u (id int, t ref t)", []).unwrap();
+    db.load("u", (0..20_000).map(|id| (id, id))).unwrap();
+    db
+}
+
+/// How many bytes are held at most where the rows of a select are read by pages of so many.
+fn held_by(db: &Database, most: usize, line: &str) -> isize {
+    let before = HELD.with(Cell::get);
+    MOST_HELD.with(|held| held.set(before));
+    let texts = db.query_pages(most, line, [0], |row| Ok(row.get::<_, &str>("s")?.len()));
+    assert_eq!(texts.unwrap().sum::<mmdb::Result<usize>>(), Ok(20_000 * "a text".len()));
+    MOST_HELD.with(Cell::get) - before
+}
+
+/// Rows that are read by pages take as much as a page of them.
+#[test]
+fn pages_take_as_much_as_one() {
+    let db = with_many_rows();
     for line in ["select * from t where id >= ?", "select s from t where id >= ?"] {
-        let held_by = |most| {
-            let before = HELD.with(Cell::get);
-            MOST_HELD.with(|held| held.set(before));
-            let texts = db.query_pages(most, line, [0], |row| Ok(row.get::<_, &str>("s")?.len()));
-            assert_eq!(texts.unwrap().sum::<mmdb::Result<usize>>(), Ok(20_000 * "a text".len()));
-            MOST_HELD.with(Cell::get) - before
-        };
-        let (page, all) = (held_by(200), held_by(20_000));
+        let (page, all) = (held_by(&db, 200, line), held_by(&db, 20_000, line));
         assert!(page < 50_000 && 10 * page < all, "{page} bytes of {all}");
+    }
+}
+
+/// Pages that a cursor lends aren't copied, however many rows they have.
+#[test]
+fn lent_pages_take_none() {
+    let db = with_many_rows();
+    for line in [
+        "select distinct id, s from t where id >= ?",
+        "select u.id, t.s from u join t on u.t = t.id where u.id >= ?",
+    ] {
+        for most in [200, 20_000] {
+            let held = held_by(&db, most, line);
+            assert!(held < 4_000, "{held} bytes by pages of {most}");
+        }
     }
 }

@@ -156,6 +156,35 @@ fn a_reader_has_the_calls_of_selects() {
     assert!(reader.read().unwrap().query("select * from t", []).unwrap().is_empty());
 }
 
+/// Pages of a join are all of one state, and keep no writer from writing once they are read.
+#[test]
+fn pages_of_a_join() {
+    let db = open();
+    db.execute("table t (id int, n int)", []).unwrap();
+    db.execute("table u (id int, t ref t)", []).unwrap();
+    db.load("t", (0..30).map(|id| (id, 0))).unwrap();
+    db.load("u", (0..90).map(|id| (id, id % 30))).unwrap();
+    let shared = Shared::new(db);
+    let read = |tables: &Reading<'_>, most| {
+        let line = "select t.n, u.id from u join t on u.t = t.id";
+        let pages = tables.query_pages(most, line, [], |row| row.get(0)).unwrap();
+        let numbers: Vec<usize> = pages.collect::<Result<_>>().unwrap();
+        assert!(numbers.len() == 90 && numbers.iter().all(|number| *number == numbers[0]));
+        numbers[0]
+    };
+    thread::scope(|scope| {
+        for most in [1, 7, 30, 1_000] {
+            let mut reader = shared.reader().unwrap();
+            scope.spawn(move || while read(&reader.read().unwrap(), most) < WRITES {});
+        }
+        for turn in 1..=WRITES {
+            let changed = shared.write().unwrap().execute("update t set n = ?", [turn]);
+            assert_eq!(changed, Ok(30));
+            thread::yield_now();
+        }
+    });
+}
+
 /// Readers come and go, before and after they have read, and none keeps a writer from writing.
 #[test]
 fn readers_come_and_go() {
