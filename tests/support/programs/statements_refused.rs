@@ -2,7 +2,7 @@
 
 mod refusing;
 
-use mmdb::{Database, Result, RowsRef, Statement, Value};
+use mmdb::{Database, Result, Row, RowsRef, Statement, Value};
 use refusing::{is_refused, refused_calls};
 
 const LONG: &str = "a text that is longer than a slot of few bytes, and than some more of them";
@@ -43,6 +43,10 @@ fn count(count: usize) -> Given {
     Ok((Vec::new(), count))
 }
 
+fn values(row: &Row<'_>) -> Result<Vec<Value>> {
+    Ok(row.values().map(Value::from).collect())
+}
+
 impl<'db> Kept<'db> {
     fn of(db: &'db Database) -> Result<Kept<'db>> {
         Ok(Kept {
@@ -60,6 +64,12 @@ impl<'db> Kept<'db> {
         rows(self.select.query([2])?)
     }
 
+    /// Reads pages of a row by a cursor, and then changes the tables, which can be done as none is left open.
+    fn pages(&mut self, line: &str) -> Given {
+        let rows: Result<Vec<_>> = self.db.query_pages(1, line, [LONG], values)?.collect();
+        Ok((rows?, self.delete.execute(["a"])?))
+    }
+
     fn prepare(&mut self) -> Given {
         for _ in 0..MANY {
             let line = "select s, c from t where s = ? and id < ? and c <> 'a text that is given'";
@@ -69,13 +79,15 @@ impl<'db> Kept<'db> {
     }
 }
 
-const STEPS: [fn(&mut Kept<'_>) -> Given; 7] = [
+const STEPS: [fn(&mut Kept<'_>) -> Given; 9] = [
     |of| of.prepare(),
     |of| count(of.insert.execute((4, LONG))?),
     |of| count(of.update.execute((LONG, 1))?),
     |of| count(of.delete.execute(["a"])?),
     |of| rows(of.select.query([1])?),
     |of| rows(of.join.query([LONG])?),
+    |of| of.pages("select distinct s, id from t where s <> ?"),
+    |of| of.pages("select u.k, t.s from t join u on t.c = u.k where t.s <> ?"),
     |of| count(of.select.column_names()?.len()),
 ];
 
