@@ -1,9 +1,9 @@
 //! Makes the calls of standard input, as by_statements.c reads them, and writes their answers. A statement that is kept goes by
-//! its line, and one that is prepared by `prepare`; their answers are put together from their rows.
+//! its line, and one that is prepared by `prepare`; their answers are put together from their rows. A select is read by pages as well.
 
 use std::io::{self, Read, Write};
 
-use mmdb::{Database, Error, Limits, Outcome, Policy, RowsIter, Value, ValueRef};
+use mmdb::{Database, Error, Limits, Outcome, Policy, Row, RowsIter, Value, ValueRef};
 
 const POLICIES: [Policy; 5] = [Policy::Auto, Policy::Scan, Policy::Hash, Policy::Tree, Policy::Merge];
 
@@ -80,10 +80,21 @@ fn answer_of_rows(names: &[String], rows: RowsIter<'_>) -> String {
     answer
 }
 
+/// A select has the same rows if it is read by pages of some.
+fn check_pages(db: &Database, told: &Told<'_>, rows: &[Vec<Value>]) -> Result<(), Error> {
+    let values = |row: &Row<'_>| Ok(row.values().map(Value::from).collect());
+    let pages = db.query_pages(1 + rows.len() / 3, told.line, &told.values, values)?;
+    assert_eq!(pages.collect::<Result<Vec<Vec<Value>>, _>>()?, rows, "{}", told.line);
+    Ok(())
+}
+
 /// The answer to a statement by a call of the database, which keeps it by its line.
 fn kept(db: &Database, told: &Told<'_>) -> Result<String, Error> {
     Ok(match db.command(told.line, &told.values)? {
-        Outcome::Rows(rows) => answer_of_rows(rows.column_names(), rows.iter()),
+        Outcome::Rows(rows) => {
+            check_pages(db, told, &rows.to_vec())?;
+            answer_of_rows(rows.column_names(), rows.iter())
+        }
         Outcome::Count(count) => format!("ok {count}\n"),
         other => panic!("{other:?} is no answer to {}", told.line),
     })
@@ -95,6 +106,7 @@ fn prepared(db: &Database, told: &Told<'_>) -> Result<String, Error> {
     match statement.execute(&told.values) {
         Err(Error::NotAChange) => {
             let rows = statement.query(&told.values)?;
+            check_pages(db, told, &rows.to_vec())?;
             Ok(answer_of_rows(rows.column_names(), rows.iter()))
         }
         changed => Ok(format!("ok {}\n", changed?)),
