@@ -75,8 +75,8 @@ impl OpenDatabase {
 
     // No cursor is opened for this reason, of which the answer tells where it is a refusal.
     fn decline_cursor(&mut self, why: ExecuteFault) -> Unopened
-        requires { why ≢ fault.TooLong }
-        requires { why ≢ fault.Shared }
+        requires short { why ≢ fault.TooLong }
+        requires reads { why ≢ fault.Shared }
         ensures missing { (result ≡ unopened.NoSuchStatement) ↔ (why ≡ fault.NoSuchStatement) }
         ensures refused { result ≡ unopened.Refused → (refusal : PlainRefusal) × (why ≡ fault.Refused refusal) × (self.new.answer ≡ refusal_text refusal) }
         ensures interrupted { (result ≡ unopened.Interrupted) ↔ (why ≡ fault.Interrupted) }
