@@ -1,6 +1,6 @@
 //! The rows of a select that are read page by page.
 
-ghost use Rattle.std.specs.Prelude.{◌≡◌, ◌≢◌, ◌↔◌, ◌<◌, Err, IfErr, IfOk, IsErrOf, OnErr, OnOk, [], length};
+ghost use Rattle.std.specs.Prelude.{◌≡◌, ◌≢◌, ◌↔◌, ◌<◌, Err, IfErr, IfOk, IsErrOf, OnErr, OnOk, [], length, true};
 ghost use Rattle.plain_tables.specs.AnswerText.{refusal_text};
 ghost use Rattle.plain_tables.specs.declared.refusal.Refusal.{Refusal as PlainRefusal};
 ghost use Rattle.mm_cells.specs.Reading.{AreFull};
