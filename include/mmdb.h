@@ -279,8 +279,8 @@ uint32_t mmdb_count(mmdb *db, uint32_t statement, uint64_t *count);
 uint32_t mmdb_first(mmdb *db, uint32_t statement, size_t most, mmdb_rows *rows);
 
 /* Opens a cursor on the rows that a select shows with the bound values, to be read page by page by mmdb_cursor_fetch, in the
-   order in which mmdb_execute gives all. They are found now and kept as references to the rows of the tables, 4 bytes a row
-   and table, and no cell is made yet; what the statement has shown stays. Joins and `distinct` are what it is for: of one
+   order in which mmdb_execute gives all. They are found now and kept as references to the rows of the tables, 32 bytes a row
+   or twice that, and no cell is made yet; what the statement has shown stays. Joins and `distinct` are what it is for: of one
    table, mmdb_first and the last key go on with nothing held. The cursor holds the tables, as a second handle does that
    shares them: until it is closed no handle changes them (MMDB_SHARED), and all may read. It needs its statement no longer,
    and outlives its database. It may be read by another thread than its database.
@@ -328,9 +328,9 @@ uint32_t mmdb_interrupter_open(mmdb *db, mmdb_interrupter *interrupter);
    begins unasked. It is called from any thread, also while the handle is in a call, and from a signal handler: it takes no
    memory and no lock, and waits for nothing. Who interrupts from two threads, or from one and from a handler, opens two
    interrupters. The select looks once for each row or pair that it joins, walks or shows. It doesn't look while it searches
-   one table, makes a hash of one for a join, sorts what it found, or tells rows apart for `distinct`. Each of these takes
-   some seconds at most for a million rows. No change is cut, nor an answer of mmdb_command, mmdb_load and mmdb_feed, nor
-   what mmdb_cursor_fetch reads. Of a closed interrupter and of null nothing is done. */
+   one table, joins by following references, makes a hash of one for a join, sorts what it found, or tells rows apart for
+   `distinct`. Each of these takes some seconds at most for a million rows. No change is cut, nor an answer of mmdb_command,
+   mmdb_load and mmdb_feed, nor what mmdb_cursor_fetch reads. Of a closed interrupter and of null nothing is done. */
 void mmdb_interrupt(mmdb_interrupter *interrupter);
 
 /* Closes an interrupter and frees it, while no mmdb_interrupt is in it. It is MMDB_NO_INTERRUPTER then, and may be opened

@@ -4,7 +4,7 @@
 #include "allocations.h"
 #include "selecting.h"
 
-enum { STATEMENT_PAGE = 7, LITTLE = 4096, BYTES_OF_REFERENCE = 4 };
+enum { STATEMENT_PAGE = 7, LITTLE = 4096, BYTES_OF_ROW = 32 };
 
 static const char JOIN[] = "select t.id, t.s, u.k from t join u on t.c = u.k where t.id >= ?";
 
@@ -519,24 +519,24 @@ static long bytes_held(mmdb *db, const char *line, size_t *rows)
 }
 
 /* A cursor on many rows keeps references to them, and the cells of few. Its handle keeps nothing more behind a second one. */
-static void it_holds_references(mmdb *db, const char *line, size_t tables)
+static void it_holds_references(mmdb *db, const char *line)
 {
     size_t rows;
     long blocks;
     bytes_held(db, line, &rows);
     blocks = allocations_held();
     /* (a list that grows doubles) */
-    CHECK(bytes_held(db, line, &rows) < (long)(2 * BYTES_OF_REFERENCE * tables * rows) + LITTLE);
+    CHECK(bytes_held(db, line, &rows) < (long)(2 * BYTES_OF_ROW * rows) + LITTLE);
     CHECK(rows >= ROWS / 2 && allocations_held() == blocks);
 }
 
 static void each_holds_references(void)
 {
     mmdb db = opened(MMDB_AUTO, ROWS);
-    it_holds_references(&db, JOIN, 2);
-    it_holds_references(&db, "select * from t where id >= ?", 1);
-    it_holds_references(&db, "select distinct * from t where id >= ?", 1);
-    it_holds_references(&db, "select * from t join w on t.g = w.n where t.id >= ?", 2);
+    it_holds_references(&db, JOIN);
+    it_holds_references(&db, "select * from t where id >= ?");
+    it_holds_references(&db, "select distinct * from t where id >= ?");
+    it_holds_references(&db, "select * from t join w on t.g = w.n where t.id >= ?");
     mmdb_close(&db);
 }
 
