@@ -11,11 +11,12 @@
    address. Each handle is for one call at a time, whichever thread makes it, also where it is the second handle of a
    call. A lock, or a thread's start or end, orders the calls on a handle. Calls on two handles may run at the same time.
    Handles share no tables unless mmdb_share says so: then each of them reads the tables, and none changes them. To write,
-   have every other handle leave first. Nothing here but mmdb_interrupt is to be called from a signal handler.
+   have every other handle leave first, and close every cursor. Nothing here but mmdb_interrupt is to be called from a
+   signal handler.
 
    Nothing is kept on disk, and no call reads or writes a file or a socket. No call ends the process: one that runs out
-   of memory gives MMDB_NO_MEMORY or `error 90`. Only mmdb_close frees what a handle holds, and what an interrupter or a
-   restore holds only the call that closes it.
+   of memory gives MMDB_NO_MEMORY or `error 90`. Only mmdb_close frees what a handle holds, and what an interrupter, a
+   restore or a cursor holds only the call that closes it.
 
    Bytes go in by a pointer and a length. They need no zero byte behind them, are read during the call alone, and stay
    the caller's. They are not what the same handle answered: to give that back to it, copy it first. None of the
@@ -68,6 +69,12 @@ typedef struct mmdb_restore {
     void *inside;
 } mmdb_restore;
 
+/* The rows of a select that are read page by page, or none where inside is null. It is a handle of its own, and never
+   copied. */
+typedef struct mmdb_cursor {
+    void *inside;
+} mmdb_cursor;
+
 /* Where a save goes on: MMDB_SAVE_BEGIN at first, and MMDB_SAVE_OVER in `part` behind the last piece. The rest is the
    library's. It holds nothing, and may be copied. */
 typedef struct mmdb_save_mark {
@@ -84,10 +91,12 @@ typedef struct mmdb_save_mark {
 #define MMDB_CLOSED {}
 #define MMDB_NO_INTERRUPTER {}
 #define MMDB_NO_RESTORE {}
+#define MMDB_NO_CURSOR {}
 #else
 #define MMDB_CLOSED { NULL }
 #define MMDB_NO_INTERRUPTER { NULL }
 #define MMDB_NO_RESTORE { NULL }
+#define MMDB_NO_CURSOR { NULL }
 #endif
 
 /* Bytes that the library keeps. They do not end in a zero byte. `at` is never null, also of no bytes. */
@@ -133,7 +142,8 @@ typedef enum mmdb_status {
     MMDB_DONE = 0,
     MMDB_NOT_OPEN = 1,           /* the handle is closed, or null */
     MMDB_IS_OPEN = 2,            /* mmdb_open of a handle that is open, mmdb_clone and mmdb_restore_end into one;
-                                    mmdb_interrupter_open and mmdb_restore_open of what is open. It stays as it is */
+                                    mmdb_interrupter_open, mmdb_restore_open and mmdb_cursor_open of what is open. It stays
+                                    as it is */
     MMDB_NO_SUCH_POLICY = 3,     /* mmdb_open, mmdb_restore_open with a number that is none of mmdb_policy */
     MMDB_LIMIT_OUT_OF_RANGE = 4, /* mmdb_open, mmdb_restore_open with rows that are not 1 to MMDB_MOST, or a block past
                                     MMDB_MOST */
@@ -142,26 +152,29 @@ typedef enum mmdb_status {
     MMDB_NOT_ONE_REQUEST = 6,    /* a line feed in a line; a line that asks for a block of another length than given */
     MMDB_NO_MEMORY = 7,          /* mmdb_open, mmdb_interrupter_open, mmdb_begin, mmdb_share, mmdb_leave, mmdb_clone,
                                     mmdb_prepare, mmdb_bind_text of more than 14 bytes, mmdb_save, mmdb_restore_open,
-                                    mmdb_restore_take, mmdb_restore_end, and the calls that tell a reason: none was found.
+                                    mmdb_restore_take, mmdb_restore_end, mmdb_cursor_fetch, and the calls that tell a reason:
+                                    none was found.
                                     mmdb_feed: none for the answers; the stream is over */
     MMDB_ENDED = 8,              /* mmdb_feed of a stream that is over; the other calls go on */
     MMDB_NO_SUCH_STATEMENT = 9,  /* the number names no statement, or one that was finalised */
     MMDB_NO_SUCH_PLACE = 10,     /* the statement has no place of that number */
     MMDB_NOT_UTF8 = 11,          /* mmdb_bind_text, mmdb_execute_many: a text is not UTF-8 */
     MMDB_REFUSED = 12,           /* mmdb_prepare, mmdb_execute, mmdb_execute_many, mmdb_first, mmdb_columns, mmdb_count,
-                                    mmdb_query, mmdb_plan, mmdb_version, mmdb_save: refused. mmdb_answer and mmdb_refusal
-                                    tell why, as `error 41 key exists` and a line feed; nothing changed.
+                                    mmdb_cursor_open, mmdb_query, mmdb_plan, mmdb_version, mmdb_save: refused. mmdb_answer and
+                                    mmdb_refusal tell why, as `error 41 key exists` and a line feed; nothing changed.
                                     mmdb_restore_take: a line of the dump was refused */
-    MMDB_TOO_LARGE = 13,         /* mmdb_execute, mmdb_first, mmdb_query: the texts of the rows are more than 4 GiB together;
-                                    mmdb_prepare: the database has 4294967296 statements; mmdb_count, mmdb_execute_many: there
-                                    are 2^64 rows or more. Nothing changed */
+    MMDB_TOO_LARGE = 13,         /* mmdb_execute, mmdb_first, mmdb_cursor_fetch, mmdb_query: the texts of the rows are more than
+                                    4 GiB together; mmdb_prepare: the database has 4294967296 statements; mmdb_count,
+                                    mmdb_execute_many: there are 2^64 rows or more. Nothing changed */
     MMDB_SHARED = 14,            /* mmdb_command, mmdb_load, mmdb_execute, mmdb_execute_many and mmdb_query of a change;
-                                    mmdb_feed, mmdb_begin: another handle shares the tables. Nothing changed */
+                                    mmdb_feed, mmdb_begin: another handle shares the tables, or a cursor on them is open.
+                                    Nothing changed */
     MMDB_NO_TRANSACTION = 15,    /* mmdb_commit, mmdb_rollback: no transaction is open */
-    MMDB_IN_TRANSACTION = 16,    /* mmdb_share, mmdb_leave, mmdb_clone: a transaction is open. Nothing changed */
+    MMDB_IN_TRANSACTION = 16,    /* mmdb_share, mmdb_leave, mmdb_clone, mmdb_cursor_open: a transaction is open. Nothing
+                                    changed */
     MMDB_NOT_ROWS = 17,          /* mmdb_execute_many: the cells are no rows of the statement's values. Nothing changed */
-    MMDB_INTERRUPTED = 18,       /* mmdb_execute, mmdb_first, mmdb_count and mmdb_query of a select: mmdb_interrupt ended it
-                                    while it was under way. Nothing changed */
+    MMDB_INTERRUPTED = 18,       /* mmdb_execute, mmdb_first, mmdb_count, mmdb_cursor_open and mmdb_query of a select:
+                                    mmdb_interrupt ended it while it was under way. Nothing changed */
     MMDB_NOT_A_DUMP = 19,        /* mmdb_restore_take, mmdb_restore_end: what came is no dump, or not a whole one */
     MMDB_CHANGED = 20            /* mmdb_save: a table was changed since the save began */
 } mmdb_status;
@@ -178,7 +191,7 @@ typedef enum mmdb_policy {
 /* The greatest number of rows of a table, and of bytes of a block. */
 #define MMDB_MOST UINT32_C(16777216)
 
-/* The calls. Each gives an mmdb_status, but for the six that say otherwise or give nothing. */
+/* The calls. Each gives an mmdb_status, but for the seven that say otherwise or give nothing. */
 
 /* Opens a database without tables. A table takes `rows` rows at most, from 1 to MMDB_MOST, and a block that is loaded
    or dumped has `block` bytes at most, from 0 to MMDB_MOST; no memory is taken ahead for either.
@@ -265,6 +278,28 @@ uint32_t mmdb_count(mmdb *db, uint32_t statement, uint64_t *count);
    or MMDB_INTERRUPTED, MMDB_NOT_OPEN or MMDB_NO_SUCH_STATEMENT. */
 uint32_t mmdb_first(mmdb *db, uint32_t statement, size_t most, mmdb_rows *rows);
 
+/* Opens a cursor on the rows that a select shows with the bound values, to be read page by page by mmdb_cursor_fetch, in the
+   order in which mmdb_execute gives all. They are found now and kept as references to the rows of the tables, 32 bytes a row
+   or twice that, and no cell is made yet; what the statement has shown stays. Joins and `distinct` are what it is for: of one
+   table, mmdb_first and the last key go on with nothing held. The cursor holds the tables, as a second handle does that
+   shares them: until it is closed no handle changes them (MMDB_SHARED), and all may read. It needs its statement no longer,
+   and outlives its database. It may be read by another thread than its database.
+   Gives MMDB_DONE, and then the cursor is open until mmdb_cursor_close; or MMDB_NOT_OPEN where db is closed or a handle is
+   null; or MMDB_IS_OPEN where the cursor is open; or MMDB_NO_SUCH_STATEMENT; or MMDB_IN_TRANSACTION; or MMDB_REFUSED as
+   mmdb_execute would be, in the same order, or else by 20 where the statement is no select; or MMDB_INTERRUPTED. Then the
+   cursor is as it was. */
+uint32_t mmdb_cursor_open(mmdb *db, uint32_t statement, mmdb_cursor *cursor);
+
+/* Reads the next rows of a cursor, so many at most: behind the last there are none. They are good until the next call on
+   this cursor. Where most is 0 none is read, and the number of columns is given.
+   Gives MMDB_DONE and the rows; or MMDB_NOT_OPEN where the cursor is closed or null; or MMDB_NO_MEMORY; or MMDB_TOO_LARGE
+   where the texts of these rows are more than 4 GiB together. Then none was read, and fewer can be asked for. */
+uint32_t mmdb_cursor_fetch(mmdb_cursor *cursor, size_t most, mmdb_rows *rows);
+
+/* Closes a cursor and frees what it holds. It is MMDB_NO_CURSOR then, and may be opened again. Of a closed one and of null
+   nothing is done. */
+void mmdb_cursor_close(mmdb_cursor *cursor);
+
 /* Frees a statement: its rows are good no longer, and its number may be given to another. It needs no memory. The
    answers are left as they are.
    Gives MMDB_DONE; or MMDB_NOT_OPEN or MMDB_NO_SUCH_STATEMENT. */
@@ -288,14 +323,14 @@ uint32_t mmdb_query(mmdb *db, const void *line, size_t length, mmdb_rows *rows);
    handle is null, MMDB_IS_OPEN where the interrupter is open, or MMDB_NO_MEMORY. Then it is as it was. */
 uint32_t mmdb_interrupter_open(mmdb *db, mmdb_interrupter *interrupter);
 
-/* Asks the select that is under way in a call on that handle to end; mmdb_execute, mmdb_first, mmdb_count or mmdb_query then
-   gives MMDB_INTERRUPTED. Where none is under way nothing comes of it, as each select begins unasked. It is called from any
-   thread, also while the handle is in a call, and from a signal handler: it takes no memory and no lock, and waits for
-   nothing. Who interrupts from two threads, or from one and from a handler, opens two interrupters. The select looks once
-   for each row or pair that it joins, walks or shows. It doesn't look while it searches one table, makes a hash of one for
-   a join, sorts what it found, or tells rows apart for `distinct`. Each of these takes some seconds at most for a million
-   rows. No change is cut, nor an answer of mmdb_command, mmdb_load and mmdb_feed. Of a closed interrupter and of null
-   nothing is done. */
+/* Asks the select that is under way in a call on that handle to end; mmdb_execute, mmdb_first, mmdb_count,
+   mmdb_cursor_open or mmdb_query then gives MMDB_INTERRUPTED. Where none is under way nothing comes of it, as each select
+   begins unasked. It is called from any thread, also while the handle is in a call, and from a signal handler: it takes no
+   memory and no lock, and waits for nothing. Who interrupts from two threads, or from one and from a handler, opens two
+   interrupters. The select looks once for each row or pair that it joins, walks or shows. It doesn't look while it searches
+   one table, joins by following references, makes a hash of one for a join, sorts what it found, or tells rows apart for
+   `distinct`. Each of these takes some seconds at most for a million rows. No change is cut, nor an answer of mmdb_command,
+   mmdb_load and mmdb_feed, nor what mmdb_cursor_fetch reads. Of a closed interrupter and of null nothing is done. */
 void mmdb_interrupt(mmdb_interrupter *interrupter);
 
 /* Closes an interrupter and frees it, while no mmdb_interrupt is in it. It is MMDB_NO_INTERRUPTER then, and may be opened
@@ -340,8 +375,9 @@ uint32_t mmdb_plan(mmdb *db, const void *line, size_t length, mmdb_bytes *answer
 
 /* The answers of the last call that was done or refused, one behind the other: of the piece that was fed, or of the
    line. Of a piece whose answers found no room it is a front of them. Where a statement was prepared, executed, counted or
-   asked for its first rows or columns, or a line queried, they are its refusal, or no bytes. Any other call leaves them as
-   they are: one that binds or finalises, and one that can't be answered, as of a number that names no statement.
+   asked for its first rows, its columns or a cursor, or a line queried, they are its refusal, or no bytes. Any other call
+   leaves them as they are: one that binds or finalises, and one that can't be answered, as of a number that names no
+   statement.
    Gives MMDB_DONE, and bytes that are good until the next call but this one, mmdb_refusal and those that tell a reason;
    or MMDB_NOT_OPEN. */
 uint32_t mmdb_answer(mmdb *db, mmdb_bytes *answer);
@@ -366,10 +402,10 @@ uint32_t mmdb_reason(mmdb *db, const void *line, size_t length, const void *bloc
    Gives MMDB_DONE and the words, as mmdb_reason does; or MMDB_NOT_OPEN, MMDB_NO_LINE or MMDB_NO_MEMORY. */
 uint32_t mmdb_prepare_reason(mmdb *db, const void *line, size_t length, mmdb_bytes *reason);
 
-/* Why a statement was refused by mmdb_execute, mmdb_columns, mmdb_count or mmdb_first, in words as those of mmdb_reason. It
-   is asked right behind that call, with the values still bound. Where a value is to blame that was bound to a ?, the words
-   begin with the column at which this ? stands in the line that was prepared, as `column 11: t has a row with the key 1`.
-   Tables, statements, rows and answers stay as they are.
+/* Why a statement was refused by mmdb_execute, mmdb_columns, mmdb_count, mmdb_first or mmdb_cursor_open, in words as those
+   of mmdb_reason. It is asked right behind that call, with the values still bound. Where a value is to blame that was bound
+   to a ?, the words begin with the column at which this ? stands in the line that was prepared, as `column 11: t has a row
+   with the key 1`. Tables, statements, rows and answers stay as they are.
    Gives MMDB_DONE and the words, which are good until the next call on this handle: no bytes where the last answers begin
    with no refusal, or it is none of this statement. Or gives MMDB_NOT_OPEN, MMDB_NO_SUCH_STATEMENT, or MMDB_NO_MEMORY
    where none was found for the words. */
@@ -377,7 +413,7 @@ uint32_t mmdb_statement_reason(mmdb *db, uint32_t statement, mmdb_bytes *reason)
 
 /* Begins a transaction, in those of the handle that are open: a second is a savepoint of the first. The stream, the
    statements, the rows and the answers stay, here and where a transaction ends. In it all is done that is done outside,
-   but for mmdb_share and mmdb_leave.
+   but for mmdb_share, mmdb_leave, mmdb_clone and mmdb_cursor_open.
    Gives MMDB_DONE; or MMDB_NOT_OPEN, MMDB_NO_MEMORY or MMDB_SHARED, and then none has begun. */
 uint32_t mmdb_begin(mmdb *db);
 
@@ -393,8 +429,8 @@ size_t mmdb_transactions(mmdb *db);
 /* Has a second handle share the tables of a first, and its stream, in the place of its own. A closed reader is open then,
    without statements. Where it was open, its statements with their values, its rows and its answers stay. All is as it
    was of db. While two handles share tables, each reads them by mmdb_command, mmdb_execute and mmdb_query of a select, by
-   mmdb_command of `tables` and `dump`, and by mmdb_columns, mmdb_count, mmdb_first, mmdb_plan, mmdb_indexes, mmdb_version and
-   mmdb_clone; neither changes them (MMDB_SHARED). Both are in a call here.
+   mmdb_command of `tables` and `dump`, and by mmdb_columns, mmdb_count, mmdb_first, mmdb_cursor_open, mmdb_plan, mmdb_indexes,
+   mmdb_version, mmdb_save and mmdb_clone; neither changes them (MMDB_SHARED). Both are in a call here.
    Gives MMDB_DONE; or MMDB_NOT_OPEN where db is closed or a handle is null, MMDB_IN_TRANSACTION where a transaction of
    either is open, or MMDB_NO_MEMORY, and then reader is as it was. */
 uint32_t mmdb_share(mmdb *db, mmdb *reader);
@@ -656,6 +692,28 @@ static inline mmdb_status mmdb_checked_first(mmdb *db, uint32_t statement, size_
     return mmdb_checked_is_closed(db) ? MMDB_NOT_OPEN : mmdb_checked_status(mmdb_first(db, statement, most, to));
 }
 
+static inline mmdb_status mmdb_checked_cursor_open(mmdb *db, uint32_t statement, mmdb_cursor *cursor)
+{
+    if (mmdb_checked_is_closed(db) || !cursor)
+        return MMDB_NOT_OPEN;
+    return mmdb_checked_status(mmdb_cursor_open(db, statement, cursor));
+}
+
+static inline mmdb_status mmdb_checked_cursor_fetch(mmdb_cursor *cursor, size_t most, mmdb_rows *rows)
+{
+    mmdb_rows unwanted;
+    mmdb_rows *to = mmdb_checked_rows_at(rows, &unwanted);
+    if (!cursor || !cursor->inside)
+        return MMDB_NOT_OPEN;
+    return mmdb_checked_status(mmdb_cursor_fetch(cursor, most, to));
+}
+
+static inline void mmdb_checked_cursor_close(mmdb_cursor *cursor)
+{
+    if (cursor && cursor->inside)
+        mmdb_cursor_close(cursor);
+}
+
 static inline mmdb_status mmdb_checked_finalize(mmdb *db, uint32_t statement)
 {
     return mmdb_checked_is_closed(db) ? MMDB_NOT_OPEN : mmdb_checked_status(mmdb_finalize(db, statement));
@@ -868,6 +926,9 @@ static inline void mmdb_checked_close(mmdb *db)
 #define mmdb_columns mmdb_checked_columns
 #define mmdb_count mmdb_checked_count
 #define mmdb_first mmdb_checked_first
+#define mmdb_cursor_open mmdb_checked_cursor_open
+#define mmdb_cursor_fetch mmdb_checked_cursor_fetch
+#define mmdb_cursor_close mmdb_checked_cursor_close
 #define mmdb_finalize mmdb_checked_finalize
 #define mmdb_query mmdb_checked_query
 #define mmdb_interrupter_open mmdb_checked_interrupter_open
