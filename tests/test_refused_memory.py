@@ -61,6 +61,7 @@ PASSED_ON = {
     "mm_statements/src/columns.rt": 1,
     "mmdb/src/main.rt": 4,
     "mmdb_c/src/clone_calls.rt": 1,
+    "mmdb_c/src/cursors.rt": 1,
     "mmdb_c/src/firsts.rt": 1,
     "mmdb_c/src/given.rt": 1,
     "mmdb_c/src/many.rt": 1,
