@@ -1,7 +1,8 @@
 """Cursors from C: the rows of selects read page by page, beside those of an execution; each status; what is done and declined while one is
 open, and each call for memory refused. Threads read cursors beside their databases, under sanitizers.
 
-In large sizes (`tests/fire embedding_cursors`) they also run under valgrind's memcheck and drd, which see the library.
+In large sizes (`tests/fire embedding_cursors`) they also run under valgrind's memcheck and drd, which see the library, and selects are
+read whose texts are more than 4 GiB.
 """
 
 import shutil
@@ -39,6 +40,14 @@ class Cursors(compiling.Programs):
     @unittest.skipUnless(HAS_VALGRIND, "in large sizes only, with valgrind")
     def test_under_memcheck(self):
         self.check_counted([*MEMCHECK, self.compiled("cursors-watched")])
+
+
+class TooLarge(compiling.Programs):
+    """Texts for whose places a cell has no number."""
+
+    @unittest.skipUnless(sizes.is_large, "it needs gigabytes: in large sizes only")
+    def test_as_it_is(self):
+        self.check_counted(ROOM.compiled("too-large", compiling.PROGRAMS / "too_large.c", compiling.C, compiling.COUNTED))
 
 
 class Threads(compiling.Programs):

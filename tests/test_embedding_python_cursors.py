@@ -11,9 +11,10 @@ import random
 import tempfile
 import threading
 import tracemalloc
+import unittest
 import weakref
 
-from support import binding
+from support import binding, sizes
 from support.binding import mmdb
 
 SEED = 20261130
@@ -491,3 +492,22 @@ class Memory(WithTables):
                 peaks.append(tracemalloc.get_traced_memory()[1])
                 tracemalloc.stop()
             self.assertLess(10 * peaks[0], peaks[1])
+
+
+@unittest.skipUnless(sizes.is_large, "it needs gigabytes: in large sizes only")
+class TooLarge(binding.WithDatabase):
+    """Texts for whose places a cell has no number: more than 4 GiB together."""
+
+    def test_fewer_can_be_read(self):
+        line = "select a.s from a join b on a.k = b.k"
+        self.db.execute("table a (id int, k int, s text)")
+        self.db.execute("table b (id int, k int)")
+        self.db.load("a", ((number, 1, "x" * 1024) for number in range(1100)))
+        self.db.load("b", ((number, 1) for number in range(4096)))
+        for ask in (self.db.select, lambda line: self.db.iterate(line, page=5_000_000)):
+            with self.assertRaisesRegex(mmdb.OperationalError, "more than 4 GiB"):
+                ask(line)
+        rows = self.db.iterate(line)
+        self.assertEqual(sum(len(row.s) for row in itertools.islice(rows, 20_000)), 20_000 * 1024)
+        rows.close()
+        self.db.execute("delete b where id < 4000")

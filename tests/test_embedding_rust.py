@@ -101,6 +101,12 @@ class Cargo(unittest.TestCase):
         self.assertNotIn("warning", built.err)
         drawn.check(self, self.folder / "target" / "debug" / "by_statements", SEED)
 
+    @unittest.skipUnless(sizes.is_large, "it needs gigabytes: in large sizes only")
+    def test_texts_of_more_than_4_gib_are_too_large(self):
+        program = (compiling.PROGRAMS / "too_large.rs").read_text()
+        ended = self.cargo(embedding.crate(self.folder, "too_large", program), "run", "--quiet")
+        self.assertEqual((ended.status, ended.out, ended.err), (0, "", ""))
+
     def resave(self, block, *files):
         """What a program tells that restores a database from a file, under a limit of blocks, and saves it to another."""
         program = self.folder / "target" / "debug" / "resave"
