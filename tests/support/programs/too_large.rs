@@ -13,7 +13,10 @@ fn main() -> Result<()> {
     db.load("b", (0..4096i64).map(|id| (id, 1i64)))?;
     assert!(matches!(db.query(LINE, []), Err(Error::TooLarge)));
     let length = |row: &Row<'_>| row.get::<_, String>(0).map(|text| text.len());
-    assert!(matches!(db.query_pages(5_000_000, LINE, [], length), Err(Error::TooLarge)));
+    assert!(matches!(
+        db.query_pages(5_000_000, LINE, [], length),
+        Err(Error::TooLarge)
+    ));
     let pages = db.query_pages(1_000, LINE, [], length)?;
     assert_eq!(pages.take(20_000).filter(|length| *length == Ok(1024)).count(), 20_000);
     db.execute("delete b where id < 4000", [])?;
