@@ -48,7 +48,7 @@ use Rattle.mm_session.specs.Shown.{places_shown}
 use Rattle.mm_statements.specs.Columns.{column_of, column_placed, columns_of_query, columns_of_table, columns_of_template, columns_shown, source_tables}
 use Rattle.mm_statements.specs.Executing.{IsUntold, TellsColumns, columns_of}
 use Rattle.mm_prepared.specs.Kept.{IsKnown, SameSeen, named, seen}
-use Rattle.mm_statements.specs.Held.{Held}
+use Rattle.mm_shared.specs.Held.{Held}
 use Rattle.mm_statements.specs.Resolving.{IsUnresolved}
 use Rattle.mm_statements.specs.Right.{AreRight}
 use Rattle.mm_statements.specs.declared.faults.ExecuteFault.{ExecuteFault}

@@ -15,7 +15,7 @@ use Rattle.mm_session.specs.Counting.{HasRows}
 use Rattle.mm_session.specs.declared.fault.CountFault.{CountFault}
 use Rattle.mm_session.specs.declared.fault.CountFault.TheVariants as counting
 use Rattle.mm_statements.specs.Counting.{HasRowsOf, IsUncounted, execute_fault_of_count}
-use Rattle.mm_statements.specs.Held.{Held}
+use Rattle.mm_shared.specs.Held.{Held}
 use Rattle.mm_statements.specs.Resolving.{IsFinished, IsUnfinished}
 use Rattle.mm_statements.specs.declared.faults.ExecuteFault.{ExecuteFault}
 use Rattle.mm_statements.specs.declared.faults.ExecuteFault.TheVariants as fault

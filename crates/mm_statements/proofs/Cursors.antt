@@ -11,7 +11,7 @@ use Rattle.mm_catalog.specs.State.{CatalogState}
 use Rattle.mm_session.specs.Found.{HasFound, values_found}
 use Rattle.mm_session.specs.declared.found_rows.FoundRows.{FoundRows}
 use Rattle.mm_statements.specs.Cursors.{CursorState, IsCursorOf, MayShare, StandsBefore}
-use Rattle.mm_statements.specs.Held.{Held}
+use Rattle.mm_shared.specs.Held.{Held}
 use Rattle.mm_statements.specs.Resolving.{IsFinished}
 use Rattle.mm_statements.proofs.Executing.{effect-of}
 use Rattle.mm_statements.proofs.Seen.{same-seen, state_of}

@@ -29,15 +29,16 @@ use Rattle.mm_session.specs.declared.fault.SelectFault.TheVariants as selecting
 use Rattle.mm_prepared.specs.Kept.{KeptStatement}
 use Rattle.mm_statements.specs.Databases.{IsUnchanged}
 use Rattle.mm_statements.specs.Executing.{IsChangeOf, IsDeclined, IsEffectOf, IsSelectOf}
-use Rattle.mm_statements.specs.Held.{Held}
-use Rattle.mm_statements.specs.Faults.{IsUndone, execute_fault_of_change, execute_fault_of_select}
-use Rattle.mm_statements.specs.declared.faults.ChangeFault.{ChangeFault}
-use Rattle.mm_statements.specs.declared.faults.ChangeFault.TheVariants as changing
+use Rattle.mm_shared.specs.Held.{Held}
+use Rattle.mm_shared.specs.Faults.{IsUndone}
+use Rattle.mm_statements.specs.Faults.{execute_fault_of_change, execute_fault_of_select}
+use Rattle.mm_shared.specs.declared.faults.ChangeFault.{ChangeFault}
+use Rattle.mm_shared.specs.declared.faults.ChangeFault.TheVariants as changing
 use Rattle.mm_prepared.specs.Kept.{IsKnown, NamesNow, SameSeen, named, seen}
 use Rattle.mm_statements.specs.Resolving.{IsFinished, IsRefusing, IsUnfinished, IsUnmeant, IsUnresolved}
 use Rattle.mm_statements.specs.Resolving as resolving
 use Rattle.mm_statements.specs.Right.{AreNoted, IsRight}
-use Rattle.mm_statements.specs.declared.noted.NotedTables.{NotedTables}
+use Rattle.mm_shared.specs.declared.noted.NotedTables.{NotedTables}
 use Rattle.mm_statements.specs.declared.faults.ExecuteFault.{ExecuteFault}
 use Rattle.mm_statements.specs.declared.faults.ExecuteFault.TheVariants as fault
 use Rattle.mm_prepared.specs.declared.kept.Prepared.{Prepared}

@@ -16,7 +16,7 @@ use Rattle.mm_session.specs.declared.fault.SelectFault.{SelectFault}
 use Rattle.mm_session.specs.declared.fault.SelectFault.TheVariants as selecting
 use Rattle.mm_statements.specs.Faults.{execute_fault_of_select}
 use Rattle.mm_statements.specs.First.{IsUnshown, ShowsFirstOf}
-use Rattle.mm_statements.specs.Held.{Held}
+use Rattle.mm_shared.specs.Held.{Held}
 use Rattle.mm_statements.specs.Resolving.{IsFinished, IsUnfinished}
 use Rattle.mm_statements.specs.declared.faults.ExecuteFault.{ExecuteFault}
 use Rattle.mm_statements.specs.declared.faults.ExecuteFault.TheVariants as fault

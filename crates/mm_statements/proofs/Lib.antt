@@ -16,4 +16,3 @@ pub mod Queries
 pub mod Requests
 pub mod Right
 pub mod Seen
-pub mod Sharing

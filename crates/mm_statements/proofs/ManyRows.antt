@@ -39,12 +39,12 @@ use Rattle.mm_session.specs.Sessions.{State}
 use Rattle.mm_prepared.specs.Kept.{IsKnown, KeptStatement, SameSeen, named, seen}
 use Rattle.mm_prepared.specs.declared.kept.Prepared.{Prepared}
 use Rattle.mm_prepared.specs.declared.kept.Statements.{Statements}
-use Rattle.mm_statements.specs.Held.{Held}
+use Rattle.mm_shared.specs.Held.{Held}
 use Rattle.mm_statements.specs.Databases.{DatabaseState, KeepsTables, statement_at}
 use Rattle.mm_statements.specs.Many.{EndsBy, HasFailed, IsDeclinedWithMany, IsEffectOfMany, IsMeaning, outcome_in_record}
 use Rattle.mm_statements.specs.Resolving.{IsUnresolved}
 use Rattle.mm_statements.specs.Right.{AreNoted, AreRight}
-use Rattle.mm_statements.specs.declared.noted.NotedTables.{NotedTables}
+use Rattle.mm_shared.specs.declared.noted.NotedTables.{NotedTables}
 use Rattle.mm_statements.specs.declared.faults.ExecuteFault.{ExecuteFault}
 use Rattle.mm_statements.specs.declared.faults.ExecuteFault.TheVariants as fault
 use Rattle.mm_statements.proofs.Changes.{change-schemas, same_schemas}

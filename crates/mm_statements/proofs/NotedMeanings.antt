@@ -1,20 +1,13 @@
 -- Noted: the names and columns of tables that are noted, and statements that are right by them.
-use Rattle.std.proofs.Common.{◌≡◌, ◌∙◌, ◌++◌, ◌∷◌, [], ℕ, List, ap, map, subst, suc, sym, take, Some, false, true}
-use Rattle.std.specs.List.{slice_get}
-use Rattle.std.proofs.Math.Seq.{take-suc}
-use Rattle.std.proofs.lemmas.Option.{get_or_from_slice_get, slice_get_within}
+use Rattle.std.proofs.Common.{◌≡◌, ◌∙◌, map, subst, sym, false, true}
 use Rattle.std.proofs.lemmas.Simd.{map-map}
 use Rattle.plain_tables.specs.Databases.{Database}
 use Rattle.plain_tables.specs.ResolvedLaws.{emptied}
 use Rattle.mm_prepared.specs.declared.kept.Statements.{Statements}
-use Rattle.mm_statements.specs.Noted.{noted_table, noted_tables}
+use Rattle.mm_shared.specs.Noted.{noted_table, noted_tables}
 use Rattle.mm_statements.specs.Right.{AreNoted, AreRight}
-use Rattle.mm_statements.specs.declared.noted.NotedTables.{NotedTables}
+use Rattle.mm_shared.specs.declared.noted.NotedTables.{NotedTables}
 use Rattle.mm_statements.proofs.Right.{stays-right}
-
--- one more is taken
-pub next-taken : {X : Type 0} (xs : List X) (n : ℕ) (x : X) → slice_get xs n ≡ Some x → take (suc n) xs ≡ take n xs ++ x ∷ []
-next-taken xs n x at = take-suc xs n x (slice_get_within xs n x at) ∙ ap (λ y. take n xs ++ y ∷ []) (get_or_from_slice_get xs n x x at)
 
 -- what is noted has neither declared indexes nor rows
 noted-emptied : (noted : NotedTables) → map emptied (noted_tables noted) ≡ noted_tables noted

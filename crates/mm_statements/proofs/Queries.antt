@@ -29,9 +29,10 @@ use Rattle.mm_session.specs.Changing.{HasDeclined, IsChange}
 use Rattle.mm_session.specs.Sessions.{State}
 use Rattle.mm_session.specs.declared.fault.SelectFault.{SelectFault}
 use Rattle.mm_session.specs.declared.fault.SelectFault.TheVariants as selecting
-use Rattle.mm_statements.specs.Faults.{IsUndone, query_fault_of, query_fault_of_change}
-use Rattle.mm_statements.specs.declared.faults.ChangeFault.{ChangeFault}
-use Rattle.mm_statements.specs.declared.faults.ChangeFault.TheVariants as changing
+use Rattle.mm_shared.specs.Faults.{IsUndone}
+use Rattle.mm_statements.specs.Faults.{query_fault_of, query_fault_of_change}
+use Rattle.mm_shared.specs.declared.faults.ChangeFault.{ChangeFault}
+use Rattle.mm_shared.specs.declared.faults.ChangeFault.TheVariants as changing
 use Rattle.mm_statements.specs.Querying.{IsEffectOfLine, IsMeaningOfLine, IsUnanswered, IsUnqueried, is_statement}
 use Rattle.mm_statements.specs.Querying as querying
 use Rattle.mm_statements.specs.Resolving.{IsOfRows}

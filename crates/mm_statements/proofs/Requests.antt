@@ -28,7 +28,7 @@ use Rattle.plain_streams.specs.Runs as runs
 use Rattle.mm_prepared.specs.Declaring.{IsOfTables, declares}
 use Rattle.mm_statements.specs.Right.{AreNoted}
 use Rattle.mm_prepared.specs.declared.kept.Statements.{Statements}
-use Rattle.mm_statements.specs.declared.noted.NotedTables.{NotedTables}
+use Rattle.mm_shared.specs.declared.noted.NotedTables.{NotedTables}
 use Rattle.mm_statements.proofs.Changes.{same_schemas}
 use Rattle.mm_statements.proofs.NotedMeanings.{noted-stays}
 

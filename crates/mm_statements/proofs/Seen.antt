@@ -5,7 +5,7 @@ use Rattle.std.specs.Option.{option_map}
 use Rattle.plain_tables.specs.declared.value.Value.{Value}
 use Rattle.mm_prepared.specs.Kept.{KeptStatement}
 use Rattle.mm_statements.specs.Databases.{DatabaseState, NowNames, SameStatements, statement_at}
-use Rattle.mm_statements.specs.Held.{Held}
+use Rattle.mm_shared.specs.Held.{Held}
 use Rattle.mm_prepared.specs.Kept.{NamesNow, SameNamed, SameSeen, all_seen, named, seen, unresolved}
 use Rattle.mm_prepared.proofs.KeptStatements.{all_seen-at}
 use Rattle.mm_prepared.specs.declared.kept.Prepared.{Prepared}

@@ -6,10 +6,8 @@ pub mod Databases
 pub mod Executing
 pub mod Faults
 pub mod First
-pub mod Held
 pub mod LineLaws
 pub mod Many
-pub mod Noted
 pub mod Planning
 pub mod Preparing
 pub mod Querying

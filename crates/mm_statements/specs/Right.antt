@@ -8,8 +8,8 @@ use Rattle.plain_statements.specs.StatementSpelling.{SpellsStatement, holes_of}
 use Rattle.mm_prepared.specs.declared.kept.Prepared.{Prepared}
 use Rattle.mm_prepared.specs.declared.kept.Statements.{Statements}
 use Rattle.mm_prepared.specs.Kept.{named}
-use Rattle.mm_statements.specs.Noted.{noted_tables}
-use Rattle.mm_statements.specs.declared.noted.NotedTables.{NotedTables}
+use Rattle.mm_shared.specs.Noted.{noted_tables}
+use Rattle.mm_shared.specs.declared.noted.NotedTables.{NotedTables}
 
 -- The line spells a statement, each of whose holes has a value; and what is known of its meaning is what it means of these tables.
 pub record IsRight (tables : Database) (p : Prepared) : Type 0 where

@@ -3,23 +3,19 @@
 use crate::columns::push_columns;
 use crate::counting::select_of;
 use crate::cursor::Cursor;
-use crate::faults::{
-    BeginFault, CursorFault, ExecuteFault, PrepareFault, QueryFault, RequestFault, ShareFault,
-    StreamFault,
-};
+use crate::faults::{CursorFault, ExecuteFault, PrepareFault, QueryFault, ShareFault};
 use crate::many::{change_all, load_each};
-use crate::noted::NotedTables;
 use crate::planning::{PlannedSelect, plan_of_line};
 use crate::querying::command_of_line;
 use crate::reading::{count_marks, meaning, readable};
 use crate::resolving::{command_of, resolution_of, resolve, settle};
-use crate::shared::SharedSession;
 use mm_cells::Cells;
 use mm_interrupts::{Interrupter, Interrupts};
 use mm_prepared::{
     Bound, Commands, Declined, Lent, LentValue, Statements, check_each, may_declare,
 };
 use mm_session::{Answer, SelectRoom, Session};
+use mm_shared::{BeginFault, NotedTables, RequestFault, SharedSession, StreamFault};
 use mm_transactions::NoTransaction;
 use no_memory::NoMemory;
 use plain_statements::Template;
@@ -135,12 +131,12 @@ impl Database {
     ghost use Rattle.mm_statements.specs.Querying.{IsEffectOfLine, IsUnanswered};
     ghost use Rattle.mm_prepared.specs.declared.declined.Declined.TheVariants as declined;
     ghost use Rattle.mm_statements.specs.declared.faults.ExecuteFault.TheVariants as fault;
-    ghost use Rattle.mm_statements.specs.declared.faults.BeginFault.TheVariants as begin_fault;
+    ghost use Rattle.mm_shared.specs.declared.faults.BeginFault.TheVariants as begin_fault;
     ghost use Rattle.mm_statements.specs.declared.faults.CursorFault.TheVariants as cursor_fault;
     ghost use Rattle.mm_statements.specs.declared.faults.QueryFault.TheVariants as query_fault;
     ghost use Rattle.mm_statements.specs.declared.faults.ShareFault.TheVariants as share_fault;
-    ghost use Rattle.mm_statements.specs.declared.faults.RequestFault.TheVariants as request_fault;
-    ghost use Rattle.mm_statements.specs.declared.faults.StreamFault.TheVariants as stream_fault;
+    ghost use Rattle.mm_shared.specs.declared.faults.RequestFault.TheVariants as request_fault;
+    ghost use Rattle.mm_shared.specs.declared.faults.StreamFault.TheVariants as stream_fault;
     ghost use Rattle.plain_tables.specs.Effects.{Effect};
 
     /// A database with no tables, under these limits, and no statements. It shares no session.

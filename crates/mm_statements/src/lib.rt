@@ -7,8 +7,9 @@
 //!                   the resolved command that these values make of it ──▶ its effect, or a refusal
 //! ```
 //!
-//! It does not care how a line is read as a statement, how a statement is resolved, how its values are kept and filled in, nor how a
-//! resolved command is done: mm_lang, mm_catalog, mm_prepared and mm_session say that. It promises that an execution does and answers what the command with these values does.
+//! It does not care how a line is read as a statement, nor how a statement is resolved: mm_lang and mm_catalog say that. Nor does it care
+//! how values are kept and filled in, how a resolved command is done, and how a session is shared, which mm_prepared, mm_session and
+//! mm_shared say. It promises that an execution does and answers what the command with these values does.
 //!
 //! - A number names one statement from the call that gives it to the one that frees it.
 //! - A statement has as many values as holes, each null until one is bound, and it stays until another is.
@@ -29,19 +30,15 @@ mod database;
 mod faults;
 pub mod laws;
 mod many;
-mod noted;
 mod planning;
 mod querying;
 mod reading;
 mod resolving;
-mod shared;
 
 pub use cursor::Cursor;
 pub use database::{Database, Executed, Numbered, PreparedLine};
-pub use faults::{
-    BeginFault, CursorFault, ExecuteFault, PrepareFault, QueryFault, RequestFault, ShareFault,
-    StreamFault,
-};
+pub use faults::{CursorFault, ExecuteFault, PrepareFault, QueryFault, ShareFault};
 pub use mm_prepared::{Bound, Declined, LentValue, Prepared, Statements, finish};
+pub use mm_shared::{BeginFault, RequestFault, StreamFault};
 pub use mm_transactions::NoTransaction;
 pub use planning::PlannedSelect;

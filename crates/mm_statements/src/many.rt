@@ -11,9 +11,9 @@ ghost use Rattle.mm_session.specs.OneRequest.{StaysInStream};
 ghost use Rattle.mm_statements.specs.Many.{EndsBy, HasFailed, IsMeaning, outcome_in_record};
 ghost use Rattle.mm_statements.specs.declared.faults.ExecuteFault.TheVariants as fault;
 
-use crate::faults::{ChangeFault, ExecuteFault};
-use crate::shared::SharedSession;
+use crate::faults::ExecuteFault;
 use mm_prepared::{Bound, finish, in_record, rows_of_insert};
+use mm_shared::{ChangeFault, SharedSession};
 use plain_statements::{Resolution, Slot};
 use plain_tables::{Resolved, TableNumber};
 

@@ -4,8 +4,8 @@ ghost use Rattle.plain_streams.specs.Requests.{without_return};
 ghost use Rattle.mm_statements.specs.Planning.{IsPlanOfLine, IsUnplanned};
 
 use crate::querying::command_of_line;
-use crate::shared::SharedSession;
 use mm_session::ToldPlan;
+use mm_shared::SharedSession;
 use plain_tables::{Query, Refusal, Resolved};
 use std::alloc::Global;
 

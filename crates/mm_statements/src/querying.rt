@@ -6,8 +6,8 @@ ghost use Rattle.mm_statements.specs.Querying.{IsMeaningOfLine, IsUnqueried, is_
 ghost use Rattle.mm_statements.specs.Resolving.{IsOfRows};
 
 use crate::reading::readable;
-use crate::shared::SharedSession;
 use mm_lang::parse;
+use mm_shared::SharedSession;
 use plain_tables::{Command, Refusal, Resolved};
 use std::alloc::Global;
 

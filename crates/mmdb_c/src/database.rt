@@ -2,8 +2,8 @@
 
 ghost use Rattle.std.specs.Prelude.{◌≡◌, ◌≤◌, ◌↔◌, IsTrue, IsErrOf, IfOk, OnOk, OnErr};
 ghost use Rattle.plain_streams.specs.Division.{IsWhole};
-ghost use Rattle.mm_statements.specs.declared.faults.RequestFault.TheVariants as request_fault;
-ghost use Rattle.mm_statements.specs.declared.faults.StreamFault.TheVariants as stream_fault;
+ghost use Rattle.mm_shared.specs.declared.faults.RequestFault.TheVariants as request_fault;
+ghost use Rattle.mm_shared.specs.declared.faults.StreamFault.TheVariants as stream_fault;
 
 use mm_cells::Cells;
 use mm_reason::{ReasonFault, reason, refusal_of};

@@ -6,7 +6,7 @@ use mm_statements::{BeginFault, NoTransaction};
 impl OpenDatabase {
     ghost use Rattle.std.specs.Prelude.{◌≡◌, IsErrOf, length, OnErr, OnOk};
     ghost use Rattle.plain_tables.specs.Transactions.{begun, committed, rolled_back};
-    ghost use Rattle.mm_statements.specs.declared.faults.BeginFault.TheVariants as begin_fault;
+    ghost use Rattle.mm_shared.specs.declared.faults.BeginFault.TheVariants as begin_fault;
     ghost use Rattle.mmdb_c.specs.Sharing.{IsShared};
     ghost use Rattle.mmdb_c.specs.Transacting.{IsInTransaction, IsOutside, Steps};
 

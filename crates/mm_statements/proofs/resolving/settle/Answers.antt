@@ -1,6 +1,6 @@
 use Rattle.std.proofs.Common.{◌∙◌, Ok, ap, sym}
 use Rattle.mm_catalog.specs.Seen.{database_of}
-use Rattle.mm_statements.specs.Noted.{noted_tables}
+use Rattle.mm_shared.specs.Noted.{noted_tables}
 use Rattle.mm_statements.proofs.NotedMeanings.{right-now}
 use Rattle.mm_statements.proofs.Right.{forgotten-right}
 use Rattle.mm_statements.proofs.resolving.settle.Goals as goal

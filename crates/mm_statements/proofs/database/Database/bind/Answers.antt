@@ -2,7 +2,7 @@ use Rattle.std.proofs.lemmas.Result.{MatchResult-weaker, on_ok_weaker, on_err_we
 use Rattle.std.proofs.Common.{refl}
 use Rattle.mm_prepared.specs.Cells.{cell_value}
 use Rattle.mm_prepared.specs.declared.declined.Declined.TheVariants as declined
-use Rattle.mm_statements.specs.Noted.{noted_tables}
+use Rattle.mm_shared.specs.Noted.{noted_tables}
 use Rattle.mm_statements.proofs.Executing.{unchanged}
 use Rattle.mm_statements.proofs.Right.{bind-right}
 use Rattle.mm_statements.proofs.Seen.{bound-seen, named-seen, past-seen}

@@ -4,7 +4,7 @@ use Rattle.plain_tables.specs.declared.value.Value.TheVariants as value
 use Rattle.plain_streams.specs.Requests.{without_return}
 use Rattle.plain_statements.specs.StatementSpelling.{marks}
 use Rattle.mm_statements.specs.Databases.{NowNames}
-use Rattle.mm_statements.specs.Noted.{noted_tables}
+use Rattle.mm_shared.specs.Noted.{noted_tables}
 use Rattle.mm_statements.specs.Resolving.{LineMeans}
 use Rattle.mm_statements.specs.Right.{AreNoted, AreRight}
 use Rattle.mm_statements.proofs.Executing.{on-err, unchanged}

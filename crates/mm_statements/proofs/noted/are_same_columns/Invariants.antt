@@ -1,6 +1,0 @@
-use Rattle.std.proofs.Common.{◌≡◌, take}
-use Rattle.mm_statements.proofs.noted.are_same_columns.Given as goal
-
--- so many columns are the same
-abbrev pub invariant-loop-place : goal.invariant-loop-place
-invariant-loop-place l = take l.place l.a ≡ take l.place l.b
