@@ -1,23 +1,23 @@
 -- Restoring: how a dump is taken in, request by request and piece by piece.
-use Rattle.std.proofs.Common.{◌≡◌, ◌≢◌, ℕ, false, List, [], ◌∷◌, ◌++◌, refl, ap, sym, subst, ◌∙◌, append_assoc, append-nil, rules}
+use Rattle.std.proofs.Common.{◌≡◌, ℕ, false, List, [], ◌∷◌, ◌++◌, refl, sym, subst, ◌∙◌, append_assoc, append-nil}
 use Rattle.std.specs.List.{flat_map}
 use Rattle.plain_tables.specs.Databases.{Database}
 use Rattle.plain_tables.specs.Effects.{Refused}
 use Rattle.plain_tables.specs.declared.command.Limits.{Limits}
 use Rattle.plain_tables.specs.declared.refusal.Refusal.TheVariants.{NoMemory}
 use Rattle.plain_streams.specs.Requests.{Request}
-use Rattle.plain_streams.specs.Division.{Divides, request_bytes}
+use Rattle.plain_streams.specs.Division.{request_bytes}
 use Rattle.plain_streams.specs.Runs.{Answers}
 use Rattle.plain_streams.specs.Runs as runs
 use Rattle.plain_streams.proofs.Division.{Divides-nil, Divides-unfinished, Divides-whole}
 use Rattle.mm_catalog.specs.State.{CatalogState}
-use Rattle.mm_session.specs.Kept.{Keeps, nothing}
+use Rattle.mm_session.specs.Kept.{Keeps}
 use Rattle.mm_session.specs.NextRequest.{AnswersNext, KeepsMore}
 use Rattle.mm_session.specs.Refused.{TellsRefusal}
 use Rattle.mm_session.specs.Restoring.{AreDone, IsDone, IsRestored, StandsBehind, TakesIn}
 use Rattle.mm_session.specs.Restoring as restoring
 use Rattle.mm_session.specs.Sessions.{State, new_session}
-use Rattle.mm_session.proofs.Kept.{keeps-nothing, keeps-unfinished, nothing-kept}
+use Rattle.mm_session.proofs.Kept.{keeps-nothing, keeps-unfinished}
 
 -- a request whose answer tells no refusal was done
 pub done_unrefused : (limits : Limits) (tables : Database) (request : Request) (answer : List ℕ) (after : Database) → Answers limits tables request answer after

@@ -1,6 +1,6 @@
 -- Restoring: a dump that is taken in, of which no request is refused.
-use Rattle.std.specs.Prelude.{◌≡◌, ℕ, List, [], ◌∷◌, ◌++◌, IsTrue, false}
-use Rattle.std.specs.List.{flat_map}
+use Rattle.std.specs.Prelude.{◌≡◌, ◌≢◌, ◌||◌, ℕ, Bool, List, [], ◌∷◌, ◌++◌, IsTrue, drop, false, nat_eq}
+use Rattle.std.specs.List.{flat_map, starts_with}
 use Rattle.plain_tables.specs.Databases.{Database}
 use Rattle.plain_tables.specs.Effects.{Effect}
 use Rattle.plain_tables.specs.declared.command.Limits.{Limits}
@@ -8,7 +8,8 @@ use Rattle.plain_streams.specs.Requests.{IsReadable, Request, is_silent}
 use Rattle.plain_streams.specs.Division.{Divides, request_bytes}
 use Rattle.plain_streams.specs.Runs.{IsEffect, line_of}
 use Rattle.mm_session.specs.Kept.{Keeps}
-use Rattle.mm_session.specs.Refused.{refusal_number}
+use Rattle.mm_session.specs.Refused.{TellsRefusal, refusal_number}
+use Rattle.mm_session.specs.Saving.{first_line}
 use Rattle.mm_session.specs.Sessions.{State}
 
 -- The request is silent, or it is done and not refused. It leads to that database.
@@ -41,3 +42,13 @@ abbrev pub IsRestored : State → Database → Type 0
 IsRestored session after =
     (stream : List ℕ) → StandsBehind session [] stream
     → (requests : List Request) × (stream ≡ flat_map request_bytes requests) × AreDone session.limits [] requests after
+
+-- Whether a piece behind so many bytes goes on with the first line of a dump, as far as both reach.
+abbrev pub goes_on_first : ℕ → List ℕ → Bool
+goes_on_first begun piece = starts_with nat_eq (drop begun first_line) piece || starts_with nat_eq piece (drop begun first_line)
+
+-- The answer tells a refusal.
+pub record TellsSome (answer : List ℕ) : Type 0 where
+  pub number : ℕ
+  pub tells : TellsRefusal answer number
+  pub refused : number ≢ 0

@@ -1,7 +1,8 @@
 //! A session that is made of a dump, which comes in pieces.
 
-ghost use Rattle.std.specs.Prelude.{◌≡◌, ◌≤◌, [], IfOk, OnErr, OnOk, false, true};
-ghost use Rattle.mm_session.specs.Restoring.{IsRestored, StandsBehind, TakesIn};
+ghost use Rattle.std.specs.Prelude.{◌≡◌, ◌≤◌, ◌⊎◌, [], Err, IfErr, IfOk, IsTrue, OnErr, OnOk, false, true};
+ghost use Rattle.mm_session.specs.Restoring.{IsRestored, StandsBehind, TakesIn, TellsSome, goes_on_first};
+ghost use Rattle.mm_session.specs.declared.restore.RestoreFault.TheVariants as fault;
 
 use crate::answer::Answer;
 use crate::execute::saving::{FIRST, push_last};
@@ -53,7 +54,7 @@ pub struct Restore {
     session: Session,
     // The answer to the last request.
     answer: Answer,
-    // How many bytes of the first line have come.
+    // How many bytes have come.
     begun: usize,
     // The last bytes that have come.
     last: Vec<u8>,
@@ -86,12 +87,12 @@ impl Restore {
 
     // Whether the dump goes on with this piece as its first line says.
     fn begins(&mut self, piece: &[u8]) -> bool
-        ensures { self.new.session ≡ self.old.session }
+        ensures session { self.new.session ≡ self.old.session }
+        ensures first { result ≡ goes_on_first self.old.begun piece.now }
     {
         let wanted = FIRST.get(self.begun..).unwrap_or(&[]);
-        let count = wanted.len().min(piece.len());
-        self.begun = self.begun.saturating_add(count);
-        piece.get(..count) == wanted.get(..count)
+        self.begun = self.begun.saturating_add(piece.len());
+        wanted.starts_with(piece) || piece.starts_with(wanted)
     }
 
     // Keeps the last bytes.
@@ -110,7 +111,8 @@ impl Restore {
     // Does the requests that end in these bytes.
     fn do_requests(&mut self, bytes: &[u8]) -> Result<(), RestoreFault>
         requires { self.old.session.ended ≡ false }
-        ensures { OnOk result (TakesIn self.old.session self.new.session bytes.now) }
+        ensures taken { OnOk result (TakesIn self.old.session self.new.session bytes.now) }
+        ensures refused { IfErr result (λ e. (e ≡ fault.Refused) × TellsSome self.new.answer) }
     {
         let mut rest = bytes;
         while let Some(others) = self.session.answer_next(rest, &mut self.answer) {
@@ -124,7 +126,12 @@ impl Restore {
 
     // Takes in a piece, where none failed before.
     fn take_in(&mut self, piece: &[u8]) -> Result<(), RestoreFault>
-        ensures { OnOk result (TakesIn self.old.session self.new.session piece.now) }
+        ensures taken { OnOk result (TakesIn self.old.session self.new.session piece.now) }
+        ensures good { OnOk result (self.old.failed ≡ false) }
+        ensures first { OnOk result (IsTrue (goes_on_first self.old.begun piece.now)) }
+        ensures spent { result ≡ Err fault.Failed → IsTrue self.old.failed ⊎ IsTrue self.old.session.ended }
+        ensures other { result ≡ Err fault.NotADump → goes_on_first self.old.begun piece.now ≡ false }
+        ensures refused { result ≡ Err fault.Refused → TellsSome self.new.answer }
     {
         if self.failed || self.session.has_ended() {
             return Err(RestoreFault::Failed);
@@ -140,6 +147,14 @@ impl Restore {
     pub fn take(&mut self, piece: &[u8]) -> Result<(), RestoreFault>
         ensures taken { OnOk result (TakesIn self.old.session self.new.session piece.now) }
         ensures failed { OnErr result (self.new.failed ≡ true) }
+        // None is taken in once one wasn't.
+        ensures good { OnOk result (self.old.failed ≡ false) }
+        ensures spent { result ≡ Err fault.Failed → IsTrue self.old.failed ⊎ IsTrue self.old.session.ended }
+        // The first bytes are those of a dump, or it is none.
+        ensures first { OnOk result (IsTrue (goes_on_first self.old.begun piece.now)) }
+        ensures other { result ≡ Err fault.NotADump → goes_on_first self.old.begun piece.now ≡ false }
+        // The request that is refused is the last, and the answer tells by what.
+        ensures refused { result ≡ Err fault.Refused → TellsSome self.new.answer }
     {
         let taken = self.take_in(piece);
         self.failed = taken.is_err();

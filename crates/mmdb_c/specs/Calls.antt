@@ -32,6 +32,10 @@ Becomes (Some old) (Some new) says = says old new
 Becomes (Some old) None says = ⊥
 Becomes None new says = ⊥
 
+-- The answer is empty.
+abbrev pub IsSilent : OpenDatabase → Type 0
+IsSilent d = d.answer ≡ []
+
 -- What each statement and the line last queried have shown, and the columns last asked for, lie where they lay, and are what they were.
 pub record KeepsRows (old new : OpenDatabase) : Type 0 where
   pub shown : new.shown ≡ old.shown

@@ -18,6 +18,7 @@ use Rattle.mmdb_c.specs.declared.rows.Rows.{Rows}
 -- Nothing has changed, but that the session may be shared now, and the answer.
 pub record MayShare (old new : OpenDatabase) : Type 0 where
   pub inner : cursors.MayShare old.inner new.inner
+  pub reason : new.reason ≡ old.reason
   pub rows : KeepsRows old new
 
 -- The rows that the statement shows are all still to be read. They hold the tables, and the answer is empty.

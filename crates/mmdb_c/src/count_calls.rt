@@ -1,7 +1,7 @@
 //! The call that counts the rows of a select.
 
 ghost use Rattle.std.specs.Prelude.{◌≡◌, ◌≢◌, ◌↔◌, ◌⊎◌, IsNone, IsSome, IsSomeAnd};
-ghost use Rattle.mmdb_c.specs.Calls.{Becomes};
+ghost use Rattle.mmdb_c.specs.Calls.{Becomes, IsSilent};
 ghost use Rattle.mmdb_c.specs.Counting.{CountsRows, IsUncounted, OnlyCounts, ShowsTooMany};
 ghost use Rattle.mmdb_c.specs.Interrupts.{IsSelect};
 ghost use Rattle.mmdb_c.specs.StatementCalls.{IsMissing};
@@ -25,6 +25,8 @@ pub extern "C" fn mmdb_count(
     ensures refused { result ≡ REFUSED → Becomes handle.old.database handle.new.database (IsUncounted statement) }
     ensures too_large { result ≡ TOO_LARGE → IsSomeAnd handle.old.database (ShowsTooMany statement) }
     ensures interrupted { result ≡ INTERRUPTED → IsSomeAnd handle.old.database (IsSelect statement) }
+    ensures too_large_silent { result ≡ TOO_LARGE → IsSomeAnd handle.new.database IsSilent }
+    ensures interrupted_silent { result ≡ INTERRUPTED → IsSomeAnd handle.new.database IsSilent }
     ensures kept { IsSome handle.old.database → Becomes handle.old.database handle.new.database OnlyCounts }
     ensures others { IsSome handle.old.database → (result ≡ DONE) ⊎ ((result ≡ NO_SUCH_STATEMENT) ⊎ ((result ≡ REFUSED) ⊎ ((result ≡ TOO_LARGE) ⊎ (result ≡ INTERRUPTED)))) }
     ensures unchanged { (result ≡ NOT_OPEN) ⊎ (result ≡ NO_SUCH_STATEMENT) → handle.new.database ≡ handle.old.database }

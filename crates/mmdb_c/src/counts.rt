@@ -8,6 +8,7 @@ use crate::statements::Unexecuted;
 use mm_statements::ExecuteFault;
 
 impl OpenDatabase {
+    ghost use Rattle.mmdb_c.specs.Calls.{IsSilent};
     ghost use Rattle.mmdb_c.specs.Counting.{CountsRows, IsUncounted, OnlyCounts, ShowsTooMany};
     ghost use Rattle.mmdb_c.specs.Interrupts.{IsSelect};
     ghost use Rattle.mmdb_c.specs.StatementCalls.{IsMissing};
@@ -21,6 +22,8 @@ impl OpenDatabase {
         ensures refused { IsErrOf result unexecuted.Refused → IsUncounted number self.old self.new }
         ensures too_many { IsErrOf result unexecuted.TooLong → ShowsTooMany number self.old }
         ensures interrupted { IsErrOf result unexecuted.Interrupted → IsSelect number self.old }
+        ensures too_long_silent { IsErrOf result unexecuted.TooLong → IsSilent self.new }
+        ensures interrupted_silent { IsErrOf result unexecuted.Interrupted → IsSilent self.new }
         ensures kept { OnlyCounts self.old self.new }
         ensures reads { ¬ (IsErrOf result unexecuted.Shared) }
     {

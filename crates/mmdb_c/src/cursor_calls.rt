@@ -3,7 +3,7 @@
 ghost use Rattle.std.specs.Prelude.{◌≡◌, ◌≢◌, ◌↔◌, ◌⊎◌, IsNone, IsSome, IsSomeAnd, None};
 ghost use Rattle.mm_cells.specs.Reading.{AreFull};
 ghost use Rattle.mm_cells.specs.Values.{values_of};
-ghost use Rattle.mmdb_c.specs.Calls.{Becomes};
+ghost use Rattle.mmdb_c.specs.Calls.{Becomes, IsSilent};
 ghost use Rattle.mmdb_c.specs.Cursors.{IsUnopened, MayShare, OpensCursor, ReadsRows};
 ghost use Rattle.mmdb_c.specs.Interrupts.{IsSelect};
 ghost use Rattle.mmdb_c.specs.StatementCalls.{IsMissing};
@@ -37,6 +37,8 @@ pub extern "C" fn mmdb_cursor_open(
     ensures waits { IsNone cursor.old.cursor × IsSomeAnd handle.old.database (λ d. (¬ (IsMissing statement d)) × IsInTransaction d) → result ≡ IN_TRANSACTION }
     ensures refused { result ≡ REFUSED → Becomes handle.old.database handle.new.database (IsUnopened statement) }
     ensures interrupted { result ≡ INTERRUPTED → IsSomeAnd handle.old.database (IsSelect statement) }
+    ensures in_transaction_silent { result ≡ IN_TRANSACTION → IsSomeAnd handle.new.database IsSilent }
+    ensures interrupted_silent { result ≡ INTERRUPTED → IsSomeAnd handle.new.database IsSilent }
     ensures stays { IsSome handle.old.database → Becomes handle.old.database handle.new.database MayShare }
     ensures others { (result ≡ DONE) ⊎ ((result ≡ NOT_OPEN) ⊎ ((result ≡ IS_OPEN) ⊎ ((result ≡ NO_SUCH_STATEMENT) ⊎ ((result ≡ IN_TRANSACTION) ⊎ ((result ≡ REFUSED) ⊎ (result ≡ INTERRUPTED)))))) }
     ensures unchanged { (result ≡ NOT_OPEN) ⊎ ((result ≡ IS_OPEN) ⊎ (result ≡ NO_SUCH_STATEMENT)) → handle.new.database ≡ handle.old.database }

@@ -1,6 +1,6 @@
 //! The rows of a select that are read page by page.
 
-ghost use Rattle.std.specs.Prelude.{◌≡◌, ◌≢◌, ◌↔◌, ◌<◌, Err, IfErr, IfOk, IsErrOf, OnErr, OnOk, [], length, true};
+ghost use Rattle.std.specs.Prelude.{◌≡◌, ◌≢◌, ◌↔◌, ◌<◌, Err, IfErr, IfOk, IsErrOf, OnErr, OnOk, [], true};
 ghost use Rattle.plain_tables.specs.AnswerText.{refusal_text};
 ghost use Rattle.plain_tables.specs.declared.refusal.Refusal.{Refusal as PlainRefusal};
 ghost use Rattle.mm_cells.specs.Reading.{AreFull};
@@ -8,6 +8,7 @@ ghost use Rattle.mm_cells.specs.Values.{values_of};
 ghost use Rattle.mm_statements.specs.Cursors.{IsCursorOf, IsUnopened as IsUnopenedBy, MayShare as MayShareIn};
 ghost use Rattle.mm_statements.specs.declared.faults.CursorFault.TheVariants as cursor_fault;
 ghost use Rattle.mm_statements.specs.declared.faults.ExecuteFault.TheVariants as fault;
+ghost use Rattle.mmdb_c.specs.Calls.{IsSilent};
 ghost use Rattle.mmdb_c.specs.Cursors.{IsUnopened, MayShare, OpensCursor, ReadsRows};
 ghost use Rattle.mmdb_c.specs.Interrupts.{IsSelect};
 ghost use Rattle.mmdb_c.specs.StatementCalls.{IsMissing};
@@ -81,6 +82,7 @@ impl OpenDatabase {
         ensures refused { result ≡ unopened.Refused → (refusal : PlainRefusal) × (why ≡ fault.Refused refusal) × (self.new.answer ≡ refusal_text refusal) }
         ensures interrupted { (result ≡ unopened.Interrupted) ↔ (why ≡ fault.Interrupted) }
         ensures waits { result ≢ unopened.InTransaction }
+        ensures silent { result ≡ unopened.Interrupted → self.new ≡ self.old }
         ensures others { self.new ≡ record self.old { answer = self.new.answer } }
     {
         match why {
@@ -105,6 +107,8 @@ impl OpenDatabase {
         ensures waits { ¬ (IsMissing number self.old) → IsInTransaction self.old → result ≡ Err unopened.InTransaction }
         ensures refused { IsErrOf result unopened.Refused → IsUnopened number self.old self.new }
         ensures interrupted { IsErrOf result unopened.Interrupted → IsSelect number self.old }
+        ensures open_silent { IsErrOf result unopened.InTransaction → IsSilent self.new }
+        ensures interrupted_silent { IsErrOf result unopened.Interrupted → IsSilent self.new }
         ensures stays { MayShare self.old self.new }
     {
         let number = number as usize;

@@ -2,7 +2,7 @@
 
 ghost use Rattle.std.specs.Prelude.{◌≡◌, ◌≢◌, ◌↔◌, ◌⊎◌, IsNone, IsSome, IsSomeAnd};
 ghost use Rattle.mm_cells.specs.Reading.{AreFull};
-ghost use Rattle.mmdb_c.specs.Calls.{Becomes};
+ghost use Rattle.mmdb_c.specs.Calls.{Becomes, IsSilent};
 ghost use Rattle.mmdb_c.specs.First.{IsUnshown, ShowsFirst};
 ghost use Rattle.mmdb_c.specs.Interrupts.{IsSelect};
 ghost use Rattle.mmdb_c.specs.StatementCalls.{IsMissing, KeepsAll, KeepsOthers, shown_by};
@@ -28,6 +28,8 @@ pub extern "C" fn mmdb_first(
     ensures refused { result ≡ REFUSED → Becomes handle.old.database handle.new.database (IsUnshown statement) }
     ensures too_large { result ≡ TOO_LARGE → IsSomeAnd handle.new.database (λ d. AreFull (shown_by d statement)) }
     ensures interrupted { result ≡ INTERRUPTED → IsSomeAnd handle.old.database (IsSelect statement) }
+    ensures too_large_silent { result ≡ TOO_LARGE → IsSomeAnd handle.new.database IsSilent }
+    ensures interrupted_silent { result ≡ INTERRUPTED → IsSomeAnd handle.new.database IsSilent }
     ensures kept { IsSome handle.old.database → Becomes handle.old.database handle.new.database KeepsAll }
     ensures rows { IsSome handle.old.database → Becomes handle.old.database handle.new.database (KeepsOthers statement) }
     ensures others { IsSome handle.old.database → (result ≡ DONE) ⊎ ((result ≡ NO_SUCH_STATEMENT) ⊎ ((result ≡ REFUSED) ⊎ ((result ≡ TOO_LARGE) ⊎ (result ≡ INTERRUPTED)))) }

@@ -12,6 +12,7 @@ use plain_tables::Refusal;
 impl OpenDatabase {
     ghost use Rattle.mm_cells.specs.Reading.{AreFull};
     ghost use Rattle.mm_statements.specs.First.{IsUnshown as IsUnshownBy};
+    ghost use Rattle.mmdb_c.specs.Calls.{IsSilent};
     ghost use Rattle.mmdb_c.specs.First.{HasFirst, IsUnshown, ShowsFirst};
     ghost use Rattle.mmdb_c.specs.Interrupts.{IsSelect};
     ghost use Rattle.mmdb_c.specs.StatementCalls.{IsMissing, KeepsAll, KeepsOthers, shown_by};
@@ -49,6 +50,8 @@ impl OpenDatabase {
         ensures others { KeepsOthers number self.old self.new }
         ensures reads { ¬ (IsErrOf result unexecuted.Shared) }
         ensures interrupted { IsErrOf result unexecuted.Interrupted → IsSelect number self.old }
+        ensures too_long_silent { IsErrOf result unexecuted.TooLong → IsSilent self.new }
+        ensures interrupted_silent { IsErrOf result unexecuted.Interrupted → IsSilent self.new }
         ensures untold { OnErr result (rows.new ≡ rows.old) }
     {
         let number = number as usize;

@@ -1,6 +1,6 @@
 //! A statement with many rows of values.
 
-ghost use Rattle.std.specs.Prelude.{◌≡◌, Err, IfOk, IsErrOf, OnErr, IsTrue};
+ghost use Rattle.std.specs.Prelude.{◌≡◌, Err, IfOk, OnErr};
 ghost use Rattle.std.specs.List.{All};
 ghost use Rattle.mmdb_c.specs.declared.many.UnexecutedMany.TheVariants as unexecuted;
 
@@ -26,7 +26,6 @@ pub enum UnexecutedMany {
 }
 
 impl OpenDatabase {
-    ghost use Rattle.std.specs.Str.{IsUtf8};
     ghost use Rattle.mmdb_c.specs.Given.{IsWritten};
     ghost use Rattle.mmdb_c.specs.Many.{AreNoRowsFor, ExecutesMany, IsRefusedMany, KeepsAllTables, StaysBeside};
     ghost use Rattle.mmdb_c.specs.Sharing.{IsShared};

@@ -1,6 +1,7 @@
 //! The calls that open a database of a dump.
 
-ghost use Rattle.std.specs.Prelude.{◌≡◌, ◌≢◌, ◌↔◌, ◌⊎◌, ◌<◌, ◌≤◌, IfErr, IfOk, IsNone, IsSome, IsSomeAnd, None, length};
+ghost use Rattle.std.specs.Prelude.{◌≡◌, ◌≢◌, ◌↔◌, ◌⊎◌, ◌<◌, ◌≤◌, IfErr, IfOk, IsNone, IsSome, IsSomeAnd, IsTrue, None, false, length};
+ghost use Rattle.mm_session.specs.Restoring.{TellsSome, goes_on_first};
 ghost use Rattle.mmdb_c.specs.Calls.{AreLimits};
 ghost use Rattle.mmdb_c.specs.Restoring.{HasTakenIn, IsAtStart, IsRestoredOf};
 
@@ -61,6 +62,9 @@ pub extern "C" fn mmdb_restore_take(
 ) -> u32
     ensures not_open { (result ≡ NOT_OPEN) ↔ IsNone restore.old.restore }
     ensures done { result ≡ DONE → HasTakenIn piece.now restore.old.restore restore.new.restore }
+    ensures good { result ≡ DONE → IsSomeAnd restore.old.restore (λ r. r.inner.failed ≡ false) }
+    ensures first { result ≡ DONE → IsSomeAnd restore.old.restore (λ r. IsTrue (goes_on_first r.inner.begun piece.now)) }
+    ensures refused { result ≡ REFUSED → IsSomeAnd restore.new.restore (λ r. TellsSome r.inner.answer) }
     ensures told { result ≡ REFUSED → IsSomeAnd restore.new.restore (λ r. answer.new.length ≡ length r.inner.answer) }
     ensures untold { result ≢ REFUSED → answer.new ≡ answer.old }
     ensures others { (result ≡ DONE) ⊎ ((result ≡ NOT_OPEN) ⊎ ((result ≡ NO_MEMORY) ⊎ ((result ≡ REFUSED) ⊎ (result ≡ NOT_A_DUMP)))) }

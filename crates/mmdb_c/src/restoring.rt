@@ -1,6 +1,6 @@
 //! A dump that is taken in.
 
-ghost use Rattle.std.specs.Prelude.{◌≡◌, ◌≤◌, IfOk};
+ghost use Rattle.std.specs.Prelude.{◌≤◌, IfOk};
 ghost use Rattle.mmdb_c.specs.Restoring.{IsAtStart};
 
 use mm_session::Restore;

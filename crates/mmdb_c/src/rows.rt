@@ -1,6 +1,5 @@
 //! What C is told of rows: where their cells lie, and how many they are.
 
-ghost use Rattle.std.specs.Prelude.{◌≡◌, ◌<◌};
 ghost use Rattle.mmdb_c.specs.StatementCalls.{HasColumns, Tells};
 
 use mm_cells::{Cells, ResultCell};

@@ -7,7 +7,7 @@ ghost use Rattle.mm_cells.specs.Reading.{AreFull};
 ghost use Rattle.mm_cells.specs.Values.{values_of};
 ghost use Rattle.mm_prepared.specs.Cells.{IsSmall, cell_value};
 ghost use Rattle.mm_statements.specs.declared.database.Executed.TheVariants as gives;
-ghost use Rattle.mmdb_c.specs.Calls.{Becomes};
+ghost use Rattle.mmdb_c.specs.Calls.{Becomes, IsSilent};
 ghost use Rattle.mmdb_c.specs.StatementCalls.{Prepares, IsUnprepared, KeepsAll, KeepsEach, KeepsOthers, KeepsShown, KeepsStatements, IsMissing, IsPast, Binds, Finalizes, Executes, IsUnexecuted, IsUntold, KeepsColumns, Tells, Queries, IsUnqueried, shown_by};
 ghost use Rattle.mmdb_c.specs.Interrupts.{IsLineSelect, IsSelect};
 ghost use Rattle.mmdb_c.specs.Sharing.{IsKeptOff, IsLineKeptOff};
@@ -174,6 +174,8 @@ pub extern "C" fn mmdb_execute(
     ensures refused { result ≡ REFUSED → Becomes handle.old.database handle.new.database (IsUnexecuted statement) }
     ensures shared { result ≡ SHARED → Becomes handle.old.database handle.new.database (IsKeptOff statement) }
     ensures interrupted { result ≡ INTERRUPTED → IsSomeAnd handle.old.database (IsSelect statement) }
+    ensures too_large_silent { result ≡ TOO_LARGE → IsSomeAnd handle.new.database IsSilent }
+    ensures interrupted_silent { result ≡ INTERRUPTED → IsSomeAnd handle.new.database IsSilent }
     ensures kept { result ≢ DONE → IsSome handle.old.database → Becomes handle.old.database handle.new.database KeepsAll }
     ensures rows { IsSome handle.old.database → Becomes handle.old.database handle.new.database (KeepsOthers statement) }
     ensures too_large { result ≡ TOO_LARGE → IsSomeAnd handle.new.database (λ d. AreFull (shown_by d statement)) }
@@ -269,6 +271,8 @@ pub extern "C" fn mmdb_query(
     ensures too_large { result ≡ TOO_LARGE → IsSomeAnd handle.new.database (λ d. AreFull (values_of d.queried)) }
     ensures shared { result ≡ SHARED → Becomes handle.old.database handle.new.database (IsLineKeptOff line.now) }
     ensures interrupted { result ≡ INTERRUPTED → IsSomeAnd handle.old.database (IsLineSelect line.now) }
+    ensures too_large_silent { result ≡ TOO_LARGE → IsSomeAnd handle.new.database IsSilent }
+    ensures interrupted_silent { result ≡ INTERRUPTED → IsSomeAnd handle.new.database IsSilent }
     ensures kept { (result ≡ REFUSED) ⊎ ((result ≡ TOO_LARGE) ⊎ ((result ≡ SHARED) ⊎ (result ≡ INTERRUPTED))) → Becomes handle.old.database handle.new.database KeepsAll }
     ensures rows { (result ≡ DONE) ⊎ ((result ≡ REFUSED) ⊎ ((result ≡ TOO_LARGE) ⊎ ((result ≡ SHARED) ⊎ (result ≡ INTERRUPTED)))) → Becomes handle.old.database handle.new.database KeepsStatements }
     ensures unchanged { (result ≡ NOT_OPEN) ⊎ (result ≡ NO_LINE) → handle.new.database ≡ handle.old.database }

@@ -1,6 +1,6 @@
 //! The calls on statements: what they are handed by C, and what they tell.
 
-ghost use Rattle.std.specs.Prelude.{◌≡◌, ◌≢◌, ◌+◌, ◌<◌, ◌≤◌, ◌⊎◌, ℕ, Err, None, Some, IfErr, IfOk, IsErrOf, OnErr, OnOk, length, slice_get};
+ghost use Rattle.std.specs.Prelude.{◌≡◌, ◌≢◌, ◌<◌, ℕ, Err, Some, IfErr, IfOk, IsErrOf, OnErr, OnOk, length, slice_get};
 ghost use Rattle.mm_cells.specs.declared.cells.Cells.{Cells as PlainCells};
 ghost use Rattle.mm_prepared.specs.Cells.{IsSmall, cell_value};
 ghost use Rattle.mm_prepared.specs.declared.declined.Declined.TheVariants as declined;
@@ -63,6 +63,7 @@ impl OpenDatabase {
     ghost use Rattle.mm_cells.specs.Reading.{AreFull};
     ghost use Rattle.mm_cells.specs.Values.{values_of};
     ghost use Rattle.mm_statements.specs.Executing.{IsDeclined};
+    ghost use Rattle.mmdb_c.specs.Calls.{IsSilent};
     ghost use Rattle.mmdb_c.specs.Interrupts.{IsLineSelect, IsSelect};
     ghost use Rattle.mmdb_c.specs.Sharing.{IsKeptOff, IsLineKeptOff, IsShared};
 
@@ -148,6 +149,8 @@ impl OpenDatabase {
         ensures too_long { result ≡ Err unexecuted.TooLong → AreFull (shown_by self.new number) }
         ensures shared { IsErrOf result unexecuted.Shared → IsKeptOff number self.old self.new }
         ensures interrupted { IsErrOf result unexecuted.Interrupted → IsSelect number self.old }
+        ensures too_long_silent { IsErrOf result unexecuted.TooLong → IsSilent self.new }
+        ensures interrupted_silent { IsErrOf result unexecuted.Interrupted → IsSilent self.new }
         ensures unchanged { OnErr result (KeepsAll self.old self.new) }
         ensures others { KeepsOthers number self.old self.new }
         ensures untold { OnErr result (rows.new ≡ rows.old) }
@@ -213,6 +216,8 @@ impl OpenDatabase {
         ensures too_long { result ≡ Err querying.TooLong → AreFull (values_of self.new.queried) }
         ensures shared { IsErrOf result querying.Shared → IsLineKeptOff line.now self.old self.new }
         ensures interrupted { IsErrOf result querying.Interrupted → IsLineSelect line.now self.old }
+        ensures too_long_silent { IsErrOf result querying.TooLong → IsSilent self.new }
+        ensures interrupted_silent { IsErrOf result querying.Interrupted → IsSilent self.new }
         ensures unchanged { OnErr result (KeepsAll self.old self.new) }
         ensures statements { KeepsStatements self.old self.new }
         ensures untold { OnErr result (rows.new ≡ rows.old) }

@@ -1,6 +1,6 @@
 //! A select whose rows are found once, and shown page by page.
 
-ghost use Rattle.std.specs.Prelude.{◌≡◌, ◌≢◌, ◌∷◌, IfErr, IfOk, IsErrOf, drop, length, map, take};
+ghost use Rattle.std.specs.Prelude.{◌≡◌, ◌≢◌, ◌∷◌, IfErr, IfOk, IsErrOf, drop, length, take};
 ghost use Rattle.std.specs.List.{flat_map};
 ghost use Rattle.plain_tables.specs.Doing.{done};
 ghost use Rattle.plain_tables.specs.Joining.{members_of};
@@ -11,7 +11,6 @@ ghost use Rattle.mm_cells.specs.Reading.{AreFull};
 ghost use Rattle.mm_cells.specs.Values.{values_of};
 ghost use Rattle.mm_session.specs.Found.{HasFound, values_found};
 ghost use Rattle.mm_session.specs.Members.{HasMembers, joined_numbers};
-ghost use Rattle.mm_session.specs.Planned.{FitsFirst};
 ghost use Rattle.mm_session.specs.Rooms.{IsBounded};
 ghost use Rattle.mm_session.specs.Shown.{CanShow};
 ghost use Rattle.mm_session.specs.declared.fault.SelectFault.TheVariants as fault;

@@ -1,6 +1,6 @@
 //! The numbers of the newest changes, by which whoever keeps something beside the tables sees that it is old.
 
-ghost use Rattle.std.specs.Prelude.{◌≡◌, ◌≢◌, [], IfErr, IsSome, OnOk, position};
+ghost use Rattle.std.specs.Prelude.{◌≢◌, [], IfErr, IsSome, OnOk, position};
 ghost use Rattle.plain_tables.specs.Databases.{is_named};
 ghost use Rattle.mm_catalog.specs.Seen.{database_of};
 ghost use Rattle.mm_session.specs.IndexAnswers.{TellsNothing};

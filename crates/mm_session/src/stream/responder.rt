@@ -27,7 +27,7 @@ pub struct Responder {
 }
 
 impl Responder {
-    ghost use Rattle.std.specs.Prelude.{◌≡◌, ◌≢◌, ◌<◌, ◌≤◌, ◌+◌, ◌++◌, ◌∷◌, [], ℕ, List, Some, None, IfOk, IsErrOf, OnOk, OnErr, IfSome, true, false, length, is_some, if◌then◌else◌, codes};
+    ghost use Rattle.std.specs.Prelude.{◌≡◌, ◌<◌, ◌+◌, [], ℕ, List, Some, None, IfOk, IsErrOf, OnOk, OnErr, IfSome, length, if◌then◌else◌, codes};
     ghost use Rattle.std.specs.Option.{option_copied};
     ghost use Rattle.plain_streams.specs.Requests.{Asks};
     ghost use Rattle.plain_streams.specs.Division.{IsUnbroken, IsWhole};

@@ -1,7 +1,7 @@
 //! A whole stream, from a reader to a writer.
 
-ghost use Rattle.std.specs.Prelude.{◌≡◌, ◌<◌, ◌++◌, List, ℕ, [], true, false, length, OnOk, OnErr, IfErr, IsErrOf, OnSome, IfOk};
-ghost use Rattle.std.specs.Io.KnownBytes.{Keeps, Consumes, IsAtEnd};
+ghost use Rattle.std.specs.Prelude.{◌≡◌, ◌<◌, [], true, false, OnOk, OnErr, IfErr, IsErrOf};
+ghost use Rattle.std.specs.Io.KnownBytes.{Keeps, IsAtEnd};
 ghost use Rattle.mm_session.specs.Sessions.{Gains, Feeds, Finishes, BreaksOff};
 ghost use Rattle.mm_session.specs.Turns.{IsPrompt};
 ghost use Rattle.mm_session.specs.WholeRuns.{Reads, IsAnsweredAll, IsAnsweredSoFar, IsFrontOfAnswers};

@@ -24,8 +24,18 @@ loop-others-preserved c =
       split c.args.bytes.now done c.loop-others.rest.now front c.in-Some.others.now is parts,
     )
 
-pub returns : goal.returns
-returns c =
+pub returns-then-refusal-ne0-clause-refused : goal.returns-then-refusal-ne0-clause-refused
+returns-then-refusal-ne0-clause-refused c = (
+  refl,
+  record {
+    number = c.refusal.result;
+    tells = c.refusal.ensures;
+    refused = c.if-refusal-ne0.true;
+  },
+)
+
+pub returns-clause-taken : goal.returns-clause-taken
+returns-clause-taken c =
     let (done, taken, is) = c.loop-others.invariant in
     rw is (TakesIn-append c.args.self.now.session c.loop-others.self.session c.answer_next.new.self done c.loop-others.rest.now taken
     (takes_rest c.loop-others.self.session c.answer_next.new.self c.loop-others.rest.now c.in_default.ensures.none))
