@@ -82,7 +82,6 @@ impl Catalog {
     ghost use Rattle.plain_tables.specs.Tables.{Row};
     ghost use Rattle.mm_catalog.specs.Changes.{IsDone, HasEffect, IsRefusedFor, IsDeclinedFor, KeepsDatabase};
     ghost use Rattle.mm_catalog.specs.Declarations.{HasIndexMore, HasTableMore, without_declared};
-    ghost use Rattle.mm_catalog.specs.LoadOrder.{row_at};
     ghost use Rattle.mm_catalog.specs.Loaded.{HasCome, HaveGone, AreFreeRows};
     ghost use Rattle.mm_catalog.specs.Outline.{HasRowsMore, HaveCome, outline_of, without_rows};
     ghost use Rattle.mm_catalog.specs.Picked.{ArePicked, HoldsRows};

@@ -2,15 +2,14 @@
 //!
 //! The cells that an update replaces are kept by the caller, row by row. As many rows are owed, so setting the cells back takes no
 //! memory.
-ghost use Rattle.std.specs.Prelude.{◌≡◌, ◌*◌, ◌<◌, ◌∷◌, [], ℕ, Some, IsSome, All, length, slice_get, take};
+ghost use Rattle.std.specs.Prelude.{◌≡◌, ◌*◌, ◌<◌, [], Some, IsSome, All, length, slice_get, take};
 ghost use Rattle.std.specs.FinMap as finite;
-ghost use Rattle.mm_relation.specs.Reading.{cell_value};
 ghost use Rattle.mm_relation.specs.Rows.{Row};
 ghost use Rattle.mm_relation.specs.State.{RelationState, IsKept, IsCurrent, linked_keys};
 ghost use Rattle.mm_relation.specs.Changes.{IsChangedBack};
-ghost use Rattle.mm_catalog.specs.Assigned.{row_links_at, set_links};
+ghost use Rattle.mm_catalog.specs.Assigned.{row_links_at};
 ghost use Rattle.mm_catalog.specs.ChangedBack.{AreChangedBack, AreChangedBackAt, AreRelinked, CanAllBeChangedBack, CanBeChangedBack};
-ghost use Rattle.mm_catalog.specs.Counted.{AreCountedBy, HaveAtLeast, HaveRoom, IsHeldIn, naming, none};
+ghost use Rattle.mm_catalog.specs.Counted.{AreCountedBy, HaveAtLeast, IsHeldIn, naming, none};
 
 use crate::before::Before;
 use crate::catalog::Catalog;

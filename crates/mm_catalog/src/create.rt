@@ -13,7 +13,7 @@ use mm_relation::Relation;
 use mm_relation::laws::a_relation_is_kept;
 use mm_resolver::referred;
 use no_memory::NoMemory;
-use plain_tables::{Column, ColumnNumber, Schema, TableNumber, Text};
+use plain_tables::{Column, ColumnNumber, Schema, TableNumber};
 use std::alloc::Global;
 
 // Whether one of these columns refers to the table of that name.

@@ -1,10 +1,10 @@
 //! A row that comes into one relation among others.
-ghost use Rattle.std.specs.Prelude.{◌≡◌, ◌⊎◌, ℕ, ◌+◌, ◌<◌, ◌≤◌, ◌∷◌, [], List, None, Some, All, IfOk, IfErr, OnOk, OnErr, length, slice_get, vec_capacity};
+ghost use Rattle.std.specs.Prelude.{◌≡◌, ◌⊎◌, ℕ, ◌<◌, ◌≤◌, ◌∷◌, [], List, None, Some, All, IfOk, IfErr, OnOk, OnErr, length, slice_get, vec_capacity};
 ghost use Rattle.std.specs.FinMap as finite;
 ghost use Rattle.plain_tables.specs.declared.value.Value.{Value};
 ghost use Rattle.mm_relation.specs.Rows.{StartsWithKey, row_of};
 ghost use Rattle.mm_relation.specs.State.{RelationState, IsKept, IsCurrent, IsReadable, HasKey, linked_keys};
-ghost use Rattle.mm_catalog.specs.Cells.{AreRowCells, IsCellOf, NamesNone, cell_for, led_to};
+ghost use Rattle.mm_catalog.specs.Cells.{AreRowCells, IsCellOf, cell_for, led_to};
 ghost use Rattle.mm_catalog.specs.Standing.{StandsBeside, Stands};
 ghost use Rattle.mm_catalog.specs.Inserted.{IsKeptOut, IsNotNamed, IsTakenIn, IsInsertedBeside, IsInsertedAt, IsRefusedAt};
 ghost use Rattle.mm_catalog.specs.Linked.{target_at, row_links};

@@ -1,7 +1,6 @@
 //! What commands and statements mean of a catalog: its tables, as far as names mean anything of them, handed to the resolver.
-ghost use Rattle.std.specs.Prelude.{◌≡◌, ◌≢◌, ◌<◌, Ok, Err, IfOk, IfErr, Some, length, map, slice_get};
+ghost use Rattle.std.specs.Prelude.{◌≡◌, ◌≢◌, ◌<◌, Ok, Err, IfOk, IfErr};
 ghost use Rattle.std.specs.List.{list_any};
-ghost use Rattle.std.specs.Option.{option_map};
 ghost use Rattle.plain_tables.specs.References as plain;
 ghost use Rattle.plain_tables.specs.Resolving.{resolved_of};
 ghost use Rattle.plain_tables.specs.declared.refusal.Refusal.TheVariants as refusal;

@@ -1,5 +1,5 @@
 //! Values that are assigned to rows of one relation, among those that its links lead into.
-ghost use Rattle.std.specs.Prelude.{◌≡◌, ◌≢◌, ◌*◌, ◌<◌, ◌∷◌, ◌++◌, [], ℕ, Some, IsSome, IfOk, IfErr, OnOk, OnErr, All, map, length, drop, slice_get, slice_set};
+ghost use Rattle.std.specs.Prelude.{◌≡◌, ◌≢◌, ◌*◌, ◌<◌, ◌∷◌, ◌++◌, [], ℕ, Some, IsSome, IfErr, OnOk, OnErr, All, map, length, drop, slice_get, slice_set};
 ghost use Rattle.std.specs.List.{AllPairs};
 ghost use Rattle.std.specs.Option.{option_map};
 ghost use Rattle.std.specs.FinMap as finite;
