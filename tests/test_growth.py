@@ -4,6 +4,7 @@ some patterns have absolute limits, expiry is compared with SQLite's, and the me
 smaller tables.
 """
 
+import itertools
 import math
 import random
 import shutil
@@ -15,12 +16,13 @@ from support import growth, holding, sizes
 
 FEW = sizes.said("MMDB_ROWS", sizes.size(1_000, 100_000, 250))
 MANY = 4 * FEW
-BEYOND = 4 * MANY
+# The sizes of larger tables, of which the smallest no longer fits the caches of most machines.
+BEYOND = 4 * MANY, 16 * MANY
 # Tables whose instructions are counted: in large sizes they have fewer rows than those that are timed.
 COUNTED = (FEW // 10, MANY // 10) if sizes.is_large else (FEW, MANY)
 # The instructions of a pattern, and its time, grow by this power of its rows at most, and it takes at most so many times what it takes on
 # differing values. A time also grows where the smaller table fits a cache and the larger one doesn't: then it is taken again of tables that
-# both are larger.
+# both are larger, and at most once more.
 MOST_POWER = 1.3
 MOST_RATIO = 1.5
 # A time is the least of some rounds, and a shorter one than this is taken for it.
@@ -104,20 +106,25 @@ class PatternTimes(Growing, unittest.TestCase):
                 tell(f"{pattern}: {taken[pattern, rows]:.4f} s at {rows} rows")
         return taken
 
-    def power_beyond(self, pattern, power):
-        """By which power a pattern grows where the tables are larger, and both past the caches."""
-        asked = [(pattern, rows) for rows in (MANY, BEYOND)]
-        few, many = (max(seconds, LEAST) for seconds in METER.seconds(pairs(asked), ROUNDS))
-        beyond = math.log(many / few, BEYOND / MANY)
-        tell(f"{pattern}: by the power {power:.2f}, from {MANY} to {BEYOND} rows by {beyond:.2f}")
-        return beyond
+    def power_between(self, pattern, *rows):
+        """By which power a pattern grows between these two numbers of rows, by times that are taken for this."""
+        few, many = (max(seconds, LEAST) for seconds in METER.seconds(pairs([(pattern, count) for count in rows]), ROUNDS))
+        power = math.log(many / few, rows[1] / rows[0])
+        tell(f"{pattern}: from {rows[0]} to {rows[1]} rows by the power {power:.2f}")
+        return power
+
+    def least_power(self, pattern, power):
+        """The power by which a pattern grows, or where that is too much, the one by which it grows between larger tables."""
+        tell(f"{pattern}: from {FEW} to {MANY} rows by the power {power:.2f}")
+        for rows in itertools.pairwise((MANY, *BEYOND)):
+            if power > MOST_POWER:
+                power = self.power_between(pattern, *rows)
+        return power
 
     def test_no_time_grows_by_the_square(self):
         for pattern, power in self.powers((FEW, MANY), LEAST):
             with self.subTest(pattern=str(pattern)):
-                if power > MOST_POWER:
-                    power = self.power_beyond(pattern, power)
-                self.assertLessEqual(power, MOST_POWER)
+                self.assertLessEqual(self.least_power(pattern, power), MOST_POWER)
 
     def test_equal_values_take_as_long_as_differing_ones(self):
         self.check_ratios((FEW, MANY), LEAST)
