@@ -1,12 +1,14 @@
 -- Two tables of which one refers to the other, as the joins ask for them.
-use Rattle.std.proofs.Common.{◌≡◌, ℕ, ◌<◌, [], Option, Some, IsSome, refl, sym, subst, inr}
+use Rattle.std.proofs.Common.{◌≡◌, ℕ, ◌<◌, List, [], Option, Some, IsSome, refl, sym, ◌∙◌, subst, arith, inr, length}
+use Rattle.std.proofs.lemmas.Option.{slice_get_within, same_Some}
 use Rattle.std.specs.Prelude.{slice_get}
 use Rattle.std.specs.Option.{option_and_then}
+use Rattle.mm_relation.specs.State.{RelationState}
 use Rattle.mm_relation.specs.Changes.{HasTree}
 use Rattle.mm_catalog.specs.State.{CatalogState}
 use Rattle.mm_catalog.specs.Consistent.{IsConsistent}
 use Rattle.mm_catalog.proofs.Among.{among_at}
-use Rattle.temp_list.specs.Reading.{AreSound}
+use Rattle.temp_list.specs.Reading.{AreSound, HasColumns}
 use Rattle.plan_chooser.specs.declared.plans.JoinInput.{JoinInput}
 use Rattle.join_ops.specs.Joins.{IsThere, HasSideTree}
 use Rattle.session_tests.specs.Linked.{AreJoinable}

@@ -1,6 +1,6 @@
 //! Sessions over catalogs that were filled by their own calls. `tests/test_growths.py` counts the growths that `over`
 //! meets.
-ghost use Rattle.std.specs.Prelude.{[], IfOk};
+ghost use Rattle.std.specs.Prelude.{◌≡◌, ◌∷◌, [], codes, IfOk};
 ghost use Rattle.plain_tables.specs.ResolvedLaws.{IsGiven};
 ghost use Rattle.plain_tables.specs.declared.command.Command.TheVariants as command;
 ghost use Rattle.plain_tables.specs.declared.schema.ColKind.TheVariants as kind;
