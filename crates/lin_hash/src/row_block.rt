@@ -1,9 +1,8 @@
 //! A block of nodes of rows.
-ghost use Rattle.std.specs.Prelude.{◌≡◌, ◌+◌, ◌<◌, IsTrue, IsSome, IfOk, true, false, None, length, count_by, replicate, slice_set};
-ghost use Rattle.lin_hash.specs.RowNodes.{block_nodes, is_used, row_node_at, unused_node, with_next, with_prev};
+ghost use Rattle.std.specs.Prelude.{◌≡◌, ◌+◌, ◌<◌, IsSome, IfOk, true, false, None, length, count_by, replicate, slice_set};
+ghost use Rattle.lin_hash.specs.RowNodes.{block_nodes, is_used, row_node_at, unused_node};
 
 use crate::block::NODES_A_BLOCK;
-use crate::node::NodeLink;
 use crate::row_node::RowNode;
 use no_memory::NoMemory;
 use std::alloc::Global;

@@ -2,10 +2,10 @@
 //!
 //! A node leads to the next one and back to the one before, so a node leaves its chain by what it says itself, however long
 //! the chain is. In what order a chain has its nodes matters to nothing above.
-ghost use Rattle.std.specs.Prelude.{◌≡◌, ◌≢◌, ◌-◌, ◌<◌, ◌≤◌, ◌^◌, true, [], length, slice_set, IfSome, EachIndex};
+ghost use Rattle.std.specs.Prelude.{◌≡◌, ◌-◌, ◌<◌, ◌≤◌, ◌^◌, true, [], length, slice_set, IfSome, EachIndex};
 ghost use Rattle.std.specs.List.{SomeIndex};
 ghost use Rattle.lin_hash.specs.Address.{bucket_of};
-ghost use Rattle.lin_hash.specs.Nodes.{head_at, leads_to, link_to, unused_link};
+ghost use Rattle.lin_hash.specs.Nodes.{head_at, leads_to, link_to};
 ghost use Rattle.lin_hash.specs.RowNodes.{headed_at, is_used, linked_before, linked_past, row_node_at, rows_of};
 ghost use Rattle.lin_hash.specs.RowChains.{AreLoose, AreRowsHung, RowsEndWithin, rows_walked_from};
 

@@ -2,7 +2,7 @@
 //!
 //! They stand in blocks of as many as a partition of rows has. A block has memory once a row needs its node there, and no
 //! node moves. Blocks that no row uses are counted, so that who gives memory back knows whether there is any.
-ghost use Rattle.std.specs.Prelude.{◌≡◌, ◌+◌, ◌-◌, ◌*◌, ◌/◌, ◌^◌, ◌<◌, ◌≤◌, ◌↔◌, ℕ, true, false, [], ◌∷◌, ◌++◌, List, ◌≢◌, All, IfOk, IsTrue, OnOk, OnErr, length, max, slice_index_or, slice_set, vec_len, vec_capacity};
+ghost use Rattle.std.specs.Prelude.{◌≡◌, ◌+◌, ◌-◌, ◌*◌, ◌/◌, ◌^◌, ◌<◌, ◌≤◌, ◌↔◌, ℕ, true, false, [], ◌++◌, List, ◌≢◌, All, IfOk, IsTrue, OnOk, OnErr, length, max, slice_index_or, slice_set, vec_len, vec_capacity};
 ghost use Rattle.lin_hash.specs.Nodes.{unused_link};
 ghost use Rattle.part_raw.specs.declared.tuple_ref.TupleRef.{TupleRef};
 ghost use Rattle.lin_hash.specs.declared.row_block.RowBlock.{RowBlock};

@@ -1,6 +1,6 @@
 //! Slots, what has one, and the numbers of holes.
 
-ghost use Rattle.std.specs.Prelude.{◌≡◌, ◌+◌, ◌^◌, ◌<◌, ◌≤◌, ℕ, List, [], ◌∷◌, map, length, cond};
+ghost use Rattle.std.specs.Prelude.{◌≡◌, ◌+◌, ◌^◌, ◌<◌, ◌≤◌, [], ◌∷◌, map, length, cond};
 ghost use Rattle.std.specs.List.{flat_map};
 ghost use Rattle.plain_statements.specs.declared.statement.Slot.{Slot};
 ghost use Rattle.plain_statements.specs.StatementSpelling.{numbers_of};

@@ -1,6 +1,6 @@
 //! Statements: the commands on rows, with a `?` where a value may stand.
 
-ghost use Rattle.std.specs.Prelude.{◌≡◌, ◌≢◌, codes, IfOk, IsErrOf};
+ghost use Rattle.std.specs.Prelude.{codes, IfOk, IsErrOf};
 ghost use Rattle.plain_statements.specs.declared.statement.Statement.{Statement};
 ghost use Rattle.plain_statements.specs.StatementSpelling.{SpellsStatement};
 ghost use Rattle.mm_lang.specs.Words.{letters};

@@ -7,7 +7,6 @@ use crate::told::{Reason, about, tell};
 use crate::values::why_unheld;
 use mm_catalog::Catalog;
 use mm_syntax::Shown;
-use no_memory::NoMemory;
 use plain_tables::{Assignment, Command, Refusal, Resolved, Sequence, Value};
 use std::alloc::Global;
 

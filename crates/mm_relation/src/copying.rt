@@ -2,12 +2,10 @@
 //!
 //! Each row keeps its reference, so the indexes are copied as they stand, without a search: nothing is compared, and no link of another
 //! table is followed. Where no memory is found, what was copied is given back.
-ghost use Rattle.std.specs.Prelude.{◌≡◌, IfOk, map};
+ghost use Rattle.std.specs.Prelude.{◌≡◌, IfOk};
 
 use crate::index::{Index, IndexOn};
-use crate::numbers::DeclaredIndex;
 use crate::relation::Relation;
-use crate::rows::Rows;
 use crate::stored_cell::StoredCell;
 use no_memory::NoMemory;
 use part_raw::TryClone;

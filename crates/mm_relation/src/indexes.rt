@@ -1,5 +1,5 @@
 //! The declared indexes of a relation, all together, in the order of their declaration.
-ghost use Rattle.std.specs.Prelude.{◌≡◌, ◌==◌, ◌||◌, ◌&&◌, ℕ, ◌<◌, ◌≤◌, max, length, slice_index_or, map, OnOk, All};
+ghost use Rattle.std.specs.Prelude.{◌≡◌, ◌==◌, ◌&&◌, ℕ, ◌<◌, ◌≤◌, max, length, slice_index_or, map, OnOk, All};
 ghost use Rattle.std.specs.List.{list_any};
 ghost use Rattle.part_raw.specs.declared.tuple_ref.TupleRef.{TupleRef};
 ghost use Rattle.mm_relation.specs.declared.index.IndexOn.{IndexOn};

@@ -8,7 +8,7 @@
 //!
 //! As long as rows are owed each index keeps its memory, and what other calls take is beside that. Once nothing is owed,
 //! what is spare is given back.
-ghost use Rattle.std.specs.Prelude.{◌≡◌, ◌+◌, ◌-◌, ◌<◌, ◌≤◌, [], Some, IsSome, IfOk, OnOk, OnErr, All, length, map, slice_get};
+ghost use Rattle.std.specs.Prelude.{◌≡◌, ◌+◌, ◌-◌, ◌<◌, ◌≤◌, Some, IsSome, IfOk, OnOk, OnErr, All, length, map, slice_get};
 
 use crate::change::change_last;
 use crate::parts::{make_ready, restore, settle, withdraw};

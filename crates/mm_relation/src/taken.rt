@@ -6,7 +6,7 @@
 //!
 //! The lists of a relation may have grown or been made anew meanwhile, and nothing is known of their memory. So what is taken
 //! out brings its own: lists into which all declared indexes are moved as it is put back.
-ghost use Rattle.std.specs.Prelude.{Bool, ℕ, ◌≡◌, ◌<◌, ◌≤◌, [], IsTrue, IfOk, OnErr, filter, insert, length, take, vec_capacity};
+ghost use Rattle.std.specs.Prelude.{ℕ, ◌≡◌, ◌<◌, ◌≤◌, [], IsTrue, IfOk, OnErr, filter, insert, length, take, vec_capacity};
 ghost use Rattle.std.specs.List.{list_any};
 ghost use Rattle.mm_relation.specs.Declaring.{is_index, is_kind, without_first};
 ghost use Rattle.mm_relation.specs.Indexes.{declaration_of, kind_in};

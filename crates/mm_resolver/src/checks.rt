@@ -1,5 +1,5 @@
 //! The checks that need no row, of commands whose names are resolved.
-ghost use Rattle.std.specs.Prelude.{◌≡◌, ◌==◌, ◌||◌, map, take, not, is_some, length, nat_lt, nat_le};
+ghost use Rattle.std.specs.Prelude.{◌≡◌, ◌==◌, ◌||◌, take, not, is_some, length, nat_lt, nat_le};
 ghost use Rattle.std.specs.List.{list_any};
 ghost use Rattle.plain_tables.specs.Databases.{table_named};
 ghost use Rattle.plain_tables.specs.Effects as effects;

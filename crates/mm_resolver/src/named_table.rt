@@ -3,8 +3,7 @@ ghost use Rattle.std.specs.Prelude.{◌≡◌, ◌≢◌, true, Some, None, IfSo
 ghost use Rattle.std.specs.List.{AllPairs, filter};
 ghost use Rattle.std.specs.Option.{option_map, option_map_or, option_copied, option_to_list};
 ghost use Rattle.std.specs.Str.{bytes_eq};
-ghost use Rattle.plain_tables.specs.declared.refusal.Refusal.TheVariants.{NoSuchTable, NoSuchColumn};
-ghost use Rattle.plain_tables.specs.Databases.{table_named};
+ghost use Rattle.plain_tables.specs.declared.refusal.Refusal.TheVariants.{NoSuchColumn};
 ghost use Rattle.plain_tables.specs.Queries.{fits as fits_so, place_meant};
 
 use crate::culprit::Culprit;

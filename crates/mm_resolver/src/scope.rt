@@ -1,5 +1,5 @@
 //! What a select names: tables, and the columns of its joins.
-ghost use Rattle.std.specs.Prelude.{◌≡◌, ◌≢◌, ◌++◌, ◌∷◌, [], Some, is_some, OnOk, IfOk, IfErr, map, if◌then◌else◌};
+ghost use Rattle.std.specs.Prelude.{◌≡◌, ◌++◌, ◌∷◌, [], Some, is_some, OnOk, IfOk, map, if◌then◌else◌};
 ghost use Rattle.std.specs.List.{list_any};
 ghost use Rattle.std.specs.Option.{option_map, option_to_list, option_zip};
 ghost use Rattle.std.specs.Str.{bytes_eq};
@@ -29,7 +29,7 @@ pub struct Scope<'a> {
 }
 
 impl<'a> Scope<'a> {
-    ghost use Rattle.mm_resolver.specs.Naming.{columns_of, columns_of_all, written, placed, as_found};
+    ghost use Rattle.mm_resolver.specs.Naming.{columns_of, columns_of_all};
     ghost use Rattle.mm_resolver.specs.Select.{placed_sides, sides_found};
 
     /// The scope of a select from one table.

@@ -1,5 +1,5 @@
 //! The items, conditions and joins of a select by the numbers of their tables and columns.
-ghost use Rattle.std.specs.Prelude.{◌≡◌, ◌≢◌, ◌<◌, ◌++◌, ◌∷◌, [], Bool, List, Some, false, true, map, OnOk, IfOk, IfErr, IfSome, length, slice_get, slice_set, zip};
+ghost use Rattle.std.specs.Prelude.{◌≡◌, ◌≢◌, ◌<◌, Bool, Some, false, true, map, OnOk, IfOk, IfErr, IfSome, length, slice_get, slice_set, zip};
 ghost use Rattle.std.specs.List.{enumerate_from};
 ghost use Rattle.plain_tables.specs.declared.refusal.Refusal.TheVariants as refusal;
 ghost use Rattle.plain_tables.specs.Queries.{named_items, place_meant, places_meant};

@@ -1,5 +1,4 @@
 //! What is to blame for a refusal: a command is resolved once more, before a witness.
-ghost use Rattle.std.specs.Prelude.{◌≡◌};
 
 use crate::commands::resolve;
 use crate::culprit::Culprit;

@@ -1,6 +1,5 @@
 //! The room for what selects find, which is kept from one select to the next.
 
-ghost use Rattle.std.specs.Prelude.{[]};
 ghost use Rattle.mm_session.specs.Rooms.{IsBounded};
 
 use mm_relation::TupleRef;

@@ -1,8 +1,7 @@
 //! What was done in the open transactions, and how it is undone.
-ghost use Rattle.std.specs.Prelude.{Bool, true, false, ◌≡◌, ◌≢◌, ◌⊎◌, ◌+◌, ◌<◌, ◌≤◌, ◌∷◌, ◌++◌, ℕ, [], MatchOption, IfErr, OnOk, OnErr, List, drop, length, take, vec_capacity};
+ghost use Rattle.std.specs.Prelude.{Bool, true, false, ◌≡◌, ◌≢◌, ◌⊎◌, ◌+◌, ◌<◌, ◌≤◌, ◌∷◌, ◌++◌, ℕ, [], MatchOption, IfErr, OnOk, OnErr, drop, length, take, vec_capacity};
 ghost use Rattle.std.specs.List.{AllPairs};
 ghost use Rattle.part_raw.specs.declared.tuple_ref.TupleRef.{TupleRef};
-ghost use Rattle.mm_catalog.specs.Assigned.{CellSet};
 ghost use Rattle.mm_catalog.specs.Outline.{HoldsOnce, IsOutline, outline_of, without_rows};
 ghost use Rattle.mm_transactions.specs.Log.{change_of};
 ghost use Rattle.mm_transactions.specs.Undoing.{IsReady, before, keeps_tables};

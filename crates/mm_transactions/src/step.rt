@@ -3,7 +3,7 @@
 //! ```text
 //!  insert emp  ─▶  rows came, 0 more      insert emp  ─▶  rows came, 1 more      insert dept  ─▶  a step of its own
 //! ```
-ghost use Rattle.std.specs.Prelude.{Bool, true, false, ◌≡◌, ◌+◌, ◌<◌, ◌≤◌, ℕ, suc, List, IfNone, IfSome, MatchOption, length, reverse, vec_capacity};
+ghost use Rattle.std.specs.Prelude.{true, false, ◌≡◌, ◌+◌, ◌<◌, ◌≤◌, ℕ, suc, List, IfNone, IfSome, MatchOption, length, reverse, vec_capacity};
 ghost use Rattle.mm_catalog.specs.Assigned.{CellSet};
 ghost use Rattle.part_raw.specs.declared.tuple_ref.TupleRef.{TupleRef};
 ghost use Rattle.mm_transactions.specs.Log.{AreArrivals, AreSteps, IsJoined, IsNewest, IsStepNoted, alone, change_of, more_of, width_of};

@@ -10,7 +10,7 @@ mod words;
 use crate::told::{Told, tell_read_fault};
 use crate::words::{Wish, all_words, read_words};
 use clap::error::ErrorKind;
-use mm_batch::{Ending, Joined, Origin, Source, answer_watched};
+use mm_batch::{Ending, Joined, Source, answer_watched};
 use mm_session::{RunFault, run_promptly};
 use std::io::BufWriter;
 use std::process::ExitCode;

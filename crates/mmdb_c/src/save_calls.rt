@@ -1,6 +1,6 @@
 //! The call that saves a whole database.
 
-ghost use Rattle.std.specs.Prelude.{◌≡◌, ◌≢◌, ◌↔◌, ◌⊎◌, IsNone, IsSome, IsSomeAnd, [], length};
+ghost use Rattle.std.specs.Prelude.{◌≡◌, ◌≢◌, ◌↔◌, ◌⊎◌, IsNone, IsSome, IsSomeAnd, length};
 ghost use Rattle.mmdb_c.specs.Calls.{Becomes};
 ghost use Rattle.mmdb_c.specs.Planning.{OnlyAnswers};
 ghost use Rattle.mmdb_c.specs.Saving.{IsUnsaved, MakesPiece};

@@ -1,6 +1,6 @@
 //! A row's values, moved into the places of a slot and out of them, one by one.
-ghost use Rattle.std.specs.Prelude.{◌≡◌, ℕ, ◌+◌, ◌*◌, ◌<◌, ◌≤◌, [], None, Some, IsSome, length, slice_index_or, slice_set};
-ghost use Rattle.std.specs.Vec.{vec_len, vec_capacity};
+ghost use Rattle.std.specs.Prelude.{◌≡◌, ℕ, ◌+◌, ◌*◌, ◌<◌, ◌≤◌, [], None, Some, IsSome, length, slice_index_or};
+ghost use Rattle.std.specs.Vec.{vec_capacity};
 ghost use Rattle.part_raw.specs.Rows.{window, row_of, put_run, clear_run};
 
 use crate::block::Block;

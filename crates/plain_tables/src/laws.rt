@@ -1,16 +1,14 @@
 //! The laws of the definitions. Each is the contract of a function that does nothing.
 
-ghost use Rattle.std.specs.Prelude.{◌≡◌, ◌↔◌, ℕ, ℤ, Some, None, List, [], ◌++◌, codes, FitsSigned};
+ghost use Rattle.std.specs.Prelude.{◌≡◌, ◌↔◌, ℕ, ℤ, Some, None, FitsSigned};
 ghost use Rattle.std.specs.Int.{w64};
 ghost use Rattle.std.specs.Cmp.{IsTotalOrder};
 ghost use Rattle.std.specs.declared.cmp.Ordering.TheVariants.{Less, Equal};
 ghost use Rattle.plain_tables.specs.declared.value.Value.{Value};
-ghost use Rattle.plain_tables.specs.declared.command.Limits.{Limits};
 ghost use Rattle.plain_tables.specs.declared.value.Value.TheVariants.{Int};
 ghost use Rattle.plain_tables.specs.Values.{value_cmp};
 ghost use Rattle.plain_tables.specs.Stored.{link_value, link_number};
 ghost use Rattle.plain_tables.specs.Hashes.{hash_of};
-ghost use Rattle.plain_tables.specs.Databases.{Database};
 
 /// The order of values is total, and values that compare alike are one.
 pub fn values_are_ordered()

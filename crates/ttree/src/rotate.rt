@@ -13,8 +13,8 @@
 //!
 //! The node that rises gets two children, and must hold `MIN` items. So items slide into it first where it holds fewer:
 //! from its only child, or where it is a leaf (LR and RL alone) from B, its parent.
-ghost use Rattle.std.specs.Prelude.{◌≡◌, ◌<◌, ◌≤◌, ◌↔◌, IsTrue, true, false, length};
-ghost use Rattle.ttree_node.specs.Tree.{list, whole, is_node, has_left, has_right, height, stated, items_of, with_tree};
+ghost use Rattle.std.specs.Prelude.{◌≡◌, ◌<◌, ◌≤◌, ◌↔◌, IsTrue, true, false};
+ghost use Rattle.ttree_node.specs.Tree.{list, whole, is_node, has_left, has_right, height, stated, with_tree};
 ghost use Rattle.ttree_node.specs.Editor.{position, tree_at, spares_at};
 ghost use Rattle.ttree_node.specs.Seen.{child, opposite};
 ghost use Rattle.ttree.specs.Shape.{IsTTree, greatest_height};

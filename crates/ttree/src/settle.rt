@@ -1,7 +1,7 @@
 //! What follows the loss of an item: a half-leaf takes in its leaf where both fit one node, and an empty leaf is freed.
 //! No item is lost by it, and each freed node is a spare one.
-ghost use Rattle.std.specs.Prelude.{◌≡◌, ◌+◌, ◌≤◌, ◌^◌, true, false, length};
-ghost use Rattle.ttree_node.specs.Tree.{list, size, whole, is_node, has_left, has_right, is_leaf, items_of};
+ghost use Rattle.std.specs.Prelude.{◌≡◌, ◌≤◌, ◌^◌, true, false, length};
+ghost use Rattle.ttree_node.specs.Tree.{list, whole, is_node, has_left, has_right, is_leaf, items_of};
 ghost use Rattle.ttree_node.specs.Editor.{position, tree_at, spares_at};
 ghost use Rattle.ttree_node.specs.Seen.{child, opposite};
 ghost use Rattle.ttree.specs.Shape.{IsTTree};

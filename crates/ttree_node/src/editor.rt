@@ -1,5 +1,5 @@
 //! A place in a tree that is changed there.
-ghost use Rattle.std.specs.Prelude.{◌≡◌, ◌+◌, ◌++◌, ◌<◌, ◌≤◌, true, false, [], length, insert, remove, slice_index_or};
+ghost use Rattle.std.specs.Prelude.{◌≡◌, ◌+◌, ◌++◌, ◌<◌, ◌≤◌, true, false, length, insert, remove, slice_index_or};
 ghost use Rattle.ttree_node.specs.Linked.{located, IsPlaceIn};
 
 use crate::linked_nodes::LinkedNodes;

@@ -1,5 +1,5 @@
 //! A leaf that comes, and one that goes.
-ghost use Rattle.std.specs.Prelude.{◌≡◌, ◌+◌, ◌<◌, true, false, []};
+ghost use Rattle.std.specs.Prelude.{◌≡◌, ◌+◌, ◌<◌, false};
 
 use crate::linked_nodes::LinkedNodes;
 use crate::node::Side;

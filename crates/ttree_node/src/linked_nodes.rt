@@ -1,5 +1,5 @@
 //! The owner of a tree's nodes, seen with the places at which they lie.
-ghost use Rattle.std.specs.Prelude.{◌≡◌, ◌+◌, ◌<◌, ◌≤◌, ◌^◌, max, OnOk, OnErr};
+ghost use Rattle.std.specs.Prelude.{◌≡◌, ◌+◌, ◌<◌, ◌≤◌, max, OnOk, OnErr};
 
 use crate::parts::Parts;
 use no_memory::NoMemory;

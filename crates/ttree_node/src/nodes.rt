@@ -1,5 +1,5 @@
 //! The one module that reads and writes through a pointer: a set of nodes on the heap, which is seen as a finite map from places to nodes.
-ghost use Rattle.std.specs.Prelude.{◌≡◌, List as Seq, [], ◌∷◌, ◌++◌};
+ghost use Rattle.std.specs.Prelude.{◌≡◌, List as Seq, [], ◌∷◌};
 ghost use denote.RawPtr.{Ptr};
 ghost use Rattle.ttree_node.specs.Held.{node_at, without, held_owns, held_lent};
 

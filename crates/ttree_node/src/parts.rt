@@ -1,5 +1,5 @@
 //! The nodes of a tree and its spare nodes, with the steps that link and unlink them.
-ghost use Rattle.std.specs.Prelude.{◌≡◌, ◌+◌, ◌-◌, ◌<◌, ◌≤◌, ◌^◌, List, [], ◌∷◌, Some, None, IsSome, OnOk, OnErr};
+ghost use Rattle.std.specs.Prelude.{◌≡◌, ◌+◌, ◌-◌, ◌<◌, ◌≤◌, List, [], ◌∷◌, Some, None, IsSome, OnOk, OnErr};
 ghost use denote.RawPtr.{Ptr};
 
 use crate::node::{Head, HeadFields, Node, Side};
