@@ -1,7 +1,9 @@
-"""In a table of 200,000 rows or more a delete of many rows reads ahead what sixteen removals read in the tree of the keys. What goes and
-what stays is what a plain dictionary says, also where the last rows are fewer than sixteen.
+"""In a table of 200,000 rows or more sixteen searches of a tree go side by side: of the keys, before a delete of many rows, and of a
+column of integers, in a join. What goes, what stays and what is joined is what a plain dictionary says, also where the last rows are fewer
+than sixteen.
 """
 
+import collections
 import random
 import unittest
 
@@ -14,11 +16,12 @@ COUNTS = (1, 3, 4, 15, 16, 17, 1_003)
 # Keys below this are looked at in the end.
 LOW = -HELD + 3_000
 FRONT = b"table u (id int, a int)\nindex u a hash\n"
+JOINED = b"table u (id int, a int)\nindex u a tree\ntable v (id int, a int)\n"
 
 
-def load(rows):
+def load(table, rows):
     block = b"id,a\n" + b"".join(b"%d,%d\n" % row for row in rows)
-    return b"load u %d\n" % len(block) + block
+    return b"load %s %d\n" % (table, len(block)) + block
 
 
 class ReadAhead(unittest.TestCase):
@@ -28,7 +31,7 @@ class ReadAhead(unittest.TestCase):
         values = [-count for count in COUNTS for _ in range(count)]
         rows = list(zip(keys, values + [draw.randrange(HELD) for _ in range(HELD - len(values))]))
         draw.shuffle(rows)
-        stream = FRONT + load(rows)
+        stream = FRONT + load(b"u", rows)
         stream += b"".join(b"delete u where a = %d\nselect id from u where a = %d\n" % (-count, -count) for count in COUNTS)
         stream += b"select id from u where id < %d\n" % LOW
         left = sorted(key for key, value in rows if key < LOW and value >= 0)
@@ -39,3 +42,30 @@ class ReadAhead(unittest.TestCase):
         ran = harness.run_whole(stream)
         self.assertEqual((ran.status, ran.err), (0, b""))
         self.assertEqual(ran.out.splitlines(), awaited)
+
+    def test_joins(self):
+        draw = random.Random(SEED)
+        keys = draw.sample(range(-HELD, HELD), HELD)
+        # Half of the values are of a row each, and some of many.
+        values = [draw.choice((draw.randrange(-HELD, HELD), draw.randrange(50), 2**63 - 1, -(2**63))) for _ in keys]
+        values[: HELD // 2] = draw.sample(range(HELD, 3 * HELD), HELD // 2)
+        draw.shuffle(values)
+        sought = [draw.randrange(-HELD, 3 * HELD) for _ in range(1_003)]
+        sought += [2**63 - 1, -(2**63)] + [3 * HELD - draw.randrange(16) for _ in range(64)]
+        rows = collections.defaultdict(list)
+        for key, value in sorted(zip(keys, values)):
+            rows[value].append(key)
+        outer = [(at, value) for at, value in enumerate(sought) if len(rows.get(value, ())) < 10_000]
+        by_column = [(at, key) for at, value in outer for key in rows.get(value, ())]
+        there = set(keys)
+        by_key = [(at, value) for at, value in outer if value in there]
+        stream = JOINED + load(b"u", list(zip(keys, values))) + load(b"v", outer)
+        stream += b"select v.id, u.id from v join u on v.a = u.a\nselect v.id, u.id from v join u on v.a = u.id\n"
+        awaited = [b"ok"] * 3 + [b"ok %d" % HELD, b"ok %d" % len(outer)]
+        for found in (by_column, by_key):
+            awaited += [b"rows %d" % len(found), b"v.id,u.id", *(b"%d,%d" % pair for pair in found)]
+        for policy in ("auto", "tree"):
+            with self.subTest(policy=policy):
+                ran = harness.run_whole(stream, ["--policy", policy])
+                self.assertEqual((ran.status, ran.err), (0, b""))
+                self.assertEqual(ran.out.splitlines(), awaited)

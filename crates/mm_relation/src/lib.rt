@@ -65,5 +65,6 @@ pub use slot_set::SlotSet;
 pub use stored_cell::StoredCell;
 pub use taken::DroppedIndex;
 pub use tree::Walk;
-pub use ttree::{LEAST_ITEMS, MOST_ITEMS, TreeShape};
+pub use ttree::{ABREAST, LEAST_ITEMS, MOST_ITEMS, TreeShape};
 pub use view::RowView;
+pub use warming::{Way, Ways, number_of};

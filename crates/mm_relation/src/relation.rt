@@ -204,7 +204,7 @@ impl Relation {
     }
 
     // The tree on a column.
-    fn tree(&self, column: ColumnNumber) -> &Tree
+    pub(crate) fn tree(&self, column: ColumnNumber) -> &Tree
         requires { HasTree self.now column.0 }
         ensures { result.now.tree ≡ tree_on self.now column.0 }
     {
@@ -323,7 +323,7 @@ impl Relation {
     }
 
     // A probe for the row with this key, which doesn't count the rows whose keys it compares.
-    fn key_search<'a>(&'a self, key: &'a SoughtValue<'a>) -> KeySearch<'a>
+    pub(crate) fn key_search<'a>(&'a self, key: &'a SoughtValue<'a>) -> KeySearch<'a>
         ensures rows { result.rows.now.tuples ≡ self.now.rows }
         ensures sought { result.sought.now ≡ key.now }
         ensures placed { All (λ r. IsSome (value_at no_keys 0 result.rows.now.tuples r)) (tree_list self.now.by_key) }

@@ -1,14 +1,15 @@
 //! The rows in the range of a probe. Few of them are read: the places never fall along a tree's list, so where the last of some
 //! neighbours is in the range, those before it are.
-ghost use Rattle.std.specs.Prelude.{◌≡◌, ◌≢◌, ◌≤◌, ◌++◌, All, OnOk, OnErr, drop, length, take};
+ghost use Rattle.std.specs.Prelude.{◌≡◌, ◌≢◌, ◌≤◌, ◌++◌, All, IfSome, OnOk, OnErr, drop, length, take};
 ghost use Rattle.std.specs.List.{AllWithin};
 ghost use Rattle.std.specs.declared.cmp.Ordering.{Ordering};
 ghost use Rattle.mm_index.specs.Asking.{IsOnlyAsked};
-ghost use Rattle.mm_index.specs.Range.{NeverFalls, in_range};
-ghost use Rattle.mm_relation.specs.Changes.{HasTree, list_of};
+ghost use Rattle.mm_index.specs.Range.{NeverFalls, from_range, in_range};
+ghost use Rattle.mm_relation.specs.Changes.{HasTree, list_of, tree_on};
 ghost use Rattle.ttree.specs.Held.{rest_of};
+ghost use Rattle.ttree.specs.Warming.{IsWay};
 
-use mm_relation::{Probe, Relation, Walk};
+use mm_relation::{Probe, Relation, Walk, Way};
 use no_memory::NoMemory;
 use part_raw::TupleRef;
 use plain_tables::ColumnNumber;
@@ -57,16 +58,41 @@ fn count_in_range<P: Probe>(probe: &mut P, refs: &[TupleRef]) -> usize
     low
 }
 
-/// Appends the rows that are in the probe's range, in the order of a column with a tree. At an error nothing is appended.
+// The rows from the first that isn't below the probe's range, in the order of a column with a tree. A search of the tree may have gone
+// side by side with others.
+fn walk_range<'a, P: Probe>(
+    relation: &'a Relation,
+    column: ColumnNumber,
+    way: Option<&Way<'a>>,
+    probe: &mut P,
+) -> Walk<'a>
+    requires has_tree { HasTree relation.now column.0 }
+    requires way { IfSome way (λ w. IsWay (tree_on relation.now column.0) w.now) }
+    requires sound { P.is_sound probe.old }
+    requires placed { All (P.can_place probe.old) (list_of relation.now column.0) }
+    requires in_order { NeverFalls (P.place probe.old) (list_of relation.now column.0) }
+    ensures rest { rest_of result ≡ from_range (P.place probe.old) (list_of relation.now column.0) }
+    ensures probe { IsOnlyAsked P.is_sound P.can_place P.place P.asked probe.old probe.new }
+{
+    match way {
+        Some(way) => relation.walk_column_from_way(column, way, probe),
+        None => relation.walk_column(column, probe),
+    }
+}
+
+/// Appends the rows that are in the probe's range, in the order of a column with a tree. A search of the tree may have gone side by
+/// side with others. At an error nothing is appended.
 ///
 /// Of the rows behind the first it takes as many as it has found so far, and reads the last of them.
 pub fn append_range<P: Probe>(
     relation: &Relation,
     column: ColumnNumber,
+    way: Option<&Way<'_>>,
     probe: &mut P,
     out: &mut Vec<TupleRef>,
 ) -> Result<(), NoMemory>
     requires has_tree { HasTree relation.now column.0 }
+    requires way { IfSome way (λ w. IsWay (tree_on relation.now column.0) w.now) }
     requires sound { P.is_sound probe.old }
     requires placed { All (P.can_place probe.old) (list_of relation.now column.0) }
     requires in_order { NeverFalls (P.place probe.old) (list_of relation.now column.0) }
@@ -75,7 +101,7 @@ pub fn append_range<P: Probe>(
 {
     let before = out.len();
     out.reserve(MOST_TAKEN)?;
-    let mut walk = relation.walk_column(column, probe);
+    let mut walk = walk_range(relation, column, way, probe);
     let mut found: usize = 0;
     loop {
         let start = out.len();

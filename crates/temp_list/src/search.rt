@@ -1,8 +1,11 @@
 //! The rows of one relation that a test asks for.
-ghost use Rattle.std.specs.Prelude.{◌≡◌, ◌<◌, IsTrue, IsSome, IfOk, IfSome, OnOk, OnErr, All, filter, length};
+ghost use Rattle.std.specs.Prelude.{◌≡◌, ◌≢◌, ◌<◌, IsTrue, IsSome, IfNone, IfOk, IfSome, OnOk, OnErr, All, Some, filter, length};
 ghost use Rattle.std.specs.FinMap as finite;
 ghost use Rattle.mm_relation.specs.State.{IsCurrent, linked_keys};
-ghost use Rattle.mm_relation.specs.Changes.{HasTree, HasHash};
+ghost use Rattle.mm_relation.specs.Changes.{HasTree, HasHash, tree_on};
+ghost use Rattle.mm_relation.specs.Reading.{key_at};
+ghost use Rattle.part_raw.specs.declared.tuple_ref.TupleRef.{TupleRef};
+ghost use Rattle.ttree.specs.Warming.{IsWay};
 ghost use Rattle.mm_index.specs.Bag.{AppendsBag, IsSameBag};
 ghost use Rattle.plan_chooser.specs.Plans.{is_range};
 ghost use Rattle.plain_tables.specs.Queries.{stands as stands_so};
@@ -15,7 +18,7 @@ use crate::range::append_range;
 use crate::range_probe::RangeProbe;
 use crate::standing::{passes, stands};
 use mm_relation::laws::a_relation_is_kept;
-use mm_relation::{Relation, Relations};
+use mm_relation::{Relation, Relations, Way};
 use no_memory::NoMemory;
 use part_raw::{MAX_TUPLES, SLOTS, TupleRef};
 use plain_tables::{ColumnNumber, Op, SoughtValue, StoredValue, Test, hash_of_sought, low_bits};
@@ -237,18 +240,33 @@ pub fn keep_passing_unbounded<R: Relations>(
     }
 }
 
-/// Appends the row that has this key, where there is one. At an error nothing is appended.
+// The row that has this key. A search of the tree of the keys may have gone side by side with others.
+fn find_key(relation: &Relation, way: Option<&Way<'_>>, key: &SoughtValue<'_>) -> Option<TupleRef>
+    requires { IfSome way (λ w. IsWay relation.now.by_key w.now) }
+    ensures found { IfSome result (λ r. key_at relation.now.rows r ≡ Some key.now) }
+    ensures none { IfNone result ((r : TupleRef) → key_at relation.now.rows r ≢ Some key.now) }
+{
+    match way {
+        Some(way) => relation.find_key_by_way(way, key),
+        None => relation.find_key(key),
+    }
+}
+
+/// Appends the row that has this key, where there is one. A search of the tree of the keys may have gone side by side with others. At an
+/// error nothing is appended.
 pub fn row_by_key<R: Relations>(
     tables: &R,
     relation: &Relation,
+    way: Option<&Way<'_>>,
     key: &SoughtValue<'_>,
     out: &mut Vec<TupleRef>,
 ) -> Result<(), NoMemory>
+    requires { IfSome way (λ w. IsWay relation.now.by_key w.now) }
     ensures ok { OnOk result (AppendsBag out.old.items out.new.items (standing (R.tables tables.now) relation.now 0 operator.Eq key.now)) }
     ensures err { OnErr result (out.new.items ≡ out.old.items) }
 {
     a_relation_is_kept(relation);
-    if let Some(r) = relation.find_key(key) {
+    if let Some(r) = find_key(relation, way, key) {
         out.push(r)?;
     }
     Ok(())
@@ -272,7 +290,7 @@ pub fn rows_by_tree<R: Relations>(
 {
     a_relation_is_kept(relation);
     if let (0, Op::Eq) = (column.0, op) {
-        return row_by_key(tables, relation, value, out);
+        return row_by_key(tables, relation, None, value, out);
     }
     let mut probe = RangeProbe {
         tables,
@@ -282,7 +300,39 @@ pub fn rows_by_tree<R: Relations>(
         sought: value,
         asked: 0,
     };
-    append_range(relation, column, &mut probe, out)
+    append_range(relation, column, None, &mut probe, out)
+}
+
+/// Appends the rows whose value in a column with a tree equals this value, each once. A search of the tree may have gone side by side
+/// with others. At an error nothing is appended.
+pub fn rows_by_way<R: Relations>(
+    tables: &R,
+    relation: &Relation,
+    column: ColumnNumber,
+    way: Option<&Way<'_>>,
+    value: &SoughtValue<'_>,
+    out: &mut Vec<TupleRef>,
+) -> Result<(), NoMemory>
+    requires current { IsCurrent (linked_keys relation.now.targets (R.tables tables.now)) relation.now }
+    requires within { column.0 < length relation.now.schema.columns }
+    requires has_tree { HasTree relation.now column.0 }
+    requires way { IfSome way (λ w. IsWay (tree_on relation.now column.0) w.now) }
+    ensures ok { OnOk result (AppendsBag out.old.items out.new.items (standing (R.tables tables.now) relation.now column.0 operator.Eq value.now)) }
+    ensures err { OnErr result (out.new.items ≡ out.old.items) }
+{
+    a_relation_is_kept(relation);
+    if column.0 == 0 {
+        return row_by_key(tables, relation, way, value, out);
+    }
+    let mut probe = RangeProbe {
+        tables,
+        relation,
+        column,
+        op: Op::Eq,
+        sought: value,
+        asked: 0,
+    };
+    append_range(relation, column, way, &mut probe, out)
 }
 
 /// Appends the rows whose value in a column with a tree passes each test on it, those by `<>` aside, each once. At an error
@@ -308,7 +358,7 @@ pub fn rows_between<R: Relations>(
         tests,
         asked: 0,
     };
-    append_range(relation, column, &mut probe, out)
+    append_range(relation, column, None, &mut probe, out)
 }
 
 /// Appends the rows whose value in a column with a hash equals this value, each once. At an error nothing is appended.

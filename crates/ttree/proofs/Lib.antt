@@ -30,3 +30,4 @@ pub mod Removed
 pub mod Replacing
 pub mod Rotating
 pub mod Turning
+pub mod Neighbours

@@ -30,4 +30,4 @@ mod warming;
 pub use shape::{LEAST_ITEMS, MOST_ITEMS, TableTree, TreeShape, table_tree_shape};
 pub use tree::TTree;
 pub use ttree_node::{Look, Walk};
-pub use warming::{ABREAST, Leading};
+pub use warming::{ABREAST, Leading, Way, Ways};

@@ -5,7 +5,7 @@ use Rattle.ttree_node.specs.Look.{position}
 use Rattle.ttree_node.specs.TreeWithSpares.{TreeWithSpares}
 use Rattle.ttree.specs.Shape.{IsTTree, HasItemsInEach}
 use Rattle.ttree.proofs.Ends.{items_in_each}
-use Rattle.ttree.proofs.tree.TTree.warm.Goals as goal
+use Rattle.ttree.proofs.tree.TTree.search_many.Goals as goal
 
 pub descend_each-requires : goal.descend_each-requires
 descend_each-requires g c =
@@ -19,6 +19,22 @@ descend_each-requires g c =
         (
           subst (λ (u : Tree (Label TupleRef)). HasItemsInEach g.row.MAX u) (sym t) (items_in_each g.row.MIN g.row.MAX c.args.self.now.tree fit),
           (subst (λ (u : Tree (Label TupleRef)). All (g.L.Leading.can_read c.args.leading.now) (list u)) (sym t) c.requires, c.seek_each.ensures),
+        ),
+      ),
+    )
+
+pub descend_each-requires-2 : goal.descend_each-requires-2
+descend_each-requires-2 g c =
+    let z : Zipper (Label TupleRef) = position c.look-root.result in
+    let top : z ≡ at [] c.args.self.now.tree = c.look-root.ensures.root ∙ (λ i. at [] ((c.self.view_is i).tree)) in
+    let t : whole z ≡ c.args.self.now.tree = ap (λ (y : Zipper (Label TupleRef)). whole y) top in
+    let fit : IsTTree g.row.MIN g.row.MAX c.args.self.now.tree = subst (λ (p : TreeWithSpares). IsTTree g.row.MIN g.row.MAX p.tree) c.self.view_is c.self.invariant.fit in (
+      lit< tt,
+      (
+        lit< tt,
+        (
+          subst (λ (u : Tree (Label TupleRef)). HasItemsInEach g.row.MAX u) (sym t) (items_in_each g.row.MIN g.row.MAX c.args.self.now.tree fit),
+          (subst (λ (u : Tree (Label TupleRef)). All (g.L.Leading.can_read c.args.leading.now) (list u)) (sym t) c.requires, c.descend_each.ensures),
         ),
       ),
     )
