@@ -15,17 +15,16 @@ import unittest
 from support import growth, holding, sizes
 
 FEW = sizes.said("MMDB_ROWS", sizes.size(1_000, 100_000, 250))
-TIMES = 4
-MANY = TIMES * FEW
+MANY = 4 * FEW
+# The sizes of larger tables, of which the smallest no longer fits the caches of most machines.
+BEYOND = 4 * MANY, 16 * MANY
 # Tables whose instructions are counted: in large sizes they have fewer rows than those that are timed.
 COUNTED = (FEW // 10, MANY // 10) if sizes.is_large else (FEW, MANY)
-# The instructions of a pattern grow by this power of its rows at most, and it takes at most so many times what it takes on differing
-# values. The same holds of its time, but for what a machine's caches do: if a time is above these limits, the instructions of the same
-# tables must be within them, and the time within the next two.
+# The instructions of a pattern, and its time, grow by this power of its rows at most, and it takes at most so many times what it takes on
+# differing values. A time also grows where the smaller table fits a cache and the larger one doesn't: then it is taken again of tables that
+# both are larger, and at most once more.
 MOST_POWER = 1.3
 MOST_RATIO = 1.5
-MOST_POWER_WHILE_WAITING = 1.8
-MOST_RATIO_WHILE_WAITING = 2.5
 # A time is the least of some rounds, and a shorter one than this is taken for it.
 ROUNDS = 3
 ROUNDS_OF_FEW = 9
@@ -51,84 +50,93 @@ def tell(what):
     print(what, flush=True)
 
 
-def power(few, many):
-    """By which power of its rows a pattern grows that takes this on few of them, and that on TIMES as many."""
-    return math.log(many / few, TIMES)
+class Growing:
+    """Patterns, of which `taken` has what each takes at two numbers of rows."""
 
+    def powers(self, rows, least):
+        """By which power of its rows each pattern grows; what is less than the least counts as that."""
+        few, many = rows
+        for pattern in self.patterns:
+            grown = max(self.taken[pattern, many], least) / max(self.taken[pattern, few], least)
+            yield pattern, math.log(grown, many / few)
 
-def ratio(differing, equal):
-    return equal / differing
-
-
-def growing(rows):
-    """Each pattern at two numbers of rows."""
-    few, many = rows
-    return [((pattern, few), (pattern, many)) for pattern in growth.patterns()]
-
-
-def compared(rows):
-    """Each pattern of a hash, and before it the same on differing values."""
-    hashed = filter(growth.Pattern.is_hashed, growth.patterns())
-    return [((pattern.partner(), count), (pattern, count)) for pattern in hashed for count in rows]
+    def check_ratios(self, rows, least=0):
+        for pattern in filter(growth.Pattern.is_hashed, self.patterns):
+            for count in rows:
+                with self.subTest(pattern=str(pattern), rows=count):
+                    differing = max(self.taken[pattern.partner(), count], least)
+                    self.assertLessEqual(self.taken[pattern, count], MOST_RATIO * differing)
 
 
 @unittest.skipUnless(sizes.is_large or shutil.which("valgrind"), "valgrind is not installed")
-class Instructions(unittest.TestCase):
+class Instructions(Growing, unittest.TestCase):
     @classmethod
     def setUpClass(cls):
-        asked = [(pattern, rows) for pattern in growth.patterns() for rows in COUNTED]
+        cls.patterns = growth.patterns()
+        asked = [(pattern, rows) for pattern in cls.patterns for rows in COUNTED]
         cls.taken = dict(zip(asked, METER.instructions(pairs(asked))))
 
-    def check(self, asked, measure, limit):
-        found = {which: measure(*(self.taken[one] for one in which)) for which in asked}
-        greatest = max(found, key=found.get)
-        tell(f"{greatest[1]}: {measure.__name__} {found[greatest]:.2f}, which is the greatest")
-        for which in asked:
-            with self.subTest(pattern=str(which[1])):
-                self.assertLessEqual(found[which], limit)
-
     def test_no_pattern_grows_by_the_square(self):
-        self.check(growing(COUNTED), power, MOST_POWER)
+        pattern, power = max(self.powers(COUNTED, 0), key=lambda found: found[1])
+        tell(f"{pattern}: by the power {power:.2f} of its rows, which is the greatest, from {COUNTED[0]} to {COUNTED[1]}")
+        for pattern, power in self.powers(COUNTED, 0):
+            with self.subTest(pattern=str(pattern)):
+                self.assertLessEqual(power, MOST_POWER)
 
     def test_equal_values_take_as_long_as_differing_ones(self):
-        self.check(compared(COUNTED), ratio, MOST_RATIO)
+        self.check_ratios(COUNTED)
 
 
 @unittest.skipUnless(sizes.is_large, "times are measured in large sizes only")
-class PatternTimes(unittest.TestCase):
+class PatternTimes(Growing, unittest.TestCase):
     @classmethod
     def setUpClass(cls):
-        cls.taken = {}
-        for partner in dict.fromkeys(pattern.partner() for pattern in growth.patterns()):
-            cls.time([pattern for pattern in growth.patterns() if pattern.partner() == partner])
+        cls.patterns = growth.patterns()
+        asked = [(pattern, rows) for pattern in cls.patterns for rows in (FEW, MANY)]
+        cls.taken = cls.timed(asked)
 
     @classmethod
-    def time(cls, patterns):
-        """Times patterns that are compared with the same, which take their turns."""
-        asked = [(pattern, rows) for pattern in patterns for rows in (FEW, MANY)]
-        for one, seconds in zip(asked, METER.seconds(pairs(asked), ROUNDS)):
-            cls.taken[one] = max(seconds, LEAST)
-            tell(f"{one[0]}: {seconds:.4f} s at {one[1]} rows")
+    def timed(cls, asked):
+        """The seconds of each pattern at each number of rows. Those that are compared with the same take their turns."""
+        taken = {}
+        for partner in dict.fromkeys(pattern.partner() for pattern in cls.patterns):
+            group = [(pattern, rows) for pattern, rows in asked if pattern.partner() == partner]
+            taken.update(zip(group, METER.seconds(pairs(group), ROUNDS)))
+            for pattern, rows in group:
+                tell(f"{pattern}: {taken[pattern, rows]:.4f} s at {rows} rows")
+        return taken
 
-    def check(self, asked, measure, limit, while_waiting):
-        """Checks what is measured by time, and where that is above the limit, by instructions too."""
-        found = {which: measure(*(self.taken[one] for one in which)) for which in asked}
-        above = [which for which in asked if found[which] > limit]
-        counts = iter(METER.instructions(pairs(itertools.chain.from_iterable(above))))
-        counted = {which: measure(next(counts), next(counts)) for which in above}
-        for which in asked:
-            pattern, rows = which[1]
-            with self.subTest(pattern=str(pattern), rows=rows):
-                if which in counted:
-                    tell(f"{pattern}, {rows} rows: {measure.__name__} {found[which]:.2f} by time, {counted[which]:.2f} by instructions")
-                self.assertLessEqual(found[which], while_waiting)
-                self.assertLessEqual(counted.get(which, found[which]), limit)
+    def power_between(self, pattern, *rows):
+        """By which power a pattern grows between these two numbers of rows, by times that are taken for this."""
+        few, many = (max(seconds, LEAST) for seconds in METER.seconds(pairs([(pattern, count) for count in rows]), ROUNDS))
+        power = math.log(many / few, rows[1] / rows[0])
+        tell(f"{pattern}: from {rows[0]} to {rows[1]} rows by the power {power:.2f}")
+        return power
+
+    def counted_power(self, pattern):
+        """By which power the instructions of a pattern grow between the tables that were timed."""
+        few, many = METER.instructions(pairs([(pattern, FEW), (pattern, MANY)]))
+        power = math.log(many / few, MANY / FEW)
+        tell(f"{pattern}: by instructions, from {FEW} to {MANY} rows by the power {power:.2f}")
+        return power
+
+    def least_power(self, pattern, power):
+        """The power by which a pattern grows, or where that is too much, the one by which it grows between larger tables."""
+        tell(f"{pattern}: from {FEW} to {MANY} rows by the power {power:.2f}")
+        for rows in itertools.pairwise((MANY, *BEYOND)):
+            if power > MOST_POWER:
+                power = self.power_between(pattern, *rows)
+        return power
 
     def test_no_time_grows_by_the_square(self):
-        self.check(growing((FEW, MANY)), power, MOST_POWER, MOST_POWER_WHILE_WAITING)
+        for pattern, power in self.powers((FEW, MANY), LEAST):
+            with self.subTest(pattern=str(pattern)):
+                if power > MOST_POWER:
+                    self.assertLessEqual(self.counted_power(pattern), MOST_POWER)
+                self.assertLessEqual(self.least_power(pattern, power), MOST_POWER)
 
     def test_equal_values_take_as_long_as_differing_ones(self):
-        self.check(compared((FEW, MANY)), ratio, MOST_RATIO, MOST_RATIO_WHILE_WAITING)
+        self.check_ratios((FEW, MANY), LEAST)
 
 
 @unittest.skipUnless(sizes.is_large, "times are measured in large sizes only")
