@@ -1,4 +1,4 @@
-use Rattle.std.proofs.Common.{◌≡◌, ◌∙◌, All, List, Ordering, refl, sym, ap, subst, arith}
+use Rattle.std.proofs.Common.{◌∙◌, All, List, Ordering, refl, sym, ap, subst, arith}
 use Rattle.part_raw.specs.declared.tuple_ref.TupleRef.{TupleRef}
 use Rattle.ttree_node.specs.Tree.{whole, items_of}
 use Rattle.ttree_node.specs.Look.{position}
