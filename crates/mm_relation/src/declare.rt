@@ -64,6 +64,13 @@ impl Relation {
         self.targets[column.0].map(TableNumber)
     }
 
+    /// The number of the table that the links of each column lead into.
+    pub fn targets(&self) -> &[Option<usize>]
+        ensures { result.now ≡ self.now.targets }
+    {
+        self.targets.as_slice()
+    }
+
     /// Tells into which table the links of a column lead.
     pub fn set_target(&mut self, column: ColumnNumber, table: TableNumber)
         requires { column.0 < length self.old.targets }

@@ -1,5 +1,5 @@
-//! Searches of a tree that go side by side: of rows that are about to go, whose own searches then find all in the caches, and of values
-//! that a join looks for.
+//! Searches of a tree that go side by side. Rows that are about to go are sought so, and their own searches then find all in the caches.
+//! So are the values that a join looks for, and the keys that the rows of a load name.
 ghost use Rattle.std.specs.Prelude.{◌≡◌, ◌≢◌, ◌≤◌, ℤ, FitsSigned, All, Some, IsSome, IfSome, IfNone};
 ghost use Rattle.std.specs.FinMap as finite;
 ghost use Rattle.std.specs.declared.cmp.Ordering.{Ordering};
@@ -22,7 +22,7 @@ use crate::stored_cell::SeenCell;
 use crate::tree::Walk;
 use mm_index::Probe;
 use part_raw::TupleRef;
-use plain_tables::{ColKind, ColumnNumber, SeenValue, SoughtValue, StoredValue};
+use plain_tables::{ColKind, ColumnNumber, SeenValue, SoughtValue, StoredValue, Value};
 use ttree::{ABREAST, Leading};
 
 /// One search of a tree that went side by side with others, and sixteen of them.
@@ -191,5 +191,25 @@ impl Relation {
         a_relation_is_kept(self);
         let mut search = self.key_search(key);
         self.find_by_way(way, &mut search)
+    }
+
+    /// The rows that have these sixteen keys, searched side by side, as guesses: a look at a row's key tells whether it has that key
+    /// still. There are none if searches side by side don't pay.
+    pub fn guess_rows(&self, keys: &[i64; ABREAST]) -> Option<[Option<TupleRef>; ABREAST]> {
+        if !self.goes_abreast(ColumnNumber(0)) {
+            return None;
+        }
+        a_relation_is_kept(self);
+        let ways = self
+            .by_key
+            .search_many(&self.numbers_in(ColumnNumber(0)), keys)?;
+        let mut rows = [None; ABREAST];
+        for (place, key) in keys.iter().enumerate() {
+            let sought = Value::Int(*key);
+            if let (Some(way), Some(row)) = (ways.get(place), rows.get_mut(place)) {
+                *row = self.find_key_by_way(way, &sought.sought());
+            }
+        }
+        Some(rows)
     }
 }
