@@ -1,6 +1,6 @@
-"""In a table of 200,000 rows or more sixteen searches of a tree go side by side: of the keys, before a delete of many rows, and of a
-column of integers, in a join. What goes, what stays and what is joined is what a plain dictionary says, also where the last rows are fewer
-than sixteen.
+"""In a table of 200,000 rows or more sixteen searches of a tree go side by side. Keys are sought so before a delete of many rows, and for a
+load whose rows name some of them; integers of any column in a join. What goes, what stays, what is joined and what is named is what a plain
+dictionary says, also where the last rows are fewer than sixteen.
 """
 
 import collections
@@ -69,3 +69,24 @@ class ReadAhead(unittest.TestCase):
                 ran = harness.run_whole(stream, ["--policy", policy])
                 self.assertEqual((ran.status, ran.err), (0, b""))
                 self.assertEqual(ran.out.splitlines(), awaited)
+
+    def test_links_of_loads(self):
+        draw = random.Random(SEED)
+        keys = draw.sample(range(-HELD, HELD), HELD)
+        # Each row names two: at random, one after the other, the same ones, and none where it may.
+        rising = sorted(draw.sample(keys, 200))
+        named = [draw.choice(keys) for _ in range(500)] + rising + [keys[at // 40] for at in range(303)]
+        rows = [(at, draw.choice((b"", b"%d" % key)), key) for at, key in enumerate(named)]
+        draw.shuffle(rows)
+        block = b"id,a,b\n" + b"".join(b"%d,%s,%d\n" % row for row in rows)
+        lost = next(key for key in range(-HELD, HELD) if key not in set(keys))
+        wrong = b"id,a,b\n" + b"".join(b"%d,%s,%d\n" % (2_000 + at, a, lost if at == 777 else b) for at, a, b in sorted(rows))
+        stream = FRONT + b"table w (id int, a ref u null, b ref u)\n" + load(b"u", [(key, key) for key in keys])
+        stream += b"".join(b"load w %d\n" % len(each) + each for each in (block, wrong))
+        stream += b"select id, a, b from w\ndelete u where id = %d\ndelete w\ndelete u\n" % rising[0]
+        awaited = [b"ok"] * 3 + [b"ok %d" % HELD, b"ok %d" % len(rows), b"error 42 no referenced row (record 778)"]
+        awaited += [b"rows %d" % len(rows), b"w.id,w.a,w.b", *(b"%d,%s,%d" % row for row in sorted(rows))]
+        awaited += [b"error 44 row is referenced", b"ok %d" % len(rows), b"ok %d" % HELD]
+        ran = harness.run_whole(stream)
+        self.assertEqual((ran.status, ran.err), (0, b""))
+        self.assertEqual(ran.out.splitlines(), awaited)

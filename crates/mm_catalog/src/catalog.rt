@@ -7,13 +7,14 @@ use crate::by_key::rising_places;
 use crate::create::{aimed, any_refers_to, count_targets};
 use crate::declare::{declare, undeclare};
 use crate::delete::{delete, take_out};
+use crate::guesses::Guesses;
 use crate::insert::insert;
 use crate::laws::a_catalog_is_consistent;
 use crate::load::{LoadedRows, MovedRows, PlacedRows, in_record, make_room};
 use crate::references::link::Link;
 use crate::removal::unlink;
 use crate::renumbering::{Renumbering, renumber_from};
-use crate::row_values::{LentValues, RowValues};
+use crate::row_values::{Guided, LentValues, RowValues};
 use crate::updating::{set_rows, shed_links};
 use indexmap::IndexSet;
 use mm_relation::{DeclaredIndex, Relation, Relations, SlotSet, StoredCell, TreeShape};
@@ -226,6 +227,7 @@ impl Catalog {
     }
 
     /// Drops an index of a table. It takes no memory.
+    #[inline(never)]
     pub fn drop_index(&mut self, table: TableNumber, column: ColumnNumber, kind: IndexKind)
         requires { IsMeant self.old.limits (database_of self.old) (resolved.DropIndex table column kind) }
         ensures done { IsDone self.old self.new (resolved.DropIndex table column kind) }
@@ -411,8 +413,14 @@ impl Catalog {
         let count = rows.len();
         let start = came.len();
         make_room(came, count)?;
+        let mut guesses = Guesses::new(self.allocator());
         for _ in 0..count {
-            match self.put(table, rows.next()) {
+            guesses.look_ahead(self.relations.as_slice(), table, &rows);
+            let row = Guided {
+                values: rows.next(),
+                guesses: &guesses,
+            };
+            match self.put(table, row) {
                 Ok(r) => came.push_reserved(r),
                 Err(refusal) => {
                     self.take_back(table, &came[start..]);

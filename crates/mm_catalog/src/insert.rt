@@ -37,12 +37,14 @@ fn kept_out(relation: &Relation, cells: &[StoredCell], reason: Refusal) -> Refus
 // ---- the cells
 
 // The row that the next value of a row names, where it does not hold the value itself. These cells are those of the values
-// before it: the first of all is the key. It is refused where there is no row that it is to name.
+// before it: the first of all is the key. It is refused where there is no row that it is to name. A row may have been guessed.
+#[inline]
 fn next_named(
     before: &[Relation],
     relation: &Relation,
     cells: &[StoredCell],
     value: &Value,
+    guess: Option<TupleRef>,
 ) -> Result<Option<TupleRef>, Refusal>
     requires starts { 0 < length cells.now → StartsWithKey cells.now }
     requires width { length cells.now < length relation.now.targets }
@@ -54,7 +56,29 @@ fn next_named(
         return Ok(None);
     }
     let target = target_number(relation, ColumnNumber(cells.len()));
-    match named_row(before, target, value) {
+    if target.is_none() {
+        return Ok(None);
+    }
+    next_link(before, relation, cells, target, value, guess)
+}
+
+// The same of a value that is not the first, where its links lead to that relation.
+#[inline(never)]
+fn next_link(
+    before: &[Relation],
+    relation: &Relation,
+    cells: &[StoredCell],
+    target: Option<usize>,
+    value: &Value,
+    guess: Option<TupleRef>,
+) -> Result<Option<TupleRef>, Refusal>
+    requires starts { StartsWithKey cells.now }
+    requires target { target ≡ target_at relation.now.targets (length cells.now) }
+    requires back { (table : ℕ) → target ≡ Some table → table < length before.now }
+    ensures named { IfOk result (λ to. IsCellOf before.now target value.now (cell_for value.now to)) }
+    ensures refused { IfErr result (IsNotNamed before.now relation.now cells.now value.now) }
+{
+    match named_row(before, target, value, guess) {
         Ok(named) => Ok(named),
         Err(refusal) => Err(kept_out(relation, cells, refusal)),
     }
@@ -86,7 +110,8 @@ fn pack<V: RowValues>(
     let count = values.len();
     empty_for(cells, count)?;
     for _ in 0..count {
-        let named = next_named(before, relation, cells.as_slice(), values.next())?;
+        let guess = values.guess(cells.len());
+        let named = next_named(before, relation, cells.as_slice(), values.next(), guess)?;
         values.put(alloc, named, cells)?;
     }
     Ok(())

@@ -27,6 +27,7 @@ mod declare;
 mod delete;
 mod dropped_table;
 mod emptying;
+mod guesses;
 mod hiding;
 mod indexes;
 mod insert;

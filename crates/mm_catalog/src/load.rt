@@ -23,11 +23,23 @@ pub trait LoadedRows: Drop {
     fn len(&self) -> usize
         ensures { result ≡ length (left self.now) };
 
+    /// The integer that a row has in a column, so many rows behind the next one. It is the least of all if there is no such row or no
+    /// integer.
+    fn number(&self, ahead: usize, column: usize) -> i64;
+
     /// The next row.
     fn next(&mut self) -> Self::Row
         requires { 0 < length (left self.old) }
         ensures row { slice_get (left self.old) 0 ≡ Some (Self.Row.left result) }
         ensures rest { left self.new ≡ drop 1 (left self.old) };
+}
+
+// The integer that a row has in a column, and the least of all if there is none.
+fn number_in(row: Option<&Sequence<Value>>, column: usize) -> i64 {
+    match row.and_then(|values| values.as_slice().get(column)) {
+        Some(Value::Int(number)) => *number,
+        _ => i64::MIN,
+    }
 }
 
 /// The rows at these places, which are lent. A place at which there is none has a row without values.
@@ -44,6 +56,14 @@ impl<'a> LoadedRows for PlacedRows<'a> {
 
     fn len(&self) -> usize {
         self.places.len()
+    }
+
+    fn number(&self, ahead: usize, column: usize) -> i64 {
+        let row = self
+            .places
+            .get(ahead)
+            .and_then(|place| self.rows.get(place.1));
+        number_in(row, column)
     }
 
     fn next(&mut self) -> LentValues<'a> {
@@ -84,6 +104,10 @@ impl LoadedRows for MovedRows {
 
     fn len(&self) -> usize {
         self.rows.len().saturating_sub(self.place)
+    }
+
+    fn number(&self, ahead: usize, column: usize) -> i64 {
+        number_in(self.rows.get(self.place.saturating_add(ahead)), column)
     }
 
     fn next(&mut self) -> MovedValues {

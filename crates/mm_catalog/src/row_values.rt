@@ -3,6 +3,7 @@ ghost use Rattle.std.specs.Prelude.{◌≡◌, ◌++◌, ◌∷◌, ◌<◌, [],
 ghost use Rattle.plain_tables.specs.declared.value.Value.{Value as PlainValue};
 ghost use Rattle.mm_catalog.specs.Cells.{cell_for};
 
+use crate::guesses::Guesses;
 use crate::references::cells::{moved_cell, push_lent};
 use mm_relation::StoredCell;
 use no_memory::NoMemory;
@@ -24,6 +25,12 @@ pub trait RowValues: Drop {
     fn next(&self) -> &Value
         requires { 0 < length (left self.now) }
         ensures { slice_get (left self.now) 0 ≡ Some result.now };
+
+    /// The row that the next value, of this column, may name. It is only a guess.
+    #[inline]
+    fn guess(&self, _column: usize) -> Option<TupleRef> {
+        None
+    }
 
     /// Appends the cell of the next value, which names this row or else holds the value.
     fn put(
@@ -117,5 +124,41 @@ impl RowValues for MovedValues {
         self.place += 1;
         cells.push_reserved(moved_cell(named, value));
         Ok(())
+    }
+}
+
+/// The values of a row of a load, with the rows that they may name.
+#[derive(Drop)]
+pub struct Guided<'a, V> {
+    pub values: V,
+    pub guesses: &'a Guesses,
+}
+
+impl<'a, V: RowValues> RowValues for Guided<'a, V> {
+    ghost left = { λ g. V.left g.values };
+
+    #[inline]
+    fn len(&self) -> usize {
+        self.values.len()
+    }
+
+    #[inline]
+    fn next(&self) -> &Value {
+        self.values.next()
+    }
+
+    #[inline]
+    fn guess(&self, column: usize) -> Option<TupleRef> {
+        self.guesses.of_next(column)
+    }
+
+    #[inline]
+    fn put(
+        &mut self,
+        alloc: Global,
+        named: Option<TupleRef>,
+        cells: &mut Vec<StoredCell>,
+    ) -> Result<(), NoMemory> {
+        self.values.put(alloc, named, cells)
     }
 }

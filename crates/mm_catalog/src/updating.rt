@@ -40,7 +40,7 @@ fn pack_sets(
     sets.clear();
     for assignment in assignments {
         let target = target_number(relation, assignment.column);
-        let named = named_row(before, target, &assignment.value)?;
+        let named = named_row(before, target, &assignment.value, None)?;
         let cell = lent_cell(alloc, named, &assignment.value)?;
         push_set(sets, (assignment.column, cell))?;
     }

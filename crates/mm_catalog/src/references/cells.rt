@@ -1,5 +1,7 @@
 //! The cells of values that come into rows.
-ghost use Rattle.std.specs.Prelude.{◌≡◌, ◌++◌, ◌∷◌, ℕ, ◌<◌, [], Some, None, IfOk, IfErr, OnOk, length, vec_capacity, vec_len};
+ghost use Rattle.std.specs.Prelude.{◌≡◌, ◌≢◌, ◌++◌, ◌∷◌, ℕ, ◌<◌, [], Some, None, IfOk, IfErr, IfSome, IfNone, OnOk, length, vec_capacity, vec_len};
+ghost use Rattle.part_raw.specs.declared.tuple_ref.TupleRef.{TupleRef};
+ghost use Rattle.mm_relation.specs.Reading.{key_at};
 ghost use Rattle.mm_catalog.specs.Cells.{IsCellOf, NamesNone, cell_for};
 
 use mm_relation::{Relation, StoredCell};
@@ -19,13 +21,36 @@ fn copy_of(alloc: Global, value: &Value) -> Result<Value, NoMemory>
     }
 }
 
+// The row that was guessed, if its key is this integer.
+fn guessed_row(relation: &Relation, guess: Option<TupleRef>, value: &Value) -> Option<TupleRef>
+    ensures { IfSome result (λ r. key_at relation.now.rows r ≡ Some value.now) }
+{
+    let r = guess?;
+    match (value, relation.integer_key(r)) {
+        (Value::Int(sought), Some(key)) if *sought == key => Some(r),
+        _ => None,
+    }
+}
+
+// The row with this key, which may have been guessed.
+fn row_of_key(relation: &Relation, guess: Option<TupleRef>, key: &Value) -> Option<TupleRef>
+    ensures found { IfSome result (λ r. key_at relation.now.rows r ≡ Some key.now) }
+    ensures none { IfNone result ((r : TupleRef) → key_at relation.now.rows r ≢ Some key.now) }
+{
+    match guessed_row(relation, guess, key) {
+        Some(r) => Some(r),
+        None => relation.find_key(&key.sought()),
+    }
+}
+
 // The row that a value names in a column whose links lead into that relation, if they lead into one: the one whose key it
 // is. None where the value is held itself, which is null or in a column with no links. It is refused where there is no
-// such row.
+// such row. A row may have been guessed.
 pub fn named_row(
     before: &[Relation],
     target: Option<usize>,
     value: &Value,
+    guess: Option<TupleRef>,
 ) -> Result<Option<TupleRef>, Refusal>
     requires { (table : ℕ) → target ≡ Some table → table < length before.now }
     ensures named { IfOk result (λ to. IsCellOf before.now target value.now (cell_for value.now to)) }
@@ -37,7 +62,7 @@ pub fn named_row(
     if matches!(value, Value::Null) {
         return Ok(None);
     }
-    match before[table].find_key(&value.sought()) {
+    match row_of_key(&before[table], guess, value) {
         Some(to) => Ok(Some(to)),
         None => Err(Refusal::NoReferencedRow { record: None }),
     }
@@ -45,6 +70,7 @@ pub fn named_row(
 
 // The cell of a value that is lent and names this row, or else is held itself: then it is copied. A text of at most 14
 // bytes takes no memory.
+#[inline]
 pub fn lent_cell(
     alloc: Global,
     named: Option<TupleRef>,
@@ -52,9 +78,10 @@ pub fn lent_cell(
 ) -> Result<StoredCell, NoMemory>
     ensures { IfOk result (λ cell. cell ≡ cell_for value.now named) }
 {
-    match named {
-        Some(to) => Ok(StoredCell::link(to)),
-        None => Ok(StoredCell::held(copy_of(alloc, value)?)),
+    match (named, value) {
+        (Some(to), _) => Ok(StoredCell::link(to)),
+        (None, Value::Int(integer)) => Ok(StoredCell::held(Value::Int(*integer))),
+        (None, _) => Ok(StoredCell::held(copy_of(alloc, value)?)),
     }
 }
 

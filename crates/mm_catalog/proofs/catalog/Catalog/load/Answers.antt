@@ -1,16 +1,21 @@
-use Rattle.std.proofs.Common.{◌≡◌, ◌⊎◌, ℕ, ◌+◌, ◌-◌, ◌<◌, [], ◌∷◌, ◌++◌, List, Some, append-nil, append_assoc, length, drop, take, refl, sym, ap, ◌∙◌, subst, arith}
-use Rattle.std.specs.List.{slice_get}
+use Rattle.std.proofs.Common.{◌≡◌, ◌≢◌, ◌⊎◌, ℕ, ◌+◌, ◌-◌, ◌<◌, [], ◌∷◌, ◌++◌, List, Some, append-nil, append_assoc, length, drop, take, refl, sym, ap, ◌∙◌, subst, arith}
+use Rattle.std.specs.FinMap as finite
+use Rattle.std.specs.List.{All, AllPairs, slice_get}
+use Rattle.std.specs.Option.{IsSome}
 use Rattle.std.proofs.Math.Seq.{drop-length}
 use Rattle.std.proofs.lemmas.List.{drop-append-le, length_push}
-use Rattle.std.proofs.lemmas.Option.{slice_get_within}
+use Rattle.std.proofs.lemmas.Option.{same_Some, slice_get_within}
 use Rattle.common_lemmas.proofs.Places.{slice_get-inside}
 use Rattle.plain_tables.specs.Doing.{in_record, load}
 use Rattle.plain_tables.specs.Effects.{Refused}
 use Rattle.plain_tables.specs.declared.refusal.Refusal.{Refusal}
 use Rattle.plain_tables.specs.declared.refusal.Refusal.TheVariants.{NoMemory}
 use Rattle.part_raw.specs.declared.tuple_ref.TupleRef.{TupleRef}
-use Rattle.mm_catalog.specs.Loaded.{HasMore, HaveGone}
+use Rattle.mm_relation.specs.State.{RelationState}
+use Rattle.mm_catalog.specs.Deleted.{IsFree}
+use Rattle.mm_catalog.specs.Loaded.{AreFreeRows, HasMore, HaveGone}
 use Rattle.mm_catalog.specs.Outline.{outline_of, without_rows}
+use Rattle.mm_catalog.specs.Picked.{HoldsRows}
 use Rattle.mm_catalog.specs.Seen.{database_of}
 use Rattle.mm_catalog.specs.State.{CatalogState}
 use Rattle.mm_catalog.proofs.Among.{there_at}
@@ -21,7 +26,7 @@ use Rattle.mm_catalog.proofs.Outlined.{more_outlined}
 use Rattle.mm_catalog.proofs.TakenBack.{taken_back}
 use Rattle.mm_catalog.proofs.catalog.Catalog.load.Given.{Over}
 use Rattle.mm_catalog.proofs.catalog.Catalog.load.Goals as goal
-use Rattle.mm_catalog.proofs.catalog.Catalog.load.Goals.{After-next, After-take_back}
+use Rattle.mm_catalog.proofs.catalog.Catalog.load.Goals.{After-deref, After-next, In-Err}
 
 pub loop-init : goal.loop-init
 loop-init g c =
@@ -80,38 +85,59 @@ take_back-requires-clause-there g c =
     (slice_get_within (database_of c.loop.self) c.args.table.0 can.0 can.1)
 
 -- what came before the row that was refused, and went again
-came : (g : Over) (c : After-take_back g) → HasMore c.args.self.now c.put.new.self c.args.table.0 (drop (length c.args.came.now.items) c.loop.came.items)
+came : (g : Over) (c : In-Err g) → HasMore c.args.self.now c.put.new.self c.args.table.0 (drop (length c.args.came.now.items) c.loop.came.items)
 came g c =
     subst (λ (s : CatalogState). HasMore c.args.self.now s c.args.table.0 (drop (length c.args.came.now.items) c.loop.came.items)) (sym c.in-Err.ensures.refused.0)
     c.loop.invariant.more
 
-these : (g : Over) (c : After-take_back g) → take (length c.deref.result.now - c.len-start.result) (drop c.len-start.result c.deref.result.now) ≡ drop (length c.args.came.now.items) c.loop.came.items
+these : (g : Over) (c : After-deref g) → take (length c.deref.result.now - c.len-start.result) (drop c.len-start.result c.deref.result.now) ≡ drop (length c.args.came.now.items) c.loop.came.items
 these g c =
     let start : c.len-start.result ≡ length c.args.came.now.items = omega (arith, c.len-start.ensures, c.args.came.now.ok.0) in
     ap (λ (xs : List TupleRef). take (length xs - c.len-start.result) (drop c.len-start.result xs)) c.deref.ensures.value
     ∙ ap (λ (k : ℕ). take (length c.loop.came.items - k) (drop k c.loop.came.items)) start
     ∙ rest_whole c.loop.came.items (length c.args.came.now.items)
 
-gone : (g : Over) (c : After-take_back g) → HaveGone c.put.new.self c.take_back.new.self c.args.table.0 (drop (length c.args.came.now.items) c.loop.came.items)
-gone g c = subst (HaveGone c.put.new.self c.take_back.new.self c.args.table.0) (these g c) c.take_back.ensures.gone
+-- the catalog holds these rows, each once, and no link names them
+pub take_back-requires-clause-held : goal.take_back-requires-clause-held
+take_back-requires-clause-held g c =
+    let at = goal.at.take_back-requires-clause-held g c in
+    let more = came g at.In-Err in
+    subst (HoldsRows c.put.new.self c.args.table.0) (sym (these g at.After-deref))
+    (λ s there. subst (λ (t : RelationState). All (λ r. IsSome (finite.get t.rows r)) (drop (length c.args.came.now.items) c.loop.came.items)) (same_Some more.after s (sym more.rewritten.here ∙ there)) more.held)
+
+pub take_back-requires-clause-once : goal.take_back-requires-clause-once
+take_back-requires-clause-once g c =
+    let at = goal.at.take_back-requires-clause-once g c in
+    subst (λ (refs : List TupleRef). AllPairs (λ q r. q ≢ r) refs) (sym (these g at.After-deref)) (came g at.In-Err).once
+
+pub take_back-requires-clause-free : goal.take_back-requires-clause-free
+take_back-requires-clause-free g c =
+    let at = goal.at.take_back-requires-clause-free g c in
+    let more = came g at.In-Err in
+    subst (AreFreeRows c.put.new.self c.args.table.0) (sym (these g at.After-deref))
+    (λ s there. subst (λ (t : RelationState). All (IsFree t) (drop (length c.args.came.now.items) c.loop.came.items)) (same_Some more.after s (sym more.rewritten.here ∙ there)) more.free)
 
 pub returns-in-Err-clause-refused : goal.returns-in-Err-clause-refused
 returns-in-Err-clause-refused g c =
     let old : CatalogState = c.args.self.now in
     let rows = g.R.LoadedRows.left c.args.rows in
-    let more = came g (goal.at.returns-in-Err-clause-refused g c).After-take_back in
+    let at = goal.at.returns-in-Err-clause-refused g c in
+    let more = came g at.In-Err in
+    let gone : HaveGone c.put.new.self c.take_back.new.self c.args.table.0 (drop (length c.args.came.now.items) c.loop.came.items) =
+    subst (HaveGone c.put.new.self c.take_back.new.self c.args.table.0) (these g at.After-deref) c.take_back.ensures.gone in
     let place : c.len.result - c.len-start.result ≡ c.loop.counter = omega (arith, c.len.ensures, c.len-start.ensures, c.loop.invariant.count, c.loop.came.ok.0, c.args.came.now.ok.0) in
     let named : c.in_record.result ≡ in_record (c.loop.counter + 1) c.in-Err.refusal = c.in_record.ensures ∙ ap (λ (k : ℕ). in_record (k + 1) c.in-Err.refusal) place in (
-      taken_back old c.a_catalog_is_consistent.ensures c.put.new.self c.take_back.new.self c.args.table.0 (drop (length c.args.came.now.items) c.loop.came.items) more (gone g (goal.at.returns-in-Err-clause-refused g c).After-take_back),
+      taken_back old c.a_catalog_is_consistent.ensures c.put.new.self c.take_back.new.self c.args.table.0 (drop (length c.args.came.now.items) c.loop.came.items) more gone,
       subst (λ (e : Refusal). (e ≡ NoMemory) ⊎ ((load old.limits (database_of old) c.args.table rows).outcome ≡ Refused e)) (sym named)
-          (under_way_refused old c.loop.self c.args.table rows c.loop.counter c.loop.invariant.way _ (next g (goal.at.returns-in-Err-clause-refused g c).After-next) c.put.new.self c.in-Err.refusal c.in-Err.ensures.refused),
+          (under_way_refused old c.loop.self c.args.table rows c.loop.counter c.loop.invariant.way _ (next g at.After-next) c.put.new.self c.in-Err.refusal c.in-Err.ensures.refused),
     )
 
 pub returns-in-Err-clause-outline : goal.returns-in-Err-clause-outline
 returns-in-Err-clause-outline g c =
-    let more = came g (goal.at.returns-in-Err-clause-outline g c).After-take_back in
+    let at = goal.at.returns-in-Err-clause-outline g c in
+    let more = came g at.In-Err in
     c.take_back.ensures.outline
-    ∙ ap (λ (refs : List TupleRef). without_rows c.args.table.0 refs (outline_of c.put.new.self)) (these g (goal.at.returns-in-Err-clause-outline g c).After-take_back)
+    ∙ ap (λ (refs : List TupleRef). without_rows c.args.table.0 refs (outline_of c.put.new.self)) (these g at.After-deref)
     ∙ (more_outlined c.args.self.now c.put.new.self c.args.table.0 (drop (length c.args.came.now.items) c.loop.came.items) more).others
 
 pub returns-clause-came : goal.returns-clause-came

@@ -18,4 +18,4 @@ returns-in-None-clause-refused c =
       | in-Null w ↦ absurd (false≢true (sym c.if-matches.false ∙ w.matches-is))
       | in_default-matches w ↦ w.in_default-matches.not-Null
     ] in
-    (refl, names_none c.args.before.now c.args.target c.args.value.now table s c.in-Some.is there some (rw c.sought.ensures at c.in-None.ensures.none))
+    (refl, names_none c.args.before.now c.args.target c.args.value.now table s c.in-Some.is there some c.in-None.ensures.none)
