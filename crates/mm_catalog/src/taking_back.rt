@@ -27,6 +27,7 @@ fn forget_each(relations: &mut [Relation], tables: &[TableNumber])
 impl Catalog {
     /// Takes back the table that stands last, which is empty, where a catalog can be without it. The tables that count links
     /// since it was declared count them no longer. It takes no memory, and never fails.
+    #[inline(never)]
     pub fn take_back_table(&mut self, gained: &[TableNumber])
         requires empty { EndsInEmpty (outline_of self.old) }
         requires before_last { AreBeforeLast (map (λ n. n.0) gained.now) (outline_of self.old) }

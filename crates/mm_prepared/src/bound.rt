@@ -66,6 +66,7 @@ impl Bound {
     }
 
     /// Binds a value to the hole of a place. A text is copied. Only a text of more than 14 bytes needs memory.
+    #[inline]
     pub fn bind(&mut self, place: usize, cell: LentValue<'_>) -> Result<(), Declined>
         ensures bound { OnOk result (self.new ≡ slice_set self.old place (cell_value cell.entry)) }
         ensures within { OnOk result (place < length self.old) }
@@ -77,6 +78,22 @@ impl Bound {
         if place >= self.values.len() {
             return Err(Declined::NoSuchPlace);
         }
+        if let LentValue::Integer(number) = cell {
+            self.values[place] = Value::Int(number);
+            return Ok(());
+        }
+        self.bind_other(place, cell)
+    }
+
+    // Binds a value that is no integer to the hole of a place that there is.
+    #[inline(never)]
+    fn bind_other(&mut self, place: usize, cell: LentValue<'_>) -> Result<(), Declined>
+        requires within { place < length self.old }
+        ensures bound { OnOk result (self.new ≡ slice_set self.old place (cell_value cell.entry)) }
+        ensures declined { IfErr result (λ e. e ≡ declined.NoMemory) }
+        ensures small { IsSmall cell.entry → result ≢ Err declined.NoMemory }
+        ensures unchanged { OnErr result (self.new ≡ self.old) }
+    {
         let value = cell.to_value(*self.values.allocator())?;
         self.values[place] = value;
         Ok(())

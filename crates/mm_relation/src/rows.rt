@@ -15,7 +15,7 @@ ghost use Rattle.mm_relation.specs.Settling.{DropsHidden, HasNoneBefore};
 ghost use Rattle.mm_relation.specs.Slots.{HasNoSlot};
 
 use crate::slot_set::{SlotSet, WORD_BITS};
-use crate::stored_cell::{SeenCell, StoredCell};
+use crate::stored_cell::StoredCell;
 use no_memory::NoMemory;
 use part_raw::{MAX_TUPLES, MAX_WIDTH, Partitions, TupleRef};
 use plain_tables::{ColumnNumber, StoredValue};
@@ -246,10 +246,7 @@ impl Rows {
         requires { IsSome (finite.get self.now.tuples r) }
         ensures { key_at self.now.tuples r ≡ Some result.now }
     {
-        match self.cells(r)[0].seen() {
-            SeenCell::Held(key) => key,
-            SeenCell::Link { to: _ } => unreachable!(),
-        }
+        self.cells(r)[0].own()
     }
 
     // How many links name a row. It is read where it is asked for.

@@ -1,5 +1,6 @@
 //! What a row has in a column, as its store keeps it.
 ghost use Rattle.std.specs.Prelude.{◌≡◌, IfOk};
+ghost use Rattle.plain_tables.specs.declared.value.Value.{Value};
 ghost use Rattle.mm_relation.specs.Cells.{cell_seen};
 ghost use Rattle.mm_relation.specs.Reading.{link_of};
 ghost use Rattle.mm_relation.specs.declared.row.Cell.TheVariants.{Held, Link};
@@ -85,6 +86,15 @@ impl StoredCell {
             Some(to) => StoredCell::link(to),
             None => mem::replace(self, StoredCell::held(Value::Null)),
         }
+    }
+
+    // The value of the row's own that it holds, where it is known to be no link.
+    #[inline]
+    pub(crate) fn own(&self) -> &StoredValue
+        requires { (value : Value) × (self.now ≡ Held value) }
+        ensures { Held result.now ≡ self.now }
+    {
+        &self.value
     }
 
     // What it holds, to match on.

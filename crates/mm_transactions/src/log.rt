@@ -2,15 +2,17 @@
 ghost use Rattle.std.specs.Prelude.{Bool, true, false, ◌≡◌, ◌≢◌, ◌⊎◌, ◌+◌, ◌<◌, ◌≤◌, ◌∷◌, ◌++◌, ℕ, [], MatchOption, IfErr, OnOk, OnErr, drop, length, take, vec_capacity};
 ghost use Rattle.std.specs.List.{AllPairs};
 ghost use Rattle.part_raw.specs.declared.tuple_ref.TupleRef.{TupleRef};
+ghost use Rattle.mm_catalog.specs.DroppedTables.{CanHaveTable, with_table};
+ghost use Rattle.mm_catalog.specs.Unindexed.{CanHaveIndex, with_index_of};
 ghost use Rattle.mm_catalog.specs.Outline.{HoldsOnce, IsOutline, outline_of, without_rows};
 ghost use Rattle.mm_transactions.specs.Log.{change_of};
 ghost use Rattle.mm_transactions.specs.Undoing.{IsReady, before, keeps_tables};
 
-use crate::lodged::Lodging;
+use crate::lodged::{Lodged, Lodging};
 use crate::step::{Kind, Step, note, take_arrivals, take_newest};
-use mm_catalog::Catalog;
 use mm_catalog::laws::a_catalog_is_consistent;
-use mm_relation::{LEAST_IN_ORDER, Relations, SlotSet, StoredCell};
+use mm_catalog::{Catalog, DroppedTable};
+use mm_relation::{DroppedIndex, LEAST_IN_ORDER, Relations, SlotSet, StoredCell};
 use no_memory::NoMemory;
 use part_raw::TupleRef;
 use plain_tables::{
@@ -482,10 +484,30 @@ fn undo_step(
         Kind::Went { .. } => catalog.show(table, rows),
         Kind::Updated { width, .. } => catalog.change_back(table, rows, width, cells),
         Kind::TableDeclared { gained } => catalog.take_back_table(gained.as_slice()),
-        Kind::TableDropped { dropped } => catalog.put_table_back(dropped.take()),
+        Kind::TableDropped { dropped } => put_table_back(catalog, dropped),
         Kind::IndexDeclared { column, kind } => catalog.drop_index(table, column, kind),
-        Kind::IndexDropped { dropped } => catalog.put_index_back(table, dropped.take()),
+        Kind::IndexDropped { dropped } => put_index_back(catalog, table, dropped),
     }
+}
+
+// Puts a table that was dropped back. It stands apart, so that no other step makes room for a table where it runs.
+#[inline(never)]
+fn put_table_back(catalog: &mut Catalog, dropped: Lodged<DroppedTable>)
+    requires can { CanHaveTable (outline_of catalog.old) dropped }
+    requires stands { IsOutline (with_table dropped (outline_of catalog.old)) }
+    ensures { outline_of catalog.new ≡ with_table dropped (outline_of catalog.old) }
+{
+    catalog.put_table_back(dropped.take())
+}
+
+// Puts an index that was dropped back into a table. It stands apart for the same reason.
+#[inline(never)]
+fn put_index_back(catalog: &mut Catalog, table: TableNumber, dropped: Lodged<DroppedIndex>)
+    requires can { CanHaveIndex (outline_of catalog.old) table.0 dropped }
+    requires stands { IsOutline (with_index_of table.0 dropped (outline_of catalog.old)) }
+    ensures { outline_of catalog.new ≡ with_index_of table.0 dropped (outline_of catalog.old) }
+{
+    catalog.put_index_back(table, dropped.take())
 }
 
 // Takes the rows of a list's references, from the one at `start` on, out of a table again. It takes no memory.

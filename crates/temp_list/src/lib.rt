@@ -32,6 +32,6 @@ mod standing;
 pub use first_rows::find_first_rows;
 pub use keyed::KeySorter;
 pub use list::TempList;
-pub use only_row::find_only_row;
+pub use only_row::{find_only_row, find_row_of_key};
 pub use selecting::{find_few_rows, find_rows, find_rows_into, most_sorted, select};
 pub use standing::stands;

@@ -11,7 +11,7 @@ use crate::range_probe::RangeProbe;
 use crate::search::{passes_all, read};
 use crate::standing::passes;
 use mm_relation::laws::a_relation_is_kept;
-use mm_relation::{Relation, Relations};
+use mm_relation::{ColumnNumber, Relation, Relations};
 use part_raw::TupleRef;
 use plain_tables::{Op, Test, hash_of_sought, low_bits};
 use plan_chooser::SelectPlan;
@@ -200,4 +200,23 @@ pub fn find_only_row<R: Relations>(
         SelectPlan::Scan => only_by_scan(tables, relation, tests),
         SelectPlan::Hash(_) | SelectPlan::Tree(_) => only_by_key(tables, relation, tests, n),
     })
+}
+
+/// The row of a table that passes the one test there is, if that asks for the key and no hash on the key is the shorter way:
+/// `Some(None)` where there is none. Else None. It needs no plan, and takes no memory.
+#[inline]
+pub fn find_row_of_key<R: Relations>(
+    tables: &R,
+    relation: &Relation,
+    tests: &[Test],
+) -> Option<Option<TupleRef>>
+    requires current { IsCurrent (linked_keys relation.now.targets (R.tables tables.now)) relation.now }
+    requires columns { HasColumns relation.now tests.now }
+    ensures { IfSome result (λ row. passing (R.tables tables.now) relation.now tests.now ≡ option_to_list row) }
+{
+    if tests.len() == 1 && asks_for_key(&tests[0]) && !relation.has_hash(ColumnNumber(0)) {
+        Some(only_by_key(tables, relation, tests, 0))
+    } else {
+        None
+    }
 }

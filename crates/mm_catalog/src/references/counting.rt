@@ -42,6 +42,9 @@ pub fn count_up_links(before: &mut [Relation], relation: &Relation, r: TupleRef)
     requires room { HaveRoom before.old (length relation.now.targets) }
     ensures { (row : Row) → finite.get relation.now.rows r ≡ Some row → AreCountedBy before.old before.new (naming (row_links relation.now.targets row)) none }
 {
+    if before.is_empty() {
+        return;
+    }
     a_relation_is_kept(relation);
     let row = relation.row(r);
     for column in 0..relation.schema().columns.len() {
@@ -59,6 +62,9 @@ pub fn count_down_links(before: &mut [Relation], relation: &Relation, r: TupleRe
     requires enough { (row : Row) → finite.get relation.now.rows r ≡ Some row → HaveAtLeast before.old (naming (row_links relation.now.targets row)) }
     ensures { (row : Row) → finite.get relation.now.rows r ≡ Some row → AreCountedBy before.old before.new none (naming (row_links relation.now.targets row)) }
 {
+    if before.is_empty() {
+        return;
+    }
     a_relation_is_kept(relation);
     let row = relation.row(r);
     for column in 0..relation.schema().columns.len() {

@@ -15,7 +15,7 @@ use plain_tables::{TableNumber, Test};
 use plan_chooser::{Policy, choose_select};
 use smallvec::SmallVec;
 use std::alloc::Global;
-use temp_list::{find_only_row, find_rows};
+use temp_list::{find_only_row, find_row_of_key, find_rows};
 
 /// Rows that a change is about. One takes no memory.
 pub type FoundRows = SmallVec<TupleRef, 1>;
@@ -45,6 +45,11 @@ pub fn rows_passing(
 {
     a_catalog_is_consistent(catalog);
     let relation = catalog.at(table);
+    if !matches!(policy, Policy::Scan)
+        && let Some(row) = find_row_of_key(catalog, relation, tests)
+    {
+        return Ok(one_row(alloc, row));
+    }
     let plan = choose_select(policy, relation, tests);
     if let Some(row) = find_only_row(catalog, relation, plan, tests) {
         return Ok(one_row(alloc, row));

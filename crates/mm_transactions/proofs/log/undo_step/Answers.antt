@@ -48,7 +48,7 @@ take_back_table-requires-clause-stands c =
 
 pub put_table_back-requires-clause-can : goal.put_table_back-requires-clause-can
 put_table_back-requires-clause-can c =
-    rw c.take.ensures (subst (λ k. IsReady (change_of k c.args.table.0 c.args.rows.now c.args.cells.now) (outline_of c.args.catalog.now)) c.in-TableDropped.is c.requires.ready)
+    subst (λ k. IsReady (change_of k c.args.table.0 c.args.rows.now c.args.cells.now) (outline_of c.args.catalog.now)) c.in-TableDropped.is c.requires.ready
 
 pub drop_index-requires : goal.drop_index-requires
 drop_index-requires c =

@@ -14,15 +14,25 @@ at-relation-requires c = there_at c.args.catalog.now c.a_catalog_is_consistent.e
 pub find_only_row-requires-clause-current : goal.find_only_row-requires-clause-current
 find_only_row-requires-clause-current c = (among_at c.args.catalog.now c.a_catalog_is_consistent.ensures c.args.table.0 c.at-relation.result.now c.at-relation.ensures).current
 
+pub find_row_of_key-requires-clause-columns : goal.find_row_of_key-requires-clause-columns
+find_row_of_key-requires-clause-columns c =
+    test_columns c.args.catalog.now c.a_catalog_is_consistent.ensures c.args.table.0 c.requires.0 c.requires.1 c.args.tests.now c.requires.2 c.at-relation.result.now c.at-relation.ensures
+
+pub returns-clause-passing : goal.returns-clause-passing
+returns-clause-passing c =
+    are_passing c.args.catalog.now c.a_catalog_is_consistent.ensures c.args.table.0 c.requires.0 c.requires.1 c.args.tests.now c.at-relation.result.now c.at-relation.ensures
+    (test_columns c.args.catalog.now c.a_catalog_is_consistent.ensures c.args.table.0 c.requires.0 c.requires.1 c.args.tests.now c.requires.2 c.at-relation.result.now c.at-relation.ensures)
+    c.one_row.result.items (IsSameBag-from_same c.one_row.result.items (passing c.args.catalog.now.relations c.at-relation.result.now c.args.tests.now) (c.one_row.ensures ∙ sym c.in-Some.ensures))
+
 pub find_only_row-requires-clause-columns : goal.find_only_row-requires-clause-columns
 find_only_row-requires-clause-columns c =
     test_columns c.args.catalog.now c.a_catalog_is_consistent.ensures c.args.table.0 c.requires.0 c.requires.1 c.args.tests.now c.requires.2 c.at-relation.result.now c.at-relation.ensures
 
-pub returns-in-Some-clause-passing : goal.returns-in-Some-clause-passing
-returns-in-Some-clause-passing c =
+pub returns-in-Some-find_only_row-clause-passing : goal.returns-in-Some-find_only_row-clause-passing
+returns-in-Some-find_only_row-clause-passing c =
     are_passing c.args.catalog.now c.a_catalog_is_consistent.ensures c.args.table.0 c.requires.0 c.requires.1 c.args.tests.now c.at-relation.result.now c.at-relation.ensures
     (test_columns c.args.catalog.now c.a_catalog_is_consistent.ensures c.args.table.0 c.requires.0 c.requires.1 c.args.tests.now c.requires.2 c.at-relation.result.now c.at-relation.ensures)
-    c.one_row.result.items (IsSameBag-from_same c.one_row.result.items (passing c.args.catalog.now.relations c.at-relation.result.now c.args.tests.now) (c.one_row.ensures ∙ sym c.in-Some.ensures.only))
+    c.one_row-in-Some-find_only_row.result.items (IsSameBag-from_same c.one_row-in-Some-find_only_row.result.items (passing c.args.catalog.now.relations c.at-relation.result.now c.args.tests.now) (c.one_row-in-Some-find_only_row.ensures ∙ sym c.in-Some-find_only_row.ensures.only))
 
 pub find_rows-requires-clause-there : goal.find_rows-requires-clause-there
 find_rows-requires-clause-there c = there_at c.args.catalog.now c.a_catalog_is_consistent.ensures c.args.table.0 c.requires.0 c.requires.1
@@ -30,8 +40,8 @@ find_rows-requires-clause-there c = there_at c.args.catalog.now c.a_catalog_is_c
 pub find_rows-requires-clause-columns : goal.find_rows-requires-clause-columns
 find_rows-requires-clause-columns c = test_columns c.args.catalog.now c.a_catalog_is_consistent.ensures c.args.table.0 c.requires.0 c.requires.1 c.args.tests.now c.requires.2
 
-pub returns-clause-passing : goal.returns-clause-passing
-returns-clause-passing c =
+pub returns-2-clause-passing : goal.returns-2-clause-passing
+returns-2-clause-passing c =
     let s = c.at-relation.result.now in
     are_passing c.args.catalog.now c.a_catalog_is_consistent.ensures c.args.table.0 c.requires.0 c.requires.1 c.args.tests.now s c.at-relation.ensures
     (test_columns c.args.catalog.now c.a_catalog_is_consistent.ensures c.args.table.0 c.requires.0 c.requires.1 c.args.tests.now c.requires.2 s c.at-relation.ensures)
