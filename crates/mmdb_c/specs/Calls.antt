@@ -1,12 +1,9 @@
--- What the calls of C do with a handle, in the words of the session's calls.
-use Rattle.std.specs.Prelude.{◌≡◌, ◌<◌, ◌≤◌, ℕ, List, [], false, IsTrue, Option, Some, None}
-use Rattle.plain_streams.specs.Requests.{Request}
-use Rattle.mm_session.specs.IndexAnswers.{AnswersIndexes}
-use Rattle.mm_session.specs.OneRequest.{AnswersOne, StaysInStream, GoesBetween}
-use Rattle.mm_session.specs.Sessions.{Feeds, BreaksOff, new_session}
-use Rattle.plain_tables.specs.declared.command.Limits.{Limits}
-use Rattle.mm_statements.specs.Databases.{SameStatements, statement_at}
-use Rattle.mmdb_c.specs.declared.database.OpenDatabase.{OpenDatabase}
+-- What the calls of C do with handles, in the words of what is done with the database that a handle owns.
+use Rattle.std.specs.Prelude.{◌<◌, ◌≤◌, ℕ, List, Option, Some, None}
+use Rattle.mm_session.specs.Restoring.{TakesIn}
+use Rattle.mm_database.specs.Sharing.{OpensOn, Shares}
+use Rattle.mm_database.specs.declared.database.OpenDatabase.{OpenDatabase}
+use Rattle.mm_database.specs.declared.restoring.OpenRestore.{OpenRestore}
 
 -- the limits that a database may have
 pub record AreLimits (rows block : ℕ) : Type 0 where
@@ -14,70 +11,20 @@ pub record AreLimits (rows block : ℕ) : Type 0 where
   pub rows_fit : rows ≤ 16777216
   pub block_fits : block ≤ 16777216
 
--- a database with no tables and no statements, under these limits, that shares nothing and to which no call has answered
-pub record IsNew (limits : Limits) (d : OpenDatabase) : Type 0 where
-  pub session : d.inner.session ≡ new_session limits [] d.inner.session.catalog
-  pub none : (number : ℕ) → statement_at d.inner number ≡ None
-  pub alone : d.inner.shared ≡ false
-  pub answer : d.answer ≡ []
-  pub reason : d.reason ≡ []
-
--- the request of a line and a block
-abbrev pub request : List ℕ → List ℕ → Request
-request line block = record { line = line; block = block }
-
 -- The handle was open and is, and this holds of the database before and after.
 abbrev pub Becomes : Option OpenDatabase → Option OpenDatabase → (OpenDatabase → OpenDatabase → Type 0) → Type 0
 Becomes (Some old) (Some new) says = says old new
 Becomes (Some old) None says = ⊥
 Becomes None new says = ⊥
 
--- The answer is empty.
-abbrev pub IsSilent : OpenDatabase → Type 0
-IsSilent d = d.answer ≡ []
+-- The handle is open and has the tables of the other. Where it was open before, the rest stays.
+abbrev pub Joins : OpenDatabase → Option OpenDatabase → Option OpenDatabase → Type 0
+Joins other (Some old) (Some new) = Shares other old new
+Joins other None (Some new) = OpensOn other new
+Joins other old None = ⊥
 
--- What each statement and the line last queried have shown, and the columns last asked for, lie where they lay, and are what they were.
-pub record KeepsRows (old new : OpenDatabase) : Type 0 where
-  pub shown : new.shown ≡ old.shown
-  pub queried : new.queried ≡ old.queried
-  pub columns : new.columns ≡ old.columns
-
--- The session answered the request beside its stream, and the answer is kept.
-pub record AnswersRequest (asked : Request) (old new : OpenDatabase) : Type 0 where
-  pub answers : AnswersOne old.inner.session.limits old.inner.session.database asked new.answer new.inner.session.database
-  pub stays : StaysInStream old.inner.session new.inner.session
-  pub between : GoesBetween old.inner.session new.inner.session asked new.answer
-  pub shared : new.inner.shared ≡ old.inner.shared
-  pub statements : SameStatements old.inner new.inner
-  pub rows : KeepsRows old new
-
--- How the indexes of the table of that name stand is kept as the answer, and nothing else changed.
-pub record TellsIndexes (name : List ℕ) (old new : OpenDatabase) : Type 0 where
-  pub inner : new.inner ≡ old.inner
-  pub answer : AnswersIndexes old.inner.session.catalog name new.answer
-  pub rows : KeepsRows old new
-  pub reason : new.reason ≡ old.reason
-
--- The session took the piece, and the answers that it gained are kept.
-pub record TakesPiece (piece : List ℕ) (old new : OpenDatabase) : Type 0 where
-  pub feeds : Feeds old.inner.session new.inner.session piece new.answer
-  pub shared : new.inner.shared ≡ old.inner.shared
-  pub statements : SameStatements old.inner new.inner
-  pub rows : KeepsRows old new
-
--- The answers to the piece broke off, what was gained of them is kept, the tables are those of the requests that they answer, and
--- the stream is over.
-pub record LosesStream (piece : List ℕ) (old new : OpenDatabase) : Type 0 where
-  pub breaks_off : BreaksOff old.inner.session new.inner.session piece false new.answer
-  pub over : IsTrue new.inner.session.ended
-  pub limits : new.inner.session.limits ≡ old.inner.session.limits
-  pub saved : new.inner.session.saved ≡ old.inner.session.saved
-  pub shared : new.inner.shared ≡ old.inner.shared
-  pub statements : SameStatements old.inner new.inner
-  pub rows : KeepsRows old new
-
--- The session, its statements, all rows and the answers are as they were.
-pub record IsAsBefore (old new : OpenDatabase) : Type 0 where
-  pub inner : new.inner ≡ old.inner
-  pub rows : KeepsRows old new
-  pub answer : new.answer ≡ old.answer
+-- The restore was open and is, and took in the piece.
+abbrev pub HasTakenIn : List ℕ → Option OpenRestore → Option OpenRestore → Type 0
+HasTakenIn piece (Some old) (Some new) = TakesIn old.inner.session new.inner.session piece
+HasTakenIn piece (Some old) None = ⊥
+HasTakenIn piece None new = ⊥

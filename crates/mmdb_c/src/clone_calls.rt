@@ -1,13 +1,13 @@
 //! The call that copies a database.
 
 ghost use Rattle.std.specs.Prelude.{◌≡◌, ◌≢◌, ◌↔◌, ◌⊎◌, Err, IfOk, IsErrOf, IsNone, IsSome, IsSomeAnd};
-ghost use Rattle.mmdb_c.specs.Cloning.{IsCopyOf};
-ghost use Rattle.mmdb_c.specs.Transacting.{IsInTransaction};
+ghost use Rattle.mm_database.specs.Cloning.{IsCopyOf};
+ghost use Rattle.mm_database.specs.Transacting.{IsInTransaction};
 ghost use Rattle.mm_statements.specs.declared.faults.ShareFault.TheVariants as share_fault;
 
-use crate::database::OpenDatabase;
 use crate::handle::Handle;
 use crate::{DONE, IN_TRANSACTION, IS_OPEN, NO_MEMORY, NOT_OPEN};
+use mm_database::OpenDatabase;
 use mm_statements::ShareFault;
 use std::alloc::Global;
 

@@ -1,14 +1,15 @@
 //! The call that counts the rows of a select.
 
 ghost use Rattle.std.specs.Prelude.{◌≡◌, ◌≢◌, ◌↔◌, ◌⊎◌, IsNone, IsSome, IsSomeAnd};
-ghost use Rattle.mmdb_c.specs.Calls.{Becomes, IsSilent};
-ghost use Rattle.mmdb_c.specs.Counting.{CountsRows, IsUncounted, OnlyCounts, ShowsTooMany};
-ghost use Rattle.mmdb_c.specs.Interrupts.{IsSelect};
-ghost use Rattle.mmdb_c.specs.StatementCalls.{IsMissing};
+ghost use Rattle.mm_database.specs.Calls.{IsSilent};
+ghost use Rattle.mmdb_c.specs.Calls.{Becomes};
+ghost use Rattle.mm_database.specs.Counting.{CountsRows, IsUncounted, OnlyCounts, ShowsTooMany};
+ghost use Rattle.mm_database.specs.Interrupts.{IsSelect};
+ghost use Rattle.mm_database.specs.StatementCalls.{IsMissing};
 
 use crate::handle::Handle;
-use crate::statements::Unexecuted;
 use crate::{DONE, INTERRUPTED, NO_SUCH_STATEMENT, NOT_OPEN, REFUSED, TOO_LARGE};
+use mm_database::Unexecuted;
 use std::alloc::Global;
 
 /// Tells how many rows the select of a statement shows with the values that are bound. They are counted, and none is told.

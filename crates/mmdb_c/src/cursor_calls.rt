@@ -3,21 +3,21 @@
 ghost use Rattle.std.specs.Prelude.{◌≡◌, ◌≢◌, ◌↔◌, ◌⊎◌, IsNone, IsSome, IsSomeAnd, None};
 ghost use Rattle.mm_cells.specs.Reading.{AreFull};
 ghost use Rattle.mm_cells.specs.Values.{values_of};
-ghost use Rattle.mmdb_c.specs.Calls.{Becomes, IsSilent};
-ghost use Rattle.mmdb_c.specs.Cursors.{IsUnopened, MayShare, OpensCursor, ReadsRows};
-ghost use Rattle.mmdb_c.specs.Interrupts.{IsSelect};
-ghost use Rattle.mmdb_c.specs.StatementCalls.{IsMissing};
-ghost use Rattle.mmdb_c.specs.Transacting.{IsInTransaction};
+ghost use Rattle.mm_database.specs.Calls.{IsSilent};
+ghost use Rattle.mmdb_c.specs.Calls.{Becomes};
+ghost use Rattle.mm_database.specs.Cursors.{IsUnopened, MayShare, OpensCursor, ReadsRows};
+ghost use Rattle.mm_database.specs.Interrupts.{IsSelect};
+ghost use Rattle.mm_database.specs.StatementCalls.{IsMissing};
+ghost use Rattle.mm_database.specs.Transacting.{IsInTransaction};
 
 use crate::cursor_handle::CursorHandle;
-use crate::cursors::Unopened;
 use crate::handle::Handle;
-use crate::rows::Rows;
 use crate::{
     DONE, IN_TRANSACTION, INTERRUPTED, IS_OPEN, NO_MEMORY, NO_SUCH_STATEMENT, NOT_OPEN, REFUSED,
     TOO_LARGE,
 };
 use mm_cells::CellFault;
+use mm_database::{Rows, Unopened};
 use std::alloc::Global;
 
 /// Opens a cursor on the rows that the select of a statement shows with the values that are bound. They are found now, and the tables stay

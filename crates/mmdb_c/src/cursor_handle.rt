@@ -5,11 +5,11 @@ ghost use Rattle.std.specs.Option.{MatchOption};
 ghost use Rattle.std.specs.declared.option.Option.{Option};
 ghost use Rattle.std.specs.declared.option.Option.TheVariants.{None, Some};
 ghost use Rattle.std.specs.Coded.{coded_option};
-ghost use Rattle.mmdb_c.specs.declared.cursors.OpenCursor.{OpenCursor};
-ghost use Rattle.mmdb_c.specs.contracts.cursors.OpenCursor as held;
+ghost use Rattle.mm_database.specs.declared.cursors.OpenCursor.{OpenCursor};
+ghost use Rattle.mm_database.specs.contracts.cursors.OpenCursor as held;
 ghost use Rattle.raw_handle.specs.Holds.{holds};
 
-use crate::cursors::OpenCursor;
+use mm_database::OpenCursor;
 use raw_handle::RawHandle;
 use std::alloc::Global;
 use std::marker::Model;

@@ -2,15 +2,15 @@
 
 ghost use Rattle.std.specs.Prelude.{◌≡◌, ◌≢◌, ◌↔◌, ◌⊎◌, IsNone, IsSome, IsSomeAnd};
 ghost use Rattle.mm_cells.specs.Reading.{AreFull};
-ghost use Rattle.mmdb_c.specs.Calls.{Becomes, IsSilent};
-ghost use Rattle.mmdb_c.specs.First.{IsUnshown, ShowsFirst};
-ghost use Rattle.mmdb_c.specs.Interrupts.{IsSelect};
-ghost use Rattle.mmdb_c.specs.StatementCalls.{IsMissing, KeepsAll, KeepsOthers, shown_by};
+ghost use Rattle.mm_database.specs.Calls.{IsSilent};
+ghost use Rattle.mmdb_c.specs.Calls.{Becomes};
+ghost use Rattle.mm_database.specs.First.{IsUnshown, ShowsFirst};
+ghost use Rattle.mm_database.specs.Interrupts.{IsSelect};
+ghost use Rattle.mm_database.specs.StatementCalls.{IsMissing, KeepsAll, KeepsOthers, shown_by};
 
 use crate::handle::Handle;
-use crate::rows::Rows;
-use crate::statements::Unexecuted;
 use crate::{DONE, INTERRUPTED, NO_SUCH_STATEMENT, NOT_OPEN, REFUSED, TOO_LARGE};
+use mm_database::{Rows, Unexecuted};
 use std::alloc::Global;
 
 /// Tells the first rows that the select of a statement shows with the values that are bound, so many at most.

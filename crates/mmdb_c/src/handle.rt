@@ -5,11 +5,11 @@ ghost use Rattle.std.specs.Option.{MatchOption};
 ghost use Rattle.std.specs.declared.option.Option.{Option};
 ghost use Rattle.std.specs.declared.option.Option.TheVariants.{None, Some};
 ghost use Rattle.std.specs.Coded.{coded_option};
-ghost use Rattle.mmdb_c.specs.declared.database.OpenDatabase.{OpenDatabase};
-ghost use Rattle.mmdb_c.specs.contracts.database.OpenDatabase as held;
+ghost use Rattle.mm_database.specs.declared.database.OpenDatabase.{OpenDatabase};
+ghost use Rattle.mm_database.specs.contracts.database.OpenDatabase as held;
 ghost use Rattle.raw_handle.specs.Holds.{holds};
 
-use crate::database::OpenDatabase;
+use mm_database::OpenDatabase;
 use raw_handle::RawHandle;
 use std::alloc::Global;
 use std::marker::Model;

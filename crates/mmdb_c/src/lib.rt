@@ -1,7 +1,7 @@
 //! mmdb for C: handles, and the calls on them.
 //!
-//! A handle owns a database: a session with statements, the answers to the last call, and what each statement has shown. Each call takes
-//! the database out of the handle, does what the call of the session or the statements does, and puts it back. The header that C reads is `include/mmdb.h`.
+//! A handle owns a database of mm_database. Each call takes it out of the handle, has it do what the call is for, puts it back, and tells
+//! by a status what came of it. The header that C reads is `include/mmdb.h`.
 //!
 //! - A handle that is closed owns nothing, and a call on it does nothing.
 //! - A handle may go from thread to thread: `Send` is proved of it.
@@ -17,46 +17,31 @@ ghost use Rattle.std.specs.Prelude.{◌≡◌, ◌≢◌, ◌↔◌, ◌<◌, �
 ghost use Rattle.std.specs.Vec.{vec_ptr, vec_len};
 ghost use Rattle.plain_streams.specs.Division.{IsWhole};
 ghost use Rattle.mm_session.specs.Refused.{TellsRefusal};
-ghost use Rattle.mmdb_c.specs.Calls.{AreLimits, IsNew, request, Becomes, AnswersRequest, TellsIndexes, TakesPiece, LosesStream, IsAsBefore};
-ghost use Rattle.mmdb_c.specs.Sharing.{IsRequestKeptOff, IsShared, LosesAnswer};
+ghost use Rattle.mm_database.specs.Calls.{IsNew, request, AnswersRequest, TellsIndexes, TakesPiece, LosesStream, IsAsBefore};
+ghost use Rattle.mm_database.specs.Sharing.{IsRequestKeptOff, IsShared, LosesAnswer};
+ghost use Rattle.mmdb_c.specs.Calls.{AreLimits, Becomes};
 
 pub mod clone_calls;
-mod cloning;
 pub mod count_calls;
-mod counts;
 pub mod cursor_calls;
 mod cursor_handle;
-mod cursors;
-mod database;
 pub mod first_calls;
-mod firsts;
-mod given;
 mod handle;
 pub mod interrupter_calls;
 mod interrupter_handle;
-mod many;
 pub mod many_calls;
 pub mod plan_calls;
-mod plans;
 pub mod reason_calls;
-mod reasons;
 pub mod restore_calls;
 mod restore_handle;
-mod restoring;
-mod rows;
 pub mod save_calls;
-mod saves;
-mod sharing;
 pub mod sharing_calls;
 pub mod statement_calls;
-mod statements;
 pub mod transaction_calls;
-mod transactions;
 pub mod version_calls;
-mod versions;
 
-use crate::database::OpenDatabase;
 use crate::handle::Handle;
+use mm_database::OpenDatabase;
 use mm_statements::{RequestFault, StreamFault};
 use no_memory::NoMemory;
 use plain_tables::{LONGEST_BLOCK, Limits, MOST_ROWS};

@@ -3,15 +3,15 @@
 ghost use Rattle.std.specs.Prelude.{◌≡◌, ◌≢◌, ◌↔◌, ◌⊎◌, IsNone, IsSome, IsSomeAnd};
 ghost use Rattle.std.specs.List.{All};
 ghost use Rattle.mmdb_c.specs.Calls.{Becomes};
-ghost use Rattle.mmdb_c.specs.Given.{IsWritten};
-ghost use Rattle.mmdb_c.specs.Many.{AreNoRowsFor, ExecutesMany, IsRefusedMany, KeepsAllTables, StaysBeside};
-ghost use Rattle.mmdb_c.specs.Sharing.{IsShared};
-ghost use Rattle.mmdb_c.specs.StatementCalls.{IsMissing};
+ghost use Rattle.mm_database.specs.Given.{IsWritten};
+ghost use Rattle.mm_database.specs.Many.{AreNoRowsFor, ExecutesMany, IsRefusedMany, KeepsAllTables, StaysBeside};
+ghost use Rattle.mm_database.specs.Sharing.{IsShared};
+ghost use Rattle.mm_database.specs.StatementCalls.{IsMissing};
 
 use crate::handle::Handle;
-use crate::many::UnexecutedMany;
 use crate::{DONE, NO_SUCH_STATEMENT, NOT_OPEN, NOT_ROWS, NOT_UTF8, REFUSED, SHARED, TOO_LARGE};
 use mm_cells::ResultCell;
+use mm_database::UnexecutedMany;
 use std::alloc::Global;
 
 /// Does what a statement does with each of the rows of values that cells are, all of them or none, and tells how many rows of tables were

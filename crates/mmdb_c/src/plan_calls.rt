@@ -2,7 +2,7 @@
 
 ghost use Rattle.std.specs.Prelude.{◌≡◌, ◌≢◌, ◌↔◌, ◌⊎◌, [], IsNone, IsSome, IsSomeAnd, length};
 ghost use Rattle.mmdb_c.specs.Calls.{Becomes};
-ghost use Rattle.mmdb_c.specs.Planning.{IsUnplanned, TellsPlan};
+ghost use Rattle.mm_database.specs.Planning.{IsUnplanned, TellsPlan};
 
 use crate::handle::Handle;
 use crate::{Bytes, DONE, NO_LINE, NOT_OPEN, REFUSED, tell};

@@ -1,12 +1,13 @@
 //! The calls that tell why a statement was refused, and why a line is none.
 
 ghost use Rattle.std.specs.Prelude.{◌≡◌, ◌≢◌, ◌↔◌, ◌⊎◌, [], IsNone, IsSome, IsSomeAnd, length};
-ghost use Rattle.mmdb_c.specs.Calls.{Becomes, IsAsBefore};
-ghost use Rattle.mmdb_c.specs.StatementCalls.{IsMissing};
+ghost use Rattle.mm_database.specs.Calls.{IsAsBefore};
+ghost use Rattle.mmdb_c.specs.Calls.{Becomes};
+ghost use Rattle.mm_database.specs.StatementCalls.{IsMissing};
 
 use crate::handle::Handle;
-use crate::reasons::Unexplained;
 use crate::{Bytes, DONE, NO_LINE, NO_MEMORY, NO_SUCH_STATEMENT, NOT_OPEN, tell};
+use mm_database::Unexplained;
 use std::alloc::Global;
 
 /// Tells why a line was refused, when it was to be prepared, by the refusal that the answers to the last call begin with, in words

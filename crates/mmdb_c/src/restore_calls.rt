@@ -2,17 +2,16 @@
 
 ghost use Rattle.std.specs.Prelude.{◌≡◌, ◌≢◌, ◌↔◌, ◌⊎◌, ◌<◌, ◌≤◌, IfErr, IfOk, IsNone, IsSome, IsSomeAnd, IsTrue, None, false, length};
 ghost use Rattle.mm_session.specs.Restoring.{TellsSome, goes_on_first};
-ghost use Rattle.mmdb_c.specs.Calls.{AreLimits};
-ghost use Rattle.mmdb_c.specs.Restoring.{HasTakenIn, IsAtStart, IsRestoredOf};
+ghost use Rattle.mm_database.specs.Restoring.{IsAtStart, IsRestoredOf};
+ghost use Rattle.mmdb_c.specs.Calls.{AreLimits, HasTakenIn};
 
-use crate::database::OpenDatabase;
 use crate::handle::Handle;
 use crate::restore_handle::RestoreHandle;
-use crate::restoring::OpenRestore;
 use crate::{
     Bytes, DONE, IS_OPEN, LIMIT_OUT_OF_RANGE, NO_MEMORY, NO_SUCH_POLICY, NOT_A_DUMP, NOT_OPEN,
     REFUSED, new_database, tell,
 };
+use mm_database::{OpenDatabase, OpenRestore};
 use mm_session::RestoreFault;
 use mm_statements::Database;
 use plain_tables::{LONGEST_BLOCK, Limits, MOST_ROWS};

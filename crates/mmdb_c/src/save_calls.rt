@@ -2,12 +2,12 @@
 
 ghost use Rattle.std.specs.Prelude.{◌≡◌, ◌≢◌, ◌↔◌, ◌⊎◌, IsNone, IsSome, IsSomeAnd, length};
 ghost use Rattle.mmdb_c.specs.Calls.{Becomes};
-ghost use Rattle.mmdb_c.specs.Planning.{OnlyAnswers};
-ghost use Rattle.mmdb_c.specs.Saving.{IsUnsaved, MakesPiece};
+ghost use Rattle.mm_database.specs.Planning.{OnlyAnswers};
+ghost use Rattle.mm_database.specs.Saving.{IsUnsaved, MakesPiece};
 
 use crate::handle::Handle;
-use crate::saves::{SaveMark, Unsaved};
 use crate::{Bytes, CHANGED, DONE, NO_MEMORY, NOT_OPEN, REFUSED, tell};
+use mm_database::{SaveMark, Unsaved};
 use std::alloc::Global;
 
 /// Makes the next piece of a dump of all tables, and tells where it lies. The mark goes on.

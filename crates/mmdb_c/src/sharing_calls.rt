@@ -1,14 +1,14 @@
 //! The calls by which handles share tables.
 
 ghost use Rattle.std.specs.Prelude.{◌≡◌, ◌≢◌, ◌↔◌, ◌⊎◌, Err, false, IfOk, IsErrOf, IsNone, IsOk, IsSome, IsSomeAnd, OnErr, OnOk};
-ghost use Rattle.mmdb_c.specs.Calls.{Becomes};
+ghost use Rattle.mmdb_c.specs.Calls.{Becomes, Joins};
 ghost use Rattle.mm_statements.specs.declared.faults.ShareFault.TheVariants as share_fault;
-ghost use Rattle.mmdb_c.specs.Transacting.{IsInTransaction};
-ghost use Rattle.mmdb_c.specs.Sharing.{IsShared, Joins, Leaves, OpensOn, SharesMore};
+ghost use Rattle.mm_database.specs.Transacting.{IsInTransaction};
+ghost use Rattle.mm_database.specs.Sharing.{IsShared, Leaves, OpensOn, SharesMore};
 
-use crate::database::OpenDatabase;
 use crate::handle::Handle;
 use crate::{DONE, IN_TRANSACTION, NO_MEMORY, NOT_OPEN};
+use mm_database::OpenDatabase;
 use mm_statements::ShareFault;
 use std::alloc::Global;
 

@@ -7,18 +7,18 @@ ghost use Rattle.mm_cells.specs.Reading.{AreFull};
 ghost use Rattle.mm_cells.specs.Values.{values_of};
 ghost use Rattle.mm_prepared.specs.Cells.{IsSmall, cell_value};
 ghost use Rattle.mm_statements.specs.declared.database.Executed.TheVariants as gives;
-ghost use Rattle.mmdb_c.specs.Calls.{Becomes, IsSilent};
-ghost use Rattle.mmdb_c.specs.StatementCalls.{Prepares, IsUnprepared, KeepsAll, KeepsEach, KeepsOthers, KeepsShown, KeepsStatements, IsMissing, IsPast, Binds, Finalizes, Executes, IsUnexecuted, IsUntold, KeepsColumns, Tells, Queries, IsUnqueried, shown_by};
-ghost use Rattle.mmdb_c.specs.Interrupts.{IsLineSelect, IsSelect};
-ghost use Rattle.mmdb_c.specs.Sharing.{IsKeptOff, IsLineKeptOff};
+ghost use Rattle.mm_database.specs.Calls.{IsSilent};
+ghost use Rattle.mmdb_c.specs.Calls.{Becomes};
+ghost use Rattle.mm_database.specs.StatementCalls.{Prepares, IsUnprepared, KeepsAll, KeepsEach, KeepsOthers, KeepsShown, KeepsStatements, IsMissing, IsPast, Binds, Finalizes, Executes, IsUnexecuted, IsUntold, KeepsColumns, Tells, Queries, IsUnqueried, shown_by};
+ghost use Rattle.mm_database.specs.Interrupts.{IsLineSelect, IsSelect};
+ghost use Rattle.mm_database.specs.Sharing.{IsKeptOff, IsLineKeptOff};
 
 use crate::handle::Handle;
-use crate::rows::Rows;
-use crate::statements::{Statement, Unexecuted, Unprepared};
 use crate::{
     DONE, INTERRUPTED, NO_LINE, NO_MEMORY, NO_SUCH_PLACE, NO_SUCH_STATEMENT, NOT_OPEN, NOT_UTF8,
     REFUSED, SHARED, TOO_LARGE,
 };
+use mm_database::{Rows, Statement, Unexecuted, Unprepared};
 use mm_statements::{Declined, Executed, LentValue, QueryFault};
 use std::alloc::Global;
 

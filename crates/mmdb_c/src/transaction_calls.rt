@@ -3,8 +3,8 @@
 ghost use Rattle.std.specs.Prelude.{◌≡◌, ◌≢◌, ◌↔◌, ◌⊎◌, IfSome, IsNone, IsSome, IsSomeAnd, length};
 ghost use Rattle.plain_tables.specs.Transactions.{begun, committed, rolled_back};
 ghost use Rattle.mmdb_c.specs.Calls.{Becomes};
-ghost use Rattle.mmdb_c.specs.Sharing.{IsShared};
-ghost use Rattle.mmdb_c.specs.Transacting.{IsInTransaction, IsOutside, Steps};
+ghost use Rattle.mm_database.specs.Sharing.{IsShared};
+ghost use Rattle.mm_database.specs.Transacting.{IsInTransaction, IsOutside, Steps};
 
 use crate::handle::Handle;
 use crate::{DONE, NO_MEMORY, NO_TRANSACTION, NOT_OPEN, SHARED};

@@ -2,8 +2,8 @@
 
 ghost use Rattle.std.specs.Prelude.{◌≡◌, ◌≢◌, ◌↔◌, ◌⊎◌, IsNone, IsSome};
 ghost use Rattle.mmdb_c.specs.Calls.{Becomes};
-ghost use Rattle.mmdb_c.specs.Planning.{OnlyAnswers};
-ghost use Rattle.mmdb_c.specs.Versions.{HasNoVersion, HasVersion};
+ghost use Rattle.mm_database.specs.Planning.{OnlyAnswers};
+ghost use Rattle.mm_database.specs.Versions.{HasNoVersion, HasVersion};
 
 use crate::handle::Handle;
 use crate::{DONE, NOT_OPEN, REFUSED};

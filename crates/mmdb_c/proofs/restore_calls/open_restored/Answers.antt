@@ -1,8 +1,8 @@
 use Rattle.std.proofs.Common.{◌∙◌, ap, subst, sym}
 use Rattle.mm_session.specs.Restoring.{IsRestored}
 use Rattle.mm_session.specs.Sessions.{State}
-use Rattle.mmdb_c.specs.declared.database.OpenDatabase.{OpenDatabase}
-use Rattle.mmdb_c.specs.declared.restoring.OpenRestore.{OpenRestore}
+use Rattle.mm_database.specs.declared.database.OpenDatabase.{OpenDatabase}
+use Rattle.mm_database.specs.declared.restoring.OpenRestore.{OpenRestore}
 use Rattle.mmdb_c.proofs.restore_calls.open_restored.Goals as goal
 
 pub returns-clause-done : goal.returns-clause-done

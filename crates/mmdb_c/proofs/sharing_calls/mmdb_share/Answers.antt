@@ -1,7 +1,7 @@
 use Rattle.std.proofs.Common.{inl, inr, ⊎_elim, subst, sym, Option}
 use Rattle.std.specs.Prelude.{IsSomeAnd}
-use Rattle.mmdb_c.specs.Transacting.{IsInTransaction}
-use Rattle.mmdb_c.specs.declared.database.OpenDatabase.{OpenDatabase}
+use Rattle.mm_database.specs.Transacting.{IsInTransaction}
+use Rattle.mm_database.specs.declared.database.OpenDatabase.{OpenDatabase}
 use Rattle.mmdb_c.proofs.sharing_calls.mmdb_share.Goals as goal
 
 pub returns-clause-in_transaction : goal.returns-clause-in_transaction

@@ -1,9 +1,9 @@
 use Rattle.std.proofs.Common.{rules, ◌≡◌, Option, Some, subst, sym}
 use Rattle.std.specs.Prelude.{IsSomeAnd}
-use Rattle.mmdb_c.specs.Interrupts.{IsLineSelect}
-use Rattle.mmdb_c.specs.Sharing.{IsLineKeptOff}
-use Rattle.mmdb_c.specs.declared.database.OpenDatabase.{OpenDatabase}
-use Rattle.mmdb_c.proofs.Told.{becomes}
+use Rattle.mm_database.specs.Interrupts.{IsLineSelect}
+use Rattle.mm_database.specs.Sharing.{IsLineKeptOff}
+use Rattle.mm_database.specs.declared.database.OpenDatabase.{OpenDatabase}
+use Rattle.mmdb_c.proofs.OpenHandles.{becomes}
 use Rattle.mmdb_c.proofs.statement_calls.mmdb_query.Goals as goal
 
 pub returns-in-Err-Shared-clause-shared : goal.returns-in-Err-Shared-clause-shared

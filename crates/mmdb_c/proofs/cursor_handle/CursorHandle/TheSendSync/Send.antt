@@ -3,8 +3,8 @@ use denote.Struct.Owning.{shape, fields, to}
 use denote.Param.Send.{IsSend, AllSend, owning_send, struct_send, sendable}
 use Rattle.std_alloc.proofs.SendSync.{quiet}
 use Rattle.raw_handle.proofs.Crosses.{holds-Keyless}
-use Rattle.mmdb_c.specs.contracts.cursors.OpenCursor as held
-use Rattle.mmdb_c.proofs.cursors.OpenCursor.TheSendSync.{the_send}
+use Rattle.mm_database.specs.contracts.cursors.OpenCursor as held
+use Rattle.mm_database.proofs.cursors.OpenCursor.TheSendSync.{the_send}
 use Rattle.mmdb_c.specs.contracts.cursor_handle.CursorHandle.{the_row, the_type}
 
 pub send : IsSend the_row

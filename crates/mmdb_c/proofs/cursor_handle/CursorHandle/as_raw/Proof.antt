@@ -19,7 +19,7 @@ use Rattle.core.proofs.alloc.Shapes.{after}
 use Rattle.std.proofs.raw_atomic.Walks.{proved_at, leaves}
 use Rattle.raw_handle.proofs.Steps.{H as RawHandle}
 use Rattle.raw_handle.proofs.Lent.{lent}
-use Rattle.mmdb_c.specs.contracts.cursors.OpenCursor as held
+use Rattle.mm_database.specs.contracts.cursors.OpenCursor as held
 use Rattle.mmdb_c.specs.contracts.cursor_handle.CursorHandle as handle
 use Rattle.mmdb_c.specs.contracts.cursor_handle.CursorHandle.as_raw as f
 use Rattle.mmdb_c.proofs.cursor_handle.CursorHandle.as_raw.Statement.{statement}

@@ -19,7 +19,7 @@ use Rattle.core.proofs.alloc.Shapes.{after}
 use Rattle.std.proofs.raw_atomic.Walks.{proved_at, leaves}
 use Rattle.raw_handle.proofs.Steps.{H as RawHandle}
 use Rattle.raw_handle.proofs.Lent.{lent}
-use Rattle.mmdb_c.specs.contracts.database.OpenDatabase as held
+use Rattle.mm_database.specs.contracts.database.OpenDatabase as held
 use Rattle.mmdb_c.specs.contracts.handle.Handle as handle
 use Rattle.mmdb_c.specs.contracts.handle.Handle.as_raw as f
 use Rattle.mmdb_c.proofs.handle.Handle.as_raw.Statement.{statement}

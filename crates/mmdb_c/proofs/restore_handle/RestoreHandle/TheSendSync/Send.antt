@@ -3,8 +3,8 @@ use denote.Struct.Owning.{shape, fields, to}
 use denote.Param.Send.{IsSend, AllSend, owning_send, struct_send, sendable}
 use Rattle.std_alloc.proofs.SendSync.{quiet}
 use Rattle.raw_handle.proofs.Crosses.{holds-Keyless}
-use Rattle.mmdb_c.specs.contracts.restoring.OpenRestore as held
-use Rattle.mmdb_c.proofs.restoring.OpenRestore.TheSendSync.{the_send}
+use Rattle.mm_database.specs.contracts.restoring.OpenRestore as held
+use Rattle.mm_database.proofs.restoring.OpenRestore.TheSendSync.{the_send}
 use Rattle.mmdb_c.specs.contracts.restore_handle.RestoreHandle.{the_row, the_type}
 
 pub send : IsSend the_row

@@ -19,7 +19,7 @@ use Rattle.core.proofs.alloc.Shapes.{after}
 use Rattle.std.proofs.raw_atomic.Walks.{proved_at, leaves}
 use Rattle.raw_handle.proofs.Steps.{H as RawHandle}
 use Rattle.raw_handle.proofs.Lent.{lent}
-use Rattle.mmdb_c.specs.contracts.restoring.OpenRestore as held
+use Rattle.mm_database.specs.contracts.restoring.OpenRestore as held
 use Rattle.mmdb_c.specs.contracts.restore_handle.RestoreHandle as handle
 use Rattle.mmdb_c.specs.contracts.restore_handle.RestoreHandle.as_raw as f
 use Rattle.mmdb_c.proofs.restore_handle.RestoreHandle.as_raw.Statement.{statement}

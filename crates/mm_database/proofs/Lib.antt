@@ -1,0 +1,3 @@
+mod GivenRows
+mod RowCells
+mod Told

@@ -1,0 +1,15 @@
+pub mod Calls
+pub mod Cloning
+pub mod Counting
+pub mod Cursors
+pub mod First
+pub mod Given
+pub mod Interrupts
+pub mod Many
+pub mod Planning
+pub mod Restoring
+pub mod Saving
+pub mod Sharing
+pub mod StatementCalls
+pub mod Transacting
+pub mod Versions
