@@ -6,6 +6,7 @@ count as neither. `test` and tests/quick parse these lines.
 
 import collections
 import re
+import signal
 import sys
 import time
 import unittest
@@ -51,8 +52,16 @@ def has_program():
     return tested.PROGRAM.is_file()
 
 
+def heed_interrupts():
+    """Has this process heed an interrupt where it was started to ignore it, as a shell without job control starts its background jobs.
+    What the tests start would ignore it too, and a test that sends one would wait for ever."""
+    if signal.getsignal(signal.SIGINT) is signal.SIG_IGN:
+        signal.signal(signal.SIGINT, signal.default_int_handler)
+
+
 def run(name, suite, verbosity=0):
     """Runs the tests that `suite` loads, and returns the status."""
+    heed_interrupts()
     if not has_program():
         print(f"tests: {tested.PROGRAM} is not built: scripts/build and rt ci build it; ./test quick tests the release")
         print("0 passed, 1 failed")
