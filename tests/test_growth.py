@@ -121,10 +121,11 @@ class PatternTimes(Growing, unittest.TestCase):
         return power
 
     def least_power(self, pattern, power):
-        """The power by which a pattern grows, or where that is too much, the one by which it grows between larger tables."""
+        """The power by which a pattern grows, or where that is too much, the one by which it grows between larger tables, if all of it can
+        be measured there."""
         tell(f"{pattern}: from {FEW} to {MANY} rows by the power {power:.2f}")
         for rows in itertools.pairwise((MANY, *BEYOND)):
-            if power > MOST_POWER:
+            if power > MOST_POWER and pattern.is_whole(rows[1]):
                 power = self.power_between(pattern, *rows)
         return power
 

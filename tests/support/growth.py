@@ -295,6 +295,10 @@ class Pattern:
         """The same on differing values."""
         return replace(self, values="differing")
 
+    def is_whole(self, count):
+        """Whether all of it is measured at so many rows. Of a load that is taken back only the last block is, which takes one row more."""
+        return not WORK[self.what].refusals or count < ROWS_A_BLOCK
+
     def pair(self, count):
         """The pair at so many rows."""
         work = WORK[self.what]
