@@ -47,18 +47,20 @@ static void link_kept(Handle *handle, Kept *kept)
     handle->newest = kept;
 }
 
-/* Lets the longest unused statement go. */
-static int forget_one(Handle *handle)
+/* Takes the longest unused statement out, and makes its object ready for another one. */
+static Kept *take_oldest(Handle *handle)
 {
-    Kept *oldest = handle->oldest;
-    if (oldest == NULL)
-        return 0;
-    PyObject *line = Py_NewRef(oldest->line);
+    Kept *oldest = (Kept *)Py_NewRef((PyObject *)handle->oldest);
     statement_finalize(handle, &oldest->statement);
     unlink_kept(handle, oldest);
-    int status = PyDict_DelItem(handle->kept, line);
-    Py_DECREF(line);
-    return status;
+    int status = PyDict_DelItem(handle->kept, oldest->line);
+    statement_clear(&oldest->statement);
+    Py_CLEAR(oldest->line);
+    oldest->statement = (Statement){ .placed = NULL };
+    if (status == 0)
+        return oldest;
+    Py_DECREF(oldest);
+    return NULL;
 }
 
 void kept_forget_all(Handle *handle)
@@ -82,9 +84,8 @@ Statement *kept_by(Handle *handle, PyObject *line)
 /* A statement that is kept by a line from now on, whose fields are yet to be filled in. */
 static Statement *keep_new(Handle *handle, PyObject *line)
 {
-    if (PyDict_Size(handle->kept) >= KEPT && forget_one(handle) < 0)
-        return NULL;
-    Kept *kept = (Kept *)PyType_GenericAlloc(kept_type, 0);
+    int is_full = handle->oldest != NULL && PyDict_Size(handle->kept) >= KEPT;
+    Kept *kept = is_full ? take_oldest(handle) : (Kept *)PyType_GenericAlloc(kept_type, 0);
     if (kept == NULL)
         return NULL;
     kept->line = Py_NewRef(line);
