@@ -320,6 +320,21 @@ class Kept(binding.WithDatabase):
             found = self.db.select(f"select id from t where id >= ? and id < {most}", least)
             self.assertEqual([row.id for row in found], list(range(least, most)))
 
+    def test_lines_of_several_kinds_by_turns(self):
+        """What is known of the line that goes, its columns and its places, isn't taken for that of the one that comes."""
+        self.db.execute("table t (id int, n int)")
+        self.db.load("t", [(number, -number) for number in range(400)])
+        kinds = (
+            lambda key: self.assertEqual(self.db.select(f"select * from t where id = {key}"), [[key, -key]]),
+            lambda key: self.assertEqual(self.db.select(f"select n from t where id = {key} and n <= ?", 0), [[-key]]),
+            lambda key: self.assertEqual(self.db.select(f"select id from t where id = {key} and n <= :most", most=0).names, ("t.id",)),
+            lambda key: self.assertEqual(self.db.change(f"update t set n = {-key} where id = :key", key=key), 1),
+            lambda key: self.assertEqual(self.db.change(f"delete t where id = {key + 400}"), 0),
+        )
+        draw = random.Random(SEED)
+        for _ in range(3_000):
+            draw.choice(kinds)(draw.randrange(400))
+
     def test_a_table_that_is_declared_anew(self):
         select, insert = "select * from t where id = ?", "insert t (?, ?)"
         statement = None
