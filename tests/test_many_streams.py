@@ -185,24 +185,29 @@ def one_by_one(stream):
 
 def in_transactions(stream):
     """What differs where the units are done in transactions. A load of odd quotes may be refused in the stream, before its block is read,
-    and be done here. Then all is done anew without such loads."""
-    try:
-        return done_in_transactions(stream, stream.units)
-    except model.OddQuotes:
-        return done_in_transactions(stream, [unit for unit in stream.units if not model.has_odd_quotes(unit[1])])
+    and be done here. Then all is done anew without such loads, beside what differed until then."""
+    found, is_whole = done_in_transactions(stream, stream.units)
+    if not is_whole:
+        found += done_in_transactions(stream, [unit for unit in stream.units if not model.has_odd_quotes(unit[1])])[0]
+    return found
 
 
 def done_in_transactions(stream, units):
-    """What differs where these units are done so. No plan of the policy scan takes an index, so it is another then."""
-    policy = "auto" if stream.policy == "scan" else stream.policy
+    """What differs where these units are done so, up to a load of odd quotes, and whether all were done. No plan of the policy scan takes
+    an index, so it is another then."""
+    policy, is_whole = "auto" if stream.policy == "scan" else stream.policy, True
     with embedded.Handle(policy, stream.limits) as handle:
         statements = prepared.Statements(handle, stream.draw, collections.Counter())
         judge = transacted.Lists(stream.limits)
         readers = shared.Readers(handle, judge, stream.draw)
         run = transacted.Run(handle, judge, stream.draw, [handle.ask, statements.ask], readers=readers)
-        found = run.differences(units) + readers.end() + [f"the rows of {text!r} changed" for text in statements.changed()]
+        try:
+            run.differences(units)
+        except model.OddQuotes:
+            is_whole = False
+        found = run.misfits + readers.end() + [f"the rows of {text!r} changed" for text in statements.changed()]
     stream.count.update(run.count + readers.count)
-    return [f"in transactions under {policy}: {misfit}" for misfit in found]
+    return [f"in transactions under {policy}: {misfit}" for misfit in found], is_whole
 
 
 def differences(stream):
