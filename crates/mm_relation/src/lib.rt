@@ -37,6 +37,7 @@ mod referring;
 mod refusal;
 mod relation;
 mod relations;
+mod reserving;
 mod row;
 mod rows;
 mod slot_set;

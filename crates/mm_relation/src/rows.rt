@@ -160,6 +160,17 @@ impl Rows {
         self.store.reserve()
     }
 
+    // Makes sure of room for so many rows more. What it got at an error stays until spare memory is shed.
+    pub fn reserve_many(&mut self, n: u64) -> Result<(), NoMemory>
+        requires { finite.len self.old.tuples + n ≤ 16777216 }
+        ensures width { self.new.width ≡ self.old.width }
+        ensures aside { self.new.aside ≡ self.old.aside }
+        ensures tuples { self.new.tuples ≡ self.old.tuples }
+        ensures free { OnOk result (n ≤ self.new.free) }
+    {
+        self.store.reserve_many(n)
+    }
+
     // Gives the memory of the partitions with no row back where it is that of more than so many rows, and of more than a
     // quarter as many as there are. No row moves. It takes no memory. Where nothing is owed what tells hidden rows apart goes
     // too, if it is for far more slots than are left.

@@ -93,19 +93,16 @@ module _ {T : Type 0} {counted : Bool} {width : ℕ} {blocks : List (List (Optio
 -- ---- a partition more
 
 module _ {T : Type 0} {counted : Bool} {width : ℕ} {blocks : List (List (Option T))} {counts : List (List ℕ)} {occupancies : List Occupancy} {free : ℕ} {first : Option ℕ}
-    (stocked : IsStocked counted width blocks counts occupancies free first) (none_free : free ≡ 0) (new : List (Option T)) (next : Option (List ℕ)) (empty : new ≡ replicate (256 * width) None) (made : is_some next ≡ counted) (are_zeros : IfSome next (λ its. its ≡ zeros true)) where
-  before_push : IsStocked counted width blocks counts occupancies 0 first
-  before_push = subst (λ (n : ℕ). IsStocked counted width blocks counts occupancies n first) none_free stocked
-
+    (stocked : IsStocked counted width blocks counts occupancies free first) (new : List (Option T)) (next : Option (List ℕ)) (empty : new ≡ replicate (256 * width) None) (made : is_some next ≡ counted) (are_zeros : IfSome next (λ its. its ≡ zeros true)) where
   abbrev vacant : IsLaid width new × IsVacant (rows_in width new)
-  vacant = laid-empty width new before_push.table.wide empty
+  vacant = laid-empty width new stocked.table.wide empty
 
   pub pushed_stocked : (o : Occupancy) (part : ℕ) → ((slot : ℕ) → slot < 256 → is_set o.held.words slot ≡ false) → o.has_block ≡ true → o.next_open ≡ first → part ≡ length blocks
-      → length blocks + 1 < 2 ^ 24 → IsStocked counted width (blocks ++ new ∷ []) (counts ++ option_to_list next) (occupancies ++ o ∷ []) 256 (Some part)
+      → length blocks + 1 < 2 ^ 24 → IsStocked counted width (blocks ++ new ∷ []) (counts ++ option_to_list next) (occupancies ++ o ∷ []) (free + 256) (Some part)
   pushed_stocked o part clear block next_is at room = record {
-    beside = grown counted next before_push.beside made;
-    own = grown_own counted next before_push.beside made are_zeros;
-    table = table-pushed width blocks occupancies new o first part before_push.table empty clear block next_is at room;
+    beside = grown counted next stocked.beside made;
+    own = grown_own counted next stocked.beside made are_zeros;
+    table = table-pushed width blocks occupancies new o free first part stocked.table empty clear block next_is at room;
   }
     where
       grown : (b : Bool) (n : Option (List ℕ)) → length counts ≡ (if b then length blocks else 0) → is_some n ≡ b → length (counts ++ option_to_list n) ≡ (if b then length (blocks ++ new ∷ []) else 0)
@@ -115,18 +112,18 @@ module _ {T : Type 0} {counted : Bool} {width : ℕ} {blocks : List (List (Optio
       grown false None beside made = let none : List (List ℕ) = [] in omega (arith, beside, length-append counts none)
 
       grown_own : (b : Bool) (n : Option (List ℕ)) → length counts ≡ (if b then length blocks else 0) → is_some n ≡ b → IfSome n (λ its. its ≡ zeros true) → HaveCounts (blocks ++ new ∷ []) (counts ++ option_to_list n)
-      grown_own true (Some its) beside made e = own-push blocks counts before_push.own new its beside (ap length e ∙ length-replicate {A = ℕ} 256 0 ∙ sym (slots_of-some new vacant.0.some))
+      grown_own true (Some its) beside made e = own-push blocks counts stocked.own new its beside (ap length e ∙ length-replicate {A = ℕ} 256 0 ∙ sym (slots_of-some new vacant.0.some))
       grown_own true None beside made e = absurd (cc)
       grown_own false (Some its) beside made e = absurd (cc)
       grown_own false None beside made e = λ part below. let none : List (List ℕ) = [] in absurd (omega (arith, below, beside, length-append counts none))
 
   pub pushed_tuples : tuples_of (tables width (blocks ++ new ∷ [])) ≡ tuples_of (tables width blocks)
-  pushed_tuples = rows-pushed width blocks new before_push.table.wide empty
+  pushed_tuples = rows-pushed width blocks new stocked.table.wide empty
 
   pub pushed_counts : counts_of (counts ++ option_to_list next) (tuples_of (tables width (blocks ++ new ∷ []))) ≡ counts_of counts (tuples_of (tables width blocks))
   pushed_counts =
       ap (counts_of (counts ++ option_to_list next)) pushed_tuples
-      ∙ counts-alike (tuples_of (tables width blocks)) counts (counts ++ option_to_list next) (λ r held. number-push counts r counted blocks next before_push.beside made (table_within width blocks r (part_of r) refl held))
+      ∙ counts-alike (tuples_of (tables width blocks)) counts (counts ++ option_to_list next) (λ r held. number-push counts r counted blocks next stocked.beside made (table_within width blocks r (part_of r) refl held))
 
   pub pushed_slots : sum_by length (tables width (blocks ++ new ∷ [])) ≡ sum_by length (tables width blocks) + 256
   pushed_slots =
@@ -145,11 +142,8 @@ bare_block {width = width} {blocks = blocks} is part within bare =
     rows_in-none width block (λ some. true≢false (sym (lt-ltb 0 (length (rows_in width block)) some) ∙ ap (λ l. nat_lt 0 (length l)) (sym rows) ∙ sym told ∙ bare))
 
 module _ {T : Type 0} {counted : Bool} {width : ℕ} {blocks : List (List (Option T))} {counts : List (List ℕ)} {occupancies : List Occupancy} {free : ℕ} {first : Option ℕ}
-    (stocked : IsStocked counted width blocks counts occupancies free first) (none_free : free ≡ 0) (part : ℕ) (new : List (Option T)) (o : Occupancy) (within : part < length blocks) (read : o ≡ get_or occupancies part o) (no_block : has_block_at occupancies part ≡ false)
+    (stocked : IsStocked counted width blocks counts occupancies free first) (part : ℕ) (new : List (Option T)) (o : Occupancy) (within : part < length blocks) (read : o ≡ get_or occupancies part o) (no_block : has_block_at occupancies part ≡ false)
     (empty : new ≡ replicate (256 * width) None) (own : List ℕ) (are_zeros : own ≡ zeros counted) where
-  before_refill : IsStocked counted width blocks counts occupancies 0 first
-  before_refill = subst (λ (n : ℕ). IsStocked counted width blocks counts occupancies n first) none_free stocked
-
   bare : o.has_block ≡ false
   bare = sym (mapped-read (λ (x : Occupancy). x.has_block) occupancies part o false (omega (arith, within, as_many stocked)) read) ∙ no_block
 
@@ -157,7 +151,7 @@ module _ {T : Type 0} {counted : Bool} {width : ℕ} {blocks : List (List (Optio
   among = omega (arith, within, length-tables width blocks)
 
   empty_rows : IsLaid width new × IsVacant (rows_in width new)
-  empty_rows = laid-empty width new before_refill.table.wide empty
+  empty_rows = laid-empty width new stocked.table.wide empty
 
   same_refilled : tables width (set blocks part new) ≡ set (tables width blocks) part (rows_in width new)
   same_refilled = map-set (rows_in width) blocks part new
@@ -167,21 +161,21 @@ module _ {T : Type 0} {counted : Bool} {width : ℕ} {blocks : List (List (Optio
   as_many_zeros true beside e counted_here = ap length e ∙ length-replicate {A = ℕ} 256 0
   as_many_zeros false beside e counted_here = absurd (omega (arith, beside, counted_here))
 
-  pub refilled_stocked : (o' : Occupancy) → o'.held.words ≡ o.held.words → o'.has_block ≡ true → o'.next_open ≡ first → IsStocked counted width (set blocks part new) (set counts part own) (set occupancies part o') 256 (Some part)
+  pub refilled_stocked : (o' : Occupancy) → o'.held.words ≡ o.held.words → o'.has_block ≡ true → o'.next_open ≡ first → IsStocked counted width (set blocks part new) (set counts part own) (set occupancies part o') (free + 256) (Some part)
   refilled_stocked o' words block next = record {
-    beside = length-set counts part own ∙ before_refill.beside ∙ ap (λ (n : ℕ). if counted then n else 0) (sym (length-set blocks part new));
-    own = own-set blocks counts before_refill.own part new own within (λ among. as_many_zeros counted before_refill.beside are_zeros among ∙ sym (slots_of-some new empty_rows.0.some));
+    beside = length-set counts part own ∙ stocked.beside ∙ ap (λ (n : ℕ). if counted then n else 0) (sym (length-set blocks part new));
+    own = own-set blocks counts stocked.own part new own within (λ among. as_many_zeros counted stocked.beside are_zeros among ∙ sym (slots_of-some new empty_rows.0.some));
     table = record {
-      wide = before_refill.table.wide;
-      fits = before_refill.table.fits;
-      laid = laid-set width blocks new part within (λ some. empty_rows.0) before_refill.table.laid;
-      store = subst (λ (t : List (List (Option (List T)))). IsStore t (set occupancies part o') 256 (Some part)) (sym same_refilled)
-          (IsStore-refill (tables width blocks) occupancies (rows_in width new) o first part before_refill.table.store among read bare empty_rows.1 o' words block next);
+      wide = stocked.table.wide;
+      fits = stocked.table.fits;
+      laid = laid-set width blocks new part within (λ some. empty_rows.0) stocked.table.laid;
+      store = subst (λ (t : List (List (Option (List T)))). IsStore t (set occupancies part o') (free + 256) (Some part)) (sym same_refilled)
+          (IsStore-refill (tables width blocks) occupancies (rows_in width new) o free first part stocked.table.store among read bare empty_rows.1 o' words block next);
     };
   }
 
   pub refill_tuples : tuples_of (tables width (set blocks part new)) ≡ tuples_of (tables width blocks)
-  refill_tuples = ap tuples_of same_refilled ∙ refilled_tuples (tables width blocks) occupancies (rows_in width new) o first part before_refill.table.store among read bare empty_rows.1
+  refill_tuples = ap tuples_of same_refilled ∙ refilled_tuples (tables width blocks) occupancies (rows_in width new) o free first part stocked.table.store among read bare empty_rows.1
 
   pub refill_counts : counts_of (set counts part own) (tuples_of (tables width (set blocks part new))) ≡ counts_of counts (tuples_of (tables width blocks))
   refill_counts =
@@ -189,7 +183,7 @@ module _ {T : Type 0} {counted : Bool} {width : ℕ} {blocks : List (List (Optio
       ∙ counts-alike (tuples_of (tables width blocks)) counts (set counts part own) (λ r held. number-set_other counts r part own (bare_holds_none width blocks part (bare_block stocked part within no_block) r held))
 
   pub refill_slots : sum_by length (tables width (set blocks part new)) ≡ sum_by length (tables width blocks) + 256
-  refill_slots = ap (sum_by length) same_refilled ∙ refilled_lengths (tables width blocks) occupancies (rows_in width new) o first part before_refill.table.store among read bare empty_rows.1
+  refill_slots = ap (sum_by length) same_refilled ∙ refilled_lengths (tables width blocks) occupancies (rows_in width new) o free first part stocked.table.store among read bare empty_rows.1
 
 -- ---- a store with no partition
 

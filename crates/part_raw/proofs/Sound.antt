@@ -6,7 +6,6 @@ use Rattle.std.proofs.lemmas.List.Sums.{sum_by-cons, sum_by-append, sum_by-set}
 use Rattle.std.specs.FinMap.{len, len-empty}
 use Rattle.part_raw.specs.declared.store.Occupancy.{Occupancy}
 use Rattle.part_raw.specs.TupleRefs.{ref_cmp, ref_to}
-use Rattle.part_raw.specs.Store.{free_reserved}
 use Rattle.part_raw.specs.Layout.{is_set, vacancies, tuples_of, tuples_from, IsPartition, IsVacant}
 use Rattle.part_raw.specs.Open.{words_at, slots_at, next_at, has_vacancy, open_at, IsOpenList, HaveBitmaps, IsStore}
 use Rattle.part_raw.proofs.Tuples.{len-insert_fresh, len-insert_held, len-remove_held}
@@ -15,10 +14,6 @@ use Rattle.part_raw.proofs.Lookup.{AreSmall}
 use Rattle.part_raw.proofs.Chain.{none_first, first_of, SameBeside, keep_rest, keep_all, put_first}
 use Rattle.part_raw.proofs.Bitmaps.{mapped-read, mapped-set_same, mapped-set_other, mapped-push_same, mapped-push_other, get_or-push_other, bits_of, told_at, HaveBitmaps-set, HaveBitmaps-write, HaveBitmaps-push}
 use Rattle.part_raw.proofs.Parts.{Blocks, Writes, read_block, small_blocks, found_before, tuples-written, tuples-freed, tuples-push, tuples-vacant}
-
--- where none is free a partition is made
-pub free_reserved_none : (free : ℕ) → free ≤ 0 → 256 ≡ free_reserved free
-free_reserved_none free none = ap (λ (b : Bool). cond b free 256) (sym (le-ltb 0 free none))
 
 abbrev next_of : Occupancy → Option ℕ
 next_of o = o.next_open
@@ -245,14 +240,14 @@ module _ {T : Type 0} where
   closed_past (slots ∷ rest) zero e = absurd (omega (arith, e))
   closed_past (slots ∷ rest) (suc part) e = closed_past rest part (omega (arith, e))
 
-  pub IsStore-push : (blocks : Blocks T) (occupancies : List Occupancy) (new : List (Option T)) (o : Occupancy) (first : Option ℕ) (part : ℕ)
-      → IsStore blocks occupancies 0 first → IsVacant new → IsPartition o.held.words new → o.has_block ≡ true → o.next_open ≡ first → part ≡ length blocks
-      → length blocks + 1 < 2 ^ 24 → IsStore (blocks ++ new ∷ []) (occupancies ++ o ∷ []) 256 (Some part)
-  IsStore-push blocks occupancies new o first part is vacant bits block next e room =
+  pub IsStore-push : (blocks : Blocks T) (occupancies : List Occupancy) (new : List (Option T)) (o : Occupancy) (free : ℕ) (first : Option ℕ) (part : ℕ)
+      → IsStore blocks occupancies free first → IsVacant new → IsPartition o.held.words new → o.has_block ≡ true → o.next_open ≡ first → part ≡ length blocks
+      → length blocks + 1 < 2 ^ 24 → IsStore (blocks ++ new ∷ []) (occupancies ++ o ∷ []) (free + 256) (Some part)
+  IsStore-push blocks occupancies new o free first part is vacant bits block next e room =
       let blocks' = blocks ++ new ∷ [] in let occupancies' = occupancies ++ o ∷ [] in
       let e' : part ≡ length occupancies = omega (arith, e, is.mapped.as_many) in
-      let free : vacancies new ≡ 256 = all_vacant new vacant.empty ∙ vacant.count in
-      let opened = has_vacancy_yes new (omega (arith, free)) in
+      let all : vacancies new ≡ 256 = all_vacant new vacant.empty ∙ vacant.count in
+      let opened = has_vacancy_yes new (omega (arith, all)) in
       let is_opened : one_if_open new ≡ 1 = ap (λ (b : Bool). cond b 1 0) opened in
       let same = ap len (tuples-push blocks new (small_blocks blocks occupancies is.mapped) (omega (arith, vacant.count)) vacant.empty) in
       let here : get_or blocks' part [] ≡ new = get_or_push blocks new [] part (sym e) in
@@ -262,7 +257,7 @@ module _ {T : Type 0} where
       } in
       record {
         mapped = HaveBitmaps-push blocks occupancies new o is.mapped (place_of o.held.words new bits) (block ∙ sym (lt-ltb 0 (length new) (omega (arith, vacant.count))));
-        counted = omega (arith, is.counted, sum_by-append vacancies blocks (new ∷ []), sum_by-cons vacancies new [], free);
+        counted = omega (arith, is.counted, sum_by-append vacancies blocks (new ∷ []), sum_by-cons vacancies new [], all);
         total = omega (arith, is.total, same, sum_by-append length blocks (new ∷ []), sum_by-cons length new [], vacant.count);
         open_count = suc is.open_count;
         all_open = omega (arith, is.all_open, sum_by-append one_if_open blocks (new ∷ []), sum_by-cons one_if_open new [], is_opened);
@@ -272,7 +267,7 @@ module _ {T : Type 0} where
       }
 
   -- a partition with no block gets one
-  module _ (blocks : Blocks T) (occupancies : List Occupancy) (new : List (Option T)) (o : Occupancy) (first : Option ℕ) (part : ℕ) (is : IsStore blocks occupancies 0 first) (within : part < length blocks)
+  module _ (blocks : Blocks T) (occupancies : List Occupancy) (new : List (Option T)) (o : Occupancy) (free : ℕ) (first : Option ℕ) (part : ℕ) (is : IsStore blocks occupancies free first) (within : part < length blocks)
       (read : o ≡ get_or occupancies part o) (bare : o.has_block ≡ false) (vacant : IsVacant new) where
     pub no_slots : length (slots_at blocks part) ≡ 0
     no_slots = elim (cases_eq (length (slots_at blocks part)) 0) [
@@ -294,11 +289,11 @@ module _ {T : Type 0} where
     clear : (slot : ℕ) → slot < 256 → is_set o.held.words slot ≡ false
     clear slot in_range = (bits_of blocks occupancies o part is.mapped within read).bits slot in_range ∙ ap is_some (was_vacant slot)
 
-    pub IsStore-refill : (o' : Occupancy) → o'.held.words ≡ o.held.words → o'.has_block ≡ true → o'.next_open ≡ first → IsStore (set blocks part new) (set occupancies part o') 256 (Some part)
+    pub IsStore-refill : (o' : Occupancy) → o'.held.words ≡ o.held.words → o'.has_block ≡ true → o'.next_open ≡ first → IsStore (set blocks part new) (set occupancies part o') (free + 256) (Some part)
     IsStore-refill o' words block next =
-        let free : vacancies new ≡ 256 = all_vacant new vacant.empty ∙ vacant.count in
+        let all : vacancies new ≡ 256 = all_vacant new vacant.empty ∙ vacant.count in
         let was_free : vacancies (slots_at blocks part) ≡ 0 = no_vacancy_of_none (slots_at blocks part) no_slots in
-        let opened = has_vacancy_yes new (omega (arith, free)) in
+        let opened = has_vacancy_yes new (omega (arith, all)) in
         let shut = has_vacancy_no (slots_at blocks part) was_free in
         let is_opened : one_if_open new ≡ 1 = ap (λ (b : Bool). cond b 1 0) opened in
         let was_shut : one_if_open (slots_at blocks part) ≡ 0 = ap (λ (b : Bool). cond b 1 0) shut in
@@ -310,7 +305,7 @@ module _ {T : Type 0} where
         record {
           mapped = HaveBitmaps-set blocks occupancies new o' part is.mapped within
               (place_of o'.held.words new (IsPartition-vacant o'.held.words new (λ slot in_range. ap (λ w. is_set w slot) words ∙ clear slot in_range) vacant)) (block ∙ sym (lt-ltb 0 (length new) (omega (arith, vacant.count))));
-          counted = omega (arith, is.counted, sum_by-set vacancies blocks part new [] within, was_free, free);
+          counted = omega (arith, is.counted, sum_by-set vacancies blocks part new [] within, was_free, all);
           total = omega (arith, is.total, ap len refilled_tuples, refilled_lengths);
           open_count = suc is.open_count;
           all_open = omega (arith, is.all_open, sum_by-set one_if_open blocks part new [] within, was_shut, is_opened);

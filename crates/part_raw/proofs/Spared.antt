@@ -11,7 +11,7 @@ use Rattle.part_raw.specs.Rows.{rows_in, rows_of}
 use Rattle.part_raw.specs.Store.{Tuples}
 use Rattle.part_raw.specs.TupleRefs.{ref_to, part_of, slot_of}
 use Rattle.part_raw.specs.Layout.{is_set, tuples_of, vacancies, IsVacant, IsPlace}
-use Rattle.part_raw.specs.Open.{words_at, has_block_at, slots_at, next_at, open_at, tables, below, IsOpenList, HaveBitmaps, AreKept, IsTable, HoldsWhereBlock}
+use Rattle.part_raw.specs.Open.{words_at, has_block_at, slots_at, next_at, open_at, tables, below, IsOpenList, HaveBitmaps, AreKept, IsStocked, IsTable, HoldsWhereBlock}
 use Rattle.part_raw.proofs.Bitmaps.{mapped-read, mapped-push_same, mapped-push_other, mapped-set_same, mapped-set_other, bits_at, told_at, HaveBitmaps-set}
 use Rattle.part_raw.proofs.Dropped.{last_none, front_laid, front_mapped}
 use Rattle.part_raw.proofs.Lookup.{held_in, get-tuples_of}
@@ -143,6 +143,41 @@ module _ {T : Type 0} (width : ℕ) (blocks : List (List (Option T))) (its : Lis
   pub front_slots : sum_by length (tables width blocks) ≡ sum_by length (tables width (blocks ++ its ∷ []))
   front_slots = omega (arith, none_there, ap (sum_by length) as_tables, sum_by-append length (tables width blocks) (rows_in width its ∷ []), sum_by-cons length (rows_in width its) [])
 
+-- ---- the list of the open partitions is made anew
+
+-- what the links say is nothing to the bitmaps
+bitmaps_relinked : {T : Type 0} (blocks : Blocks T) (occupancies occupancies' : List Occupancy) → map (λ (o : Occupancy). o.held.words) occupancies' ≡ map (λ (o : Occupancy). o.held.words) occupancies
+    → map (λ (o : Occupancy). o.has_block) occupancies' ≡ map (λ (o : Occupancy). o.has_block) occupancies → HaveBitmaps blocks occupancies → HaveBitmaps blocks occupancies'
+bitmaps_relinked blocks occupancies occupancies' words flags is = record {
+  as_many = sym (length-map occupancies' (λ (o : Occupancy). o.held.words)) ∙ ap length words ∙ length-map occupancies (λ (o : Occupancy). o.held.words) ∙ is.as_many;
+  bits = λ part within. subst (λ (w : List ℕ). IsPlace w (slots_at blocks part)) (sym (ap (λ (l : List (List ℕ)). get_or l part []) words)) (is.bits part within);
+  told = λ part within. ap (λ (l : List Bool). get_or l part false) flags ∙ is.told part within;
+}
+
+-- a store stays one where its list alone is another
+pub relinked_stocked : {T : Type 0} {counted : Bool} {width : ℕ} {blocks : List (List (Option T))} {counts : List (List ℕ)} {occupancies : List Occupancy} {free : ℕ} {first : Option ℕ}
+    → IsStocked counted width blocks counts occupancies free first → (occupancies' : List Occupancy) (first' : Option ℕ) → map (λ (o : Occupancy). o.held.words) occupancies' ≡ map (λ (o : Occupancy). o.held.words) occupancies
+    → map (λ (o : Occupancy). o.has_block) occupancies' ≡ map (λ (o : Occupancy). o.has_block) occupancies
+    → IsOpenList (open_at (tables width blocks)) (next_at occupancies') (below (open_at (tables width blocks)) (length occupancies)) first' → IsStocked counted width blocks counts occupancies' free first'
+relinked_stocked {width = width} {blocks = blocks} {occupancies = occupancies} is occupancies' first' words flags linked = record {
+  beside = is.beside;
+  own = is.own;
+  table = record {
+    wide = is.table.wide;
+    fits = is.table.fits;
+    laid = is.table.laid;
+    store = record {
+      mapped = bitmaps_relinked (tables width blocks) occupancies occupancies' words flags is.table.store.mapped;
+      counted = is.table.store.counted;
+      total = is.table.store.total;
+      open_count = below (open_at (tables width blocks)) (length occupancies);
+      all_open = ap (below (open_at (tables width blocks))) is.table.store.mapped.as_many ∙ below-all (tables width blocks);
+      linked = linked;
+      numbered = is.table.store.numbered;
+    };
+  };
+}
+
 -- ---- a store that gave back what is spare, and whose list was made anew
 
 -- what was left of each partition, before the list was made anew and after
@@ -159,11 +194,7 @@ pub record IsReleased {T : Type 0} (width : ℕ) (blocks blocks' : List (List (O
 
 module _ {T : Type 0} {width : ℕ} {blocks blocks' : List (List (Option T))} {occupancies occupancies' popped : List Occupancy} {free : ℕ} {first : Option ℕ} {given : ℕ} (r : IsReleased width blocks blocks' occupancies occupancies' popped free first given) where
   bitmaps_kept : HaveBitmaps (tables width blocks') occupancies'
-  bitmaps_kept = record {
-    as_many = sym (length-map occupancies' (λ (o : Occupancy). o.held.words)) ∙ ap length r.words ∙ length-map popped (λ (o : Occupancy). o.held.words) ∙ r.kept.mapped.as_many;
-    bits = λ part within. subst (λ (w : List ℕ). IsPlace w (slots_at (tables width blocks') part)) (sym (ap (λ (l : List (List ℕ)). get_or l part []) r.words)) (r.kept.mapped.bits part within);
-    told = λ part within. ap (λ (l : List Bool). get_or l part false) r.flags ∙ r.kept.mapped.told part within;
-  }
+  bitmaps_kept = bitmaps_relinked (tables width blocks') popped occupancies' r.words r.flags r.kept.mapped
 
   pub slots_left : sum_by vacancies (tables width blocks') + len (tuples_of (tables width blocks)) ≡ sum_by length (tables width blocks')
   slots_left = omega (arith, r.freed, r.slots, r.is.store.total, r.is.store.counted)

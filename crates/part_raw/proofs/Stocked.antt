@@ -52,11 +52,11 @@ module _ {T : Type 0} {counted : Bool} {width : ℕ} {blocks : List (List (Optio
       (is.table.store.mapped.bits part within).count (ltb-true 0 (length (slots_at (tables width blocks) part)) (sym (is.table.store.mapped.told part within) ∙ there part (omega (arith, within, long)))) in
       omega (arith, is.table.store.total, all_lengths (tables width blocks) full, long)
 
-  -- with no free slot and fewer tuples than a store has at most, a partition can follow on those that all have blocks
-  pub room_here : free ≡ 0 → len (tuples_of (tables width blocks)) < 4294967040 → (16777215 ≤ length blocks → (part : ℕ) → part < length blocks → has_block_at occupancies part ≡ true) → length blocks + 1 < 2 ^ 24
-  room_here none few there = elim (cases_lt (length blocks) 16777215) as (λ _. length blocks + 1 < 2 ^ 24) [
+  -- with fewer slots than a store has at most, a partition can follow on those that all have blocks
+  pub room_here : len (tuples_of (tables width blocks)) + free < 4294967040 → (16777215 ≤ length blocks → (part : ℕ) → part < length blocks → has_block_at occupancies part ≡ true) → length blocks + 1 < 2 ^ 24
+  room_here few there = elim (cases_lt (length blocks) 16777215) as (λ _. length blocks + 1 < 2 ^ 24) [
     | inl below ↦ omega (arith, below)
-    | inr past ↦ absurd (omega (arith, past, none, few, all_full (there (omega (arith, past)))))
+    | inr past ↦ absurd (omega (arith, past, few, all_full (there (omega (arith, past)))))
   ]
 
   pub few_here : length blocks < 2 ^ 24

@@ -187,13 +187,13 @@ module _ {T : Type 0} where
 
   -- ---- a new partition
 
-  pub table-pushed : (width : ℕ) (blocks : List (List (Option T))) (occupancies : List Occupancy) (new : List (Option T)) (o : Occupancy) (first : Option ℕ) (part : ℕ)
-      → IsTable width blocks occupancies 0 first → new ≡ replicate (256 * width) None → ((slot : ℕ) → slot < 256 → is_set o.held.words slot ≡ false) → o.has_block ≡ true → o.next_open ≡ first → part ≡ length blocks
-      → length blocks + 1 < 2 ^ 24 → IsTable width (blocks ++ new ∷ []) (occupancies ++ o ∷ []) 256 (Some part)
-  table-pushed width blocks occupancies new o first part is empty clear block next at room =
+  pub table-pushed : (width : ℕ) (blocks : List (List (Option T))) (occupancies : List Occupancy) (new : List (Option T)) (o : Occupancy) (free : ℕ) (first : Option ℕ) (part : ℕ)
+      → IsTable width blocks occupancies free first → new ≡ replicate (256 * width) None → ((slot : ℕ) → slot < 256 → is_set o.held.words slot ≡ false) → o.has_block ≡ true → o.next_open ≡ first → part ≡ length blocks
+      → length blocks + 1 < 2 ^ 24 → IsTable width (blocks ++ new ∷ []) (occupancies ++ o ∷ []) (free + 256) (Some part)
+  table-pushed width blocks occupancies new o free first part is empty clear block next at room =
       let both = laid-empty width new is.wide empty in
-      IsTable-push width blocks occupancies 0 first is new (occupancies ++ o ∷ []) 256 (Some part) both.0
-      (IsStore-push (tables width blocks) occupancies (rows_in width new) o first part is.store both.1 (IsPartition-vacant _ _ clear both.1) block next (omega (arith, at, length-tables width blocks)) (omega (arith, room, length-tables width blocks)))
+      IsTable-push width blocks occupancies free first is new (occupancies ++ o ∷ []) (free + 256) (Some part) both.0
+      (IsStore-push (tables width blocks) occupancies (rows_in width new) o free first part is.store both.1 (IsPartition-vacant _ _ clear both.1) block next (omega (arith, at, length-tables width blocks)) (omega (arith, room, length-tables width blocks)))
 
   pub rows-pushed : (width : ℕ) (blocks : List (List (Option T))) (new : List (Option T)) → 0 < width → new ≡ replicate (256 * width) None → tuples_of (tables width (blocks ++ new ∷ [])) ≡ tuples_of (tables width blocks)
   rows-pushed width blocks new wide empty =

@@ -1,6 +1,6 @@
 //! All partitions of a store, and the list of those with a free slot. A look-up reads the blocks alone; a put and a take
 //! keep the bitmaps, the count of free slots and the list in step with them.
-ghost use Rattle.std.specs.Prelude.{◌≡◌, ◌↔◌, ℕ, Bool, ◌+◌, ◌-◌, ◌*◌, ◌<◌, ◌≤◌, [], true, false, None, Some, IfSome, IfOk, IsOk, IsSome, IsTrue, OnErr, OnOk, ◌++◌, is_some, length, map, option_to_list, sum_by, slice_index_or, slice_set, take};
+ghost use Rattle.std.specs.Prelude.{◌≡◌, ◌↔◌, ℕ, Bool, ◌+◌, ◌-◌, ◌*◌, ◌<◌, ◌≤◌, [], true, false, None, Some, IfSome, IfOk, IsOk, IsSome, IsTrue, OnErr, OnOk, ◌++◌, is_some, length, map, max, option_to_list, sum_by, slice_index_or, slice_set, take};
 ghost use Rattle.std.specs.Borrow.{sem};
 ghost use Rattle.std.specs.FinMap as finite;
 ghost use Rattle.std.specs.Vec.{vec_len, vec_capacity};
@@ -191,6 +191,55 @@ impl<T> Partitions<T> {
         if self.free > 0 {
             return Ok(());
         }
+        self.grow()
+    }
+
+    /// Makes sure of so many free slots, with as few partitions more as these need. The lowest that has one is filled first.
+    /// After an error the slots that were made stay: `shed_spares` gives them back.
+    pub fn reserve_many(&mut self, n: u64) -> Result<(), NoMemory>
+        requires { finite.len self.old.tuples + n ≤ MAX_TUPLES }
+        ensures ok { OnOk result (n ≤ self.new.free) }
+        ensures same { self.new ≡ record self.old { free = self.new.free } }
+        ensures least { self.old.free ≤ self.new.free }
+        ensures most { self.new.free ≤ max self.old.free (n + (SLOTS - 1)) }
+        ensures had_room { n ≤ self.old.free → IsOk result }
+    {
+        if self.free >= n {
+            return Ok(());
+        }
+        let result = self.grow_to(n);
+        self.link_lowest_first();
+        result
+    }
+
+    // Adds partitions until so many slots are free.
+    fn grow_to(&mut self, n: u64) -> Result<(), NoMemory>
+        requires { finite.len self.old.tuples + n ≤ MAX_TUPLES }
+        ensures ok { OnOk result (n ≤ self.new.free) }
+        ensures same { self.new ≡ record self.old { free = self.new.free } }
+        ensures least { self.old.free ≤ self.new.free }
+        ensures most { self.new.free ≤ max self.old.free (n + (SLOTS - 1)) }
+    {
+        while self.free() < n {
+            self.grow()?;
+        }
+        Ok(())
+    }
+
+    // Links the partitions that have a free slot anew, the lowest first, so tuples to come stand in the order in which they
+    // are put.
+    fn link_lowest_first(&mut self)
+        ensures { self.new ≡ self.old }
+    {
+        self.first_open = relink(&mut self.occupancies);
+    }
+
+    // Adds a partition of `SLOTS` free slots, or the memory again of one that gave it back.
+    fn grow(&mut self) -> Result<(), NoMemory>
+        requires { finite.len self.old.tuples + self.old.free < MAX_TUPLES }
+        ensures ok { OnOk result (self.new ≡ record self.old { free = self.old.free + SLOTS }) }
+        ensures err { OnErr result (self.new ≡ self.old) }
+    {
         let bare = bare_place(&self.occupancies, self.next_bare);
         if bare >= self.blocks.len() {
             self.blocks.reserve(1)?;
@@ -208,7 +257,7 @@ impl<T> Partitions<T> {
             self.first_open = Some(part as u32);
             self.next_bare = part;
             self.slots += SLOTS as u64;
-            self.free = SLOTS as u64;
+            self.free += SLOTS as u64;
             self.spare = self.spare.saturating_add(1);
             return Ok(());
         }
@@ -222,7 +271,7 @@ impl<T> Partitions<T> {
         self.first_open = Some(bare as u32);
         self.next_bare = bare;
         self.slots += SLOTS as u64;
-        self.free = SLOTS as u64;
+        self.free += SLOTS as u64;
         self.spare = self.spare.saturating_add(1);
         Ok(())
     }

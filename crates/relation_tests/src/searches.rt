@@ -1,7 +1,7 @@
-//! How many keys a search compares, and that rows can be owed.
+//! How many keys a search compares, and that rows can be owed and reserved.
 //!
 //! The contract of `find_key_counted` bounds the number from above. That a search compares at all as often as it has to, no
-//! contract says, nor that there is memory for what is owed.
+//! contract says, nor that there is memory for what is owed or reserved.
 ghost use Rattle.std.specs.Prelude.{◌≡◌, ◌∷◌, [], IfOk, length};
 ghost use Rattle.plain_tables.specs.declared.value.Value.TheVariants.{Int};
 ghost use Rattle.mm_relation.specs.declared.row.Cell.TheVariants.{Held};
@@ -105,4 +105,12 @@ fn rows_are_owed(rt: HostRuntime) {
     let mut relation = no_keys(rt.alloc()).expect(&rt, "memory");
     relation.owe(2).expect(&rt, "memory");
     assert!(&rt; relation.owed() == 2);
+}
+
+// Where there is memory, there is some for many rows before the first of them comes in.
+#[test]
+fn rows_are_reserved(rt: HostRuntime) {
+    let mut relation = no_keys(rt.alloc()).expect(&rt, "memory");
+    relation.reserve_rows(1_000).expect(&rt, "memory");
+    assert!(&rt; relation.len() == 0 && relation.slots() == 1_024);
 }

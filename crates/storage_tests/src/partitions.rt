@@ -97,6 +97,23 @@ fn what_is_given_back_is_free_no_more(rt: HostRuntime) -> Result<(), Fail> {
     Ok(())
 }
 
+/// Many slots come in as few partitions as they need, and are filled in their order.
+#[test]
+fn many_slots_are_reserved_at_once(rt: HostRuntime) -> Result<(), Fail> {
+    let mut store = Partitions::new(rt.alloc(), 1);
+    put_numbers(&rt, rt.alloc(), &mut store, 200)?;
+    assert!(&rt; store.len() == 200);
+    store.reserve_many(1_000)?;
+    assert!(&rt; store.free() == 1_080 && store.slots() == 1_280);
+    let mut cells = Vec::new(rt.alloc());
+    for number in 200..1_200 {
+        cells.push(u64::from(number))?;
+        assert!(&rt; store.free() > 0 && cells.len() == store.width());
+        assert!(&rt; store.put(&mut cells).number == number);
+    }
+    Ok(())
+}
+
 /// It names the moments at which `tests/test_given_back.py` compares what is held.
 #[test]
 fn counts_are_forgotten(rt: HostRuntime) -> Result<(), Fail> {

@@ -1,4 +1,4 @@
-use Rattle.std.proofs.Common.{◌≡◌, ◌<◌, length, arith, ap, sym, is_some, ◌∙◌}
+use Rattle.std.proofs.Common.{◌<◌, length, arith, ap, sym, is_some, ◌∙◌}
 use Rattle.part_raw.specs.TupleRefs.{part_of, slot_of}
 use Rattle.part_raw.specs.Open.{tables}
 use Rattle.part_raw.proofs.Lookup.{get-tuples_of}
