@@ -18,7 +18,7 @@ use part_raw::TupleRef;
 use plain_tables::{Place, TableNumber, Test};
 use std::alloc::Global;
 use temp_list::TempList;
-use temp_list::search::{numbered, passes_all};
+use temp_list::search::{held_up_to, holds_slot, numbered, passes_all};
 
 // Of the rows that pass the tests one of those that are shown alike, found by a look at each slot.
 fn known_rows<'a, R: Relations>(
@@ -33,9 +33,11 @@ fn known_rows<'a, R: Relations>(
     let relation = table.relation;
     a_relation_is_kept(relation);
     let mut known = Known::new(alloc);
+    let mut held_end = 0;
     for number in 0..relation.slots() {
         let r = numbered(number);
-        if !relation.holds(r) || !passes_all(table.tables, relation, r, tests) {
+        held_end = held_up_to(relation, r, held_end);
+        if !holds_slot(relation, r, held_end) || !passes_all(table.tables, relation, r, tests) {
             continue;
         }
         known.keep(table, r)?;

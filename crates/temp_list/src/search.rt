@@ -107,10 +107,10 @@ pub fn numbered(number: u64) -> TupleRef
     }
 }
 
-// Up to which number each slot from this one on has a row, where it was so up to `known`. A look at the first slot of a partition tells it
-// of all slots there.
+/// Up to which number each slot from this one on has a row, where it was so up to `known`. A look at the first slot of a partition tells it
+/// of all slots there.
 #[inline]
-fn held_up_to(relation: &Relation, r: TupleRef, known: u64) -> u64
+pub fn held_up_to(relation: &Relation, r: TupleRef, known: u64) -> u64
     requires { AreHeldFrom relation.now.rows r.number known }
     ensures { AreHeldFrom relation.now.rows r.number result }
 {
@@ -121,9 +121,9 @@ fn held_up_to(relation: &Relation, r: TupleRef, known: u64) -> u64
     }
 }
 
-// Whether a slot has a row.
+/// Whether a slot has a row, where each one up to `held_end` has.
 #[inline]
-fn holds_slot(relation: &Relation, r: TupleRef, held_end: u64) -> bool
+pub fn holds_slot(relation: &Relation, r: TupleRef, held_end: u64) -> bool
     requires { AreHeldFrom relation.now.rows r.number held_end }
     ensures { result ≡ finite.contains_key relation.now.rows r }
 {

@@ -11,7 +11,7 @@ use Rattle.project_hash.specs.Table.{TableState, list_of_table}
 use Rattle.project_hash.proofs.KnownRows.{none_known}
 use Rattle.project_hash.proofs.Scans.{IsShownBy, found_below, nothing_below, slot_without, all_more, some_more, found_there, all_shown}
 use Rattle.project_hash.proofs.scanning.known_rows.Goals as goal
-use Rattle.project_hash.proofs.scanning.known_rows.Goals.{then-not-holds-via-then-not-holds, then-not-holds-via-else-not-holds+then-not-passes_all}
+use Rattle.project_hash.proofs.scanning.known_rows.Goals.{then-not-holds_slot-via-then-not-holds_slot, then-not-holds_slot-via-else-not-holds_slot+then-not-passes_all}
 
 pub loop-number-init : goal.loop-number-init
 loop-number-init g c =
@@ -22,17 +22,18 @@ loop-number-init g c =
       some = subst (λ (rs : List TupleRef). All (IsShown t.relations all) (row_states t rs)) (sym c.new-known.ensures.rows) (All-nil (IsShown t.relations all));
       all = nothing_below t c.args.tests.now c.new-known.result.rows.items;
       few = omega (arith, ap length c.new-known.ensures.rows, c.new-known.result.rows.ok.0);
+      held = λ r from to. absurd (omega (arith, to));
     }
 
-pub loop-number-preserved-then-not-holds : goal.loop-number-preserved-then-not-holds
-loop-number-preserved-then-not-holds g c =
+pub loop-number-preserved-then-not-holds_slot : goal.loop-number-preserved-then-not-holds_slot
+loop-number-preserved-then-not-holds_slot g c =
     let t = c.args.table.now in
     let tests = c.args.tests.now in
     let fails : (is_some (finite.get t.relation.rows c.numbered-r.result) && row_passes t.relations t.relation tests c.numbered-r.result) ≡ false =
-    elim c.then-not-holds.branch [
-      | then-not-holds-via-then-not-holds w ↦ (let a : is_some (finite.get t.relation.rows c.numbered-r.result) ≡ false = sym (ap (λ (u : TableState). is_some (finite.get u.relation.rows c.numbered-r.result)) c.table.view_is) ∙ sym c.holds.ensures ∙ w.if-not-holds.true in rw a refl)
-      | then-not-holds-via-else-not-holds+then-not-passes_all w ↦
-          (let a : is_some (finite.get t.relation.rows c.numbered-r.result) ≡ true = sym (ap (λ (u : TableState). is_some (finite.get u.relation.rows c.numbered-r.result)) c.table.view_is) ∙ sym c.holds.ensures ∙ w.if-not-holds.false in
+    elim c.then-not-holds_slot.branch [
+      | then-not-holds_slot-via-then-not-holds_slot w ↦ (let a : is_some (finite.get t.relation.rows c.numbered-r.result) ≡ false = sym (ap (λ (u : TableState). is_some (finite.get u.relation.rows c.numbered-r.result)) c.table.view_is) ∙ sym c.holds_slot.ensures ∙ w.if-not-holds_slot.true in rw a refl)
+      | then-not-holds_slot-via-else-not-holds_slot+then-not-passes_all w ↦
+          (let a : is_some (finite.get t.relation.rows c.numbered-r.result) ≡ true = sym (ap (λ (u : TableState). is_some (finite.get u.relation.rows c.numbered-r.result)) c.table.view_is) ∙ sym c.holds_slot.ensures ∙ w.if-not-holds_slot.false in
           let b : row_passes t.relations t.relation tests c.numbered-r.result ≡ false = sym (ap (λ (u : TableState). row_passes u.relations u.relation tests c.numbered-r.result) c.table.view_is) ∙ sym w.passes_all.ensures ∙ w.if-not-passes_all.true in
           rw (a, b) refl)
     ] in
@@ -41,6 +42,7 @@ loop-number-preserved-then-not-holds g c =
       some = c.loop-number.invariant.some;
       all = subst (All (IsShownBy t tests c.loop-number.known.rows.items)) (slot_without t tests c.loop-number.number (c.loop-number.number + 1) refl c.numbered-r.result c.numbered-r.ensures fails) c.loop-number.invariant.all;
       few = omega (arith, c.loop-number.invariant.few);
+      held = λ q from to. subst (λ (u : TableState). IsSome (finite.get u.relation.rows q)) c.table.view_is (c.held_up_to-held_end.ensures q (omega (arith, from, c.numbered-r.ensures)) to);
     }
 
 pub loop-number-preserved : goal.loop-number-preserved
@@ -48,7 +50,7 @@ loop-number-preserved g c =
     let t = c.args.table.now in
     let tests = c.args.tests.now in
     let r = c.numbered-r.result in
-    let held : is_some (finite.get t.relation.rows r) ≡ true = sym (ap (λ (u : TableState). is_some (finite.get u.relation.rows r)) c.table.view_is) ∙ sym c.holds.ensures ∙ c.if-not-holds.false in
+    let held : is_some (finite.get t.relation.rows r) ≡ true = sym (ap (λ (u : TableState). is_some (finite.get u.relation.rows r)) c.table.view_is) ∙ sym c.holds_slot.ensures ∙ c.if-not-holds_slot.false in
     let passes : row_passes t.relations t.relation tests r ≡ true = sym (ap (λ (u : TableState). row_passes u.relations u.relation tests r) c.table.view_is) ∙ sym c.passes_all.ensures ∙ c.if-not-passes_all.false in
     let picked : (is_some (finite.get t.relation.rows r) && row_passes t.relations t.relation tests r) ≡ true = rw (held, passes) refl in
     record {
@@ -57,6 +59,7 @@ loop-number-preserved g c =
           (found_there t tests (subst (λ (u : TableState). IsKept u.relation) c.table.view_is c.a_relation_is_kept.ensures) r held passes) c.loop-number.invariant.some;
       all = all_more t tests c.loop-number.number (c.loop-number.number + 1) refl r c.numbered-r.ensures c.loop-number.known.rows.items c.keep.new.self.rows.items c.in_ok-keep.ensures.rows picked c.loop-number.invariant.all;
       few = omega (arith, c.in_ok-keep.ensures.count, c.loop-number.invariant.few);
+      held = λ q from to. subst (λ (u : TableState). IsSome (finite.get u.relation.rows q)) c.table.view_is (c.held_up_to-held_end.ensures q (omega (arith, from, c.numbered-r.ensures)) to);
     }
 
 pub returns : goal.returns
