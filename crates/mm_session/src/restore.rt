@@ -1,6 +1,6 @@
 //! A session that is made of a dump, which comes in pieces.
 
-ghost use Rattle.std.specs.Prelude.{◌≡◌, ◌≤◌, ◌⊎◌, [], Err, IfErr, IfOk, IsTrue, OnErr, OnOk, false, true};
+ghost use Rattle.std.specs.Prelude.{◌≡◌, ◌≢◌, ◌+◌, ◌-◌, ◌^◌, ◌≤◌, ◌⊎◌, [], min, length, Err, IfErr, IfOk, IsTrue, OnErr, OnOk, false, true};
 ghost use Rattle.mm_session.specs.Restoring.{IsRestored, StandsBehind, TakesIn, TellsSome, goes_on_first};
 ghost use Rattle.mm_session.specs.declared.restore.RestoreFault.TheVariants as fault;
 
@@ -68,6 +68,8 @@ impl Restore {
         ensures behind { IfOk result (λ r. StandsBehind r.session [] []) }
         ensures limits { IfOk result (λ r. r.session.limits ≡ limits) }
         ensures outside { IfOk result (λ r. r.session.saved ≡ []) }
+        ensures begun { IfOk result (λ r. r.begun ≡ 0) }
+        ensures good { IfOk result (λ r. r.failed ≡ false) }
     {
         Ok(Restore {
             session: Session::with_limits(alloc, policy, limits)?,
@@ -89,6 +91,7 @@ impl Restore {
     fn begins(&mut self, piece: &[u8]) -> bool
         ensures session { self.new.session ≡ self.old.session }
         ensures first { result ≡ goes_on_first self.old.begun piece.now }
+        ensures counted { self.new.begun ≡ min (self.old.begun + length piece.now) (2 ^ 64 - 1) }
     {
         let wanted = FIRST.get(self.begun..).unwrap_or(&[]);
         self.begun = self.begun.saturating_add(piece.len());
@@ -97,7 +100,8 @@ impl Restore {
 
     // Keeps the last bytes.
     fn keep_last(&mut self, piece: &[u8]) -> Result<(), NoMemory>
-        ensures { self.new.session ≡ self.old.session }
+        ensures session { self.new.session ≡ self.old.session }
+        ensures begun { self.new.begun ≡ self.old.begun }
     {
         let behind = piece.len().saturating_sub(LONGEST_LAST);
         self.last
@@ -113,6 +117,7 @@ impl Restore {
         requires { self.old.session.ended ≡ false }
         ensures taken { OnOk result (TakesIn self.old.session self.new.session bytes.now) }
         ensures refused { IfErr result (λ e. (e ≡ fault.Refused) × TellsSome self.new.answer) }
+        ensures begun { self.new.begun ≡ self.old.begun }
     {
         let mut rest = bytes;
         while let Some(others) = self.session.answer_next(rest, &mut self.answer) {
@@ -132,6 +137,8 @@ impl Restore {
         ensures spent { result ≡ Err fault.Failed → IsTrue self.old.failed ⊎ IsTrue self.old.session.ended }
         ensures other { result ≡ Err fault.NotADump → goes_on_first self.old.begun piece.now ≡ false }
         ensures refused { result ≡ Err fault.Refused → TellsSome self.new.answer }
+        ensures counted { OnOk result (self.new.begun ≡ min (self.old.begun + length piece.now) (2 ^ 64 - 1)) }
+        ensures uncut { result ≢ Err fault.CutShort }
     {
         if self.failed || self.session.has_ended() {
             return Err(RestoreFault::Failed);
@@ -155,6 +162,9 @@ impl Restore {
         ensures other { result ≡ Err fault.NotADump → goes_on_first self.old.begun piece.now ≡ false }
         // The request that is refused is the last, and the answer tells by what.
         ensures refused { result ≡ Err fault.Refused → TellsSome self.new.answer }
+        ensures counted { OnOk result (self.new.begun ≡ min (self.old.begun + length piece.now) (2 ^ 64 - 1)) }
+        ensures goes_on { OnOk result (self.new.failed ≡ false) }
+        ensures uncut { result ≢ Err fault.CutShort }
     {
         let taken = self.take_in(piece);
         self.failed = taken.is_err();
@@ -173,6 +183,7 @@ impl Restore {
     pub fn check_whole(&self, alloc: Global) -> Result<(), RestoreFault>
         ensures restored { OnOk result (IsRestored self.now.session self.now.session.database) }
         ensures good { OnOk result (self.now.failed ≡ false) }
+        ensures spent { result ≡ Err fault.Failed → IsTrue self.now.failed }
     {
         if self.failed {
             return Err(RestoreFault::Failed);

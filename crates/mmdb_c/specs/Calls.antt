@@ -1,6 +1,6 @@
 -- What the calls of C do with handles, in the words of what is done with the database that a handle owns.
 use Rattle.std.specs.Prelude.{◌<◌, ◌≤◌, ℕ, List, Option, Some, None}
-use Rattle.mm_session.specs.Restoring.{TakesIn}
+use Rattle.mm_database.specs.Restoring.{TakesPiece}
 use Rattle.mm_database.specs.Sharing.{OpensOn, Shares}
 use Rattle.mm_database.specs.declared.database.OpenDatabase.{OpenDatabase}
 use Rattle.mm_database.specs.declared.restoring.OpenRestore.{OpenRestore}
@@ -25,6 +25,6 @@ Joins other old None = ⊥
 
 -- The restore was open and is, and took in the piece.
 abbrev pub HasTakenIn : List ℕ → Option OpenRestore → Option OpenRestore → Type 0
-HasTakenIn piece (Some old) (Some new) = TakesIn old.inner.session new.inner.session piece
+HasTakenIn piece (Some old) (Some new) = TakesPiece piece old new
 HasTakenIn piece (Some old) None = ⊥
 HasTakenIn piece None new = ⊥
