@@ -195,9 +195,9 @@ class LoadsInOrder(unittest.TestCase):
         done, again = model.answers_to(whole), model.answers_to(self.front + LOOKS + block + LOOKS)
         before = b"".join(done.splitlines(keepends=True)[:ANSWERS])
         refused = before + NO_MEMORY + again.removeprefix(before)
-        # A row is one call at least, as it is read; the last are those of the rows that go in.
-        end = refuser.calls([harness.PROGRAM], self.front + block, MOST_CALLS)
-        calls = [*range(end - ROWS + 10, end - 4, ROWS // 8), *range(end - 4, end + 1)]
+        # The first of the block's calls are those of its rows as they are read, the last those of the rows that go in.
+        start, end = (refuser.calls([harness.PROGRAM], stream, MOST_CALLS) for stream in (self.front, self.front + block))
+        calls = [*range(start + 1, end - 4, (end - start) // 8), *range(end - 4, end + 1)]
         with concurrent.futures.ThreadPoolExecutor(os.cpu_count()) as threads:
             runs = threads.map(lambda nth: (nth, *refuser.run_over_file([harness.PROGRAM], whole, nth)), calls)
             met = [self.check_run(nth, ended, is_met, refused, done) for nth, ended, is_met in runs]

@@ -40,7 +40,7 @@ fn field(alloc: Global, name: &str, kind: BaseKind) -> Result<Field, NoMemory> {
     })
 }
 
-fn read(alloc: Global, block: &[u8]) -> Result<Vec<Sequence<Value>>, CsvRefusal> {
+fn read(alloc: Global, block: &[u8]) -> Result<RowList, CsvRefusal> {
     let layout = [
         field(alloc, "id", BaseKind::Int)?,
         field(alloc, "s", BaseKind::Text)?,
@@ -58,7 +58,7 @@ fn is_field_of(alloc: Global, word: &str, field: &str) -> Result<bool, CsvRefusa
     let block = written(alloc, word)?;
     let row = row_of(alloc, word)?;
     let rows = read(alloc, block.as_slice())?;
-    let is_read = rows.len() == 1 && rows[0].as_slice() == row.as_slice();
+    let is_read = rows.len() == 1 && rows.get(0) == Some(row.as_slice());
     Ok(is_read && block.as_slice() == worked(alloc, field)?.as_bytes())
 }
 

@@ -48,6 +48,7 @@ pub mod Taking
 pub mod Inserted
 pub mod Loaded
 pub mod TakenBack
+pub mod TakenRows
 pub mod Outlined
 pub mod Unnamed
 pub mod HiddenRows

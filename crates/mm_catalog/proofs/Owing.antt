@@ -1,5 +1,5 @@
 -- A relation that owes more or fewer rows, or hides others, is otherwise as it was.
-use Rattle.std.proofs.Common.{◌≡◌, ℕ, ◌+◌, ◌-◌, ◌≤◌, ◌++◌, List, Some, None, IsSome, refl, sym, ap, ◌∙◌, subst, arith, length, map, set}
+use Rattle.std.proofs.Common.{◌≡◌, ℕ, ◌+◌, ◌≤◌, ◌++◌, List, Some, None, IsSome, refl, sym, ap, ◌∙◌, subst, arith, length, map, set}
 use Rattle.std.specs.List.{slice_get}
 use Rattle.std.specs.FinMap.{get, len}
 use Rattle.std.specs.Option.{option_map}

@@ -13,8 +13,9 @@ use Rattle.mm_index.proofs.Bags.{IsSameBag-sym}
 use Rattle.mm_index.proofs.Distinct.{AllPairs-same_bag}
 use Rattle.mm_index.proofs.Refs.{Contains-same_refs}
 use Rattle.mm_relation.specs.Rows.{Row}
-use Rattle.mm_catalog.specs.Deleted.{IsFree}
-use Rattle.mm_catalog.specs.Loaded.{AreFreeRows}
+use Rattle.mm_relation.specs.State.{RelationState}
+use Rattle.mm_catalog.specs.Deleted.{AreRemoved, IsFree}
+use Rattle.mm_catalog.specs.Loaded.{AreFreeRows, HaveGone}
 use Rattle.mm_catalog.specs.Outline.{Outline, changed_at, without, without_rows}
 use Rattle.mm_catalog.specs.Picked.{HoldsRows}
 use Rattle.mm_catalog.specs.State.{CatalogState}
@@ -46,3 +47,32 @@ module _ (now rows : List TupleRef) (bag : IsSameBag now rows) where
 
   pub without_now : (n : ℕ) (o : Outline) → without_rows n now o ≡ without_rows n rows o
   without_now n o = λ i. record { limits = o.limits; names = o.names; relations = changed_at (λ s. record s { rows = same_without s.rows i }) n o.relations }
+
+  removed_now : (before after : RelationState) → AreRemoved before after now → AreRemoved before after rows
+  removed_now before after removed = record {
+    gone = λ r there. removed.gone r (among_now r there);
+    others = λ r other. removed.others r (λ there. other (Contains-same_refs now rows r bag there));
+    counts = λ r other. removed.counts r (λ there. other (Contains-same_refs now rows r bag there));
+    keeps = removed.keeps;
+  }
+
+  pub gone_now : (c d : CatalogState) (n : ℕ) → HaveGone c d n now → HaveGone c d n rows
+  gone_now c d n gone =
+      let these = gone.out.deleted in
+      record {
+        out = record {
+          deleted = record {
+            front = these.front;
+            before = these.before;
+            after = these.after;
+            there = these.there;
+            list = these.list;
+            unlinked = these.unlinked;
+            removed = removed_now these.before these.after these.removed;
+            kept = these.kept;
+            current = these.current;
+          };
+          aside = gone.out.aside;
+        };
+        same = gone.same;
+      }

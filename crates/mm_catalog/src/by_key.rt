@@ -7,7 +7,7 @@ ghost use Rattle.std.specs.List.Sorted.{IsPermutation};
 ghost use Rattle.plain_tables.specs.Tables.{key_cmp};
 ghost use Rattle.mm_catalog.specs.LoadOrder.{row_at};
 
-use plain_tables::{Sequence, Text, Value};
+use plain_tables::{RowList, Text, Value};
 use std::alloc::Global;
 use std::cmp::Ordering;
 
@@ -36,34 +36,44 @@ fn beginning(text: &Text) -> i64 {
 }
 
 // The number of a row's key.
-fn number_of(row: &Sequence<Value>) -> i64 {
-    match row.as_slice() {
-        [Value::Int(key), ..] => *key,
-        [Value::Text(key), ..] => beginning(key),
+fn number_of(row: Option<&[Value]>) -> i64 {
+    match row {
+        Some([Value::Int(key), ..]) => *key,
+        Some([Value::Text(key), ..]) => beginning(key),
         _ => 0,
     }
 }
 
 // The number and the place of each row, in the order of the block. None where no memory is found.
-fn keys_of(alloc: Global, rows: &[Sequence<Value>]) -> Option<Vec<KeyPlace>>
+fn keys_of(alloc: Global, rows: &RowList) -> Option<Vec<KeyPlace>>
     ensures { IfSome result (λ keys. map (row_at rows.now) keys.items ≡ rows.now) }
 {
     let mut keys = Vec::with_capacity(alloc, rows.len()).ok()?;
-    for (place, row) in rows.iter().enumerate() {
-        keys.push_reserved((number_of(row), place));
+    for place in 0..rows.len() {
+        keys.push_reserved((number_of(rows.get(place)), place));
     }
     Some(keys)
 }
 
+/// The row at a place, or one without values where there is none.
+pub fn row_of<'a>(rows: &'a RowList, place: &KeyPlace) -> &'a [Value]
+    ensures { result.now ≡ row_at rows.now place.now }
+{
+    match rows.get(place.1) {
+        Some(row) => row,
+        None => &[],
+    }
+}
+
 // The key of the row at a place.
-fn key_at<'a>(rows: &'a [Sequence<Value>], place: &KeyPlace) -> Option<&'a Value>
+fn key_at<'a>(rows: &'a RowList, place: &KeyPlace) -> Option<&'a Value>
     ensures { option_copied result ≡ slice_get (row_at rows.now place.now) 0 }
 {
-    rows.get(place.1)?.as_slice().first()
+    row_of(rows, place).first()
 }
 
 // How the keys of two rows stand to each other.
-fn compare_keys(rows: &[Sequence<Value>], a: &KeyPlace, b: &KeyPlace) -> Ordering
+fn compare_keys(rows: &RowList, a: &KeyPlace, b: &KeyPlace) -> Ordering
     ensures { result ≡ key_cmp (row_at rows.now a.now) (row_at rows.now b.now) }
 {
     match (key_at(rows, a), key_at(rows, b)) {
@@ -75,7 +85,7 @@ fn compare_keys(rows: &[Sequence<Value>], a: &KeyPlace, b: &KeyPlace) -> Orderin
 }
 
 // The same, by their numbers first.
-fn compare(rows: &[Sequence<Value>], a: &KeyPlace, b: &KeyPlace) -> Ordering {
+fn compare(rows: &RowList, a: &KeyPlace, b: &KeyPlace) -> Ordering {
     match a.0.cmp(&b.0) {
         Ordering::Equal => compare_keys(rows, a, b),
         apart => apart,
@@ -91,7 +101,7 @@ fn counts(held: u64, rows: usize) -> bool {
 /// The places of the rows of a load, in the order of their keys, where they go in faster so than as they stand: they are many,
 /// and the table, which holds so many rows, is empty or large with them. None where they stand so already, where a key stands
 /// twice, or no memory is found.
-pub fn rising_places(alloc: Global, held: u64, rows: &[Sequence<Value>]) -> Option<Vec<KeyPlace>>
+pub fn rising_places(alloc: Global, held: u64, rows: &RowList) -> Option<Vec<KeyPlace>>
     ensures { IfSome result (λ keys. IsPermutation rows.now (map (row_at rows.now) keys.items)) }
 {
     if !counts(held, rows.len()) {

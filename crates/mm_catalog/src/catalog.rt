@@ -1,5 +1,5 @@
 //! The tables, and what they are called.
-ghost use Rattle.std.specs.Prelude.{◌≡◌, ◌≢◌, ◌<◌, ◌≤◌, ◌⊎◌, Bool, true, false, [], ◌∷◌, All, Some, IfSome, IfNone, IfErr, IfOk, OnOk, OnErr, length, map, position, slice_get};
+ghost use Rattle.std.specs.Prelude.{◌≡◌, ◌≢◌, ◌<◌, ◌≤◌, ◌⊎◌, Bool, true, false, [], ◌∷◌, All, Some, IfSome, IfNone, IfErr, IfOk, OnOk, OnErr, drop, length, map, position, slice_get, take};
 ghost use Rattle.std.specs.List.{AllPairs};
 ghost use Rattle.std.specs.Option.{option_map};
 
@@ -14,14 +14,16 @@ use crate::load::{LoadedRows, MovedRows, PlacedRows, in_record, make_room};
 use crate::references::link::Link;
 use crate::removal::unlink;
 use crate::renumbering::{Renumbering, renumber_from};
-use crate::row_values::{Guided, LentValues, RowValues};
+use crate::row_values::{LentValues, RowValues};
 use crate::updating::{set_rows, shed_links};
 use indexmap::IndexSet;
-use mm_relation::{DeclaredIndex, Relation, Relations, SlotSet, StoredCell, TreeShape};
+use mm_relation::{
+    DeclaredIndex, LEAST_IN_ORDER, Relation, Relations, SlotSet, StoredCell, TreeShape,
+};
 use no_memory::NoMemory;
 use part_raw::TupleRef;
 use plain_tables::{
-    Assignment, Column, ColumnNumber, IndexKind, Limits, Refusal, Schema, Sequence, TableNumber,
+    Assignment, Column, ColumnNumber, IndexKind, Limits, Refusal, RowList, Schema, TableNumber,
     Text, Value,
 };
 use std::alloc::Global;
@@ -285,7 +287,11 @@ impl Catalog {
     }
 
     // Puts a row into a table, and gives its reference.
-    fn put<V: RowValues>(&mut self, table: TableNumber, values: V) -> Result<TupleRef, Refusal>
+    pub(crate) fn put<V: RowValues>(
+        &mut self,
+        table: TableNumber,
+        values: V,
+    ) -> Result<TupleRef, Refusal>
         requires { IsMeant self.old.limits (database_of self.old) (resolved.Insert table (V.left values)) }
         ensures inserted { OnOk result (HasEffect self.old self.new (done self.old.limits (database_of self.old) (resolved.Insert table (V.left values))) 1) }
         ensures came { IfOk result (HasCome self.old self.new table.0 (V.left values)) }
@@ -321,20 +327,38 @@ impl Catalog {
         requires held { HoldsRows self.old table.0 rows.old }
         requires once { AllPairs (λ q r. q ≢ r) rows.old }
         requires free { AreFreeRows self.old table.0 rows.old }
-        ensures { outline_of self.new ≡ without_rows table.0 rows.old (outline_of self.old) }
+        ensures gone { HaveGone self.old self.new table.0 rows.old }
+        ensures outline { outline_of self.new ≡ without_rows table.0 rows.old (outline_of self.old) }
     {
         a_catalog_is_consistent(self);
         self.at(table).put_in_removal_order(rows, set);
         self.take_back(table, rows)
     }
 
+    // Takes the rows of a load out of a table again, whose references stand in a list from a place on, and takes these off the list.
+    // Where they are many and memory is found for a set of their slots, they go in the order of their keys.
+    fn unload(&mut self, table: TableNumber, came: &mut Vec<TupleRef>, start: usize)
+        requires within { start ≤ length came.old.items }
+        requires there { table.0 < length (database_of self.old) }
+        requires held { HoldsRows self.old table.0 (drop start came.old.items) }
+        requires once { AllPairs (λ q r. q ≢ r) (drop start came.old.items) }
+        requires free { AreFreeRows self.old table.0 (drop start came.old.items) }
+        ensures gone { HaveGone self.old self.new table.0 (drop start came.old.items) }
+        ensures outline { outline_of self.new ≡ without_rows table.0 (drop start came.old.items) (outline_of self.old) }
+        ensures left { came.new.items ≡ take start came.old.items }
+    {
+        a_catalog_is_consistent(self);
+        let mut slots = SlotSet::new(self.allocator());
+        if came.len() - start >= LEAST_IN_ORDER {
+            let _ = slots.cover(self.at(table).slots());
+        }
+        self.take_many_back(table, &mut came[start..], &mut slots);
+        came.truncate(start);
+    }
+
     /// Puts rows into a table, all of them or none, as inserts one after the other do. Where one of them cannot come in, the
     /// answer is that of its insert, with its number among the rows, counted from 1; and 90 where no memory is found.
-    pub fn load_rows(
-        &mut self,
-        table: TableNumber,
-        rows: Sequence<Sequence<Value>>,
-    ) -> Result<(), Refusal>
+    pub fn load_rows(&mut self, table: TableNumber, rows: RowList) -> Result<(), Refusal>
         requires { IsMeant self.old.limits (database_of self.old) (resolved.Load table rows) }
         ensures loaded { OnOk result (HasEffect self.old self.new (done self.old.limits (database_of self.old) (resolved.Load table rows)) (length rows)) }
         ensures refused { IfErr result (IsDeclinedFor self.old self.new (done self.old.limits (database_of self.old) (resolved.Load table rows))) }
@@ -348,7 +372,7 @@ impl Catalog {
     pub fn load_listed(
         &mut self,
         table: TableNumber,
-        rows: Sequence<Sequence<Value>>,
+        rows: RowList,
         came: &mut Vec<TupleRef>,
     ) -> Result<(), Refusal>
         requires { IsMeant self.old.limits (database_of self.old) (resolved.Load table rows) }
@@ -358,21 +382,21 @@ impl Catalog {
         ensures outline { OnErr result (outline_of self.new ≡ outline_of self.old) }
         ensures list { OnErr result (came.new.items ≡ came.old.items) }
     {
-        let rows = rows.into_vec();
-        if self.load_by_key(table, rows.as_slice(), came) {
+        a_catalog_is_consistent(self);
+        self.reserve_rows(table, rows.len())?;
+        if self.load_by_key(table, &rows, came) {
             return Ok(());
         }
-        self.load(table, MovedRows::new(rows), came)
+        let loaded = self.load(table, MovedRows::new(rows), came);
+        if loaded.is_err() {
+            self.shed_spares(table);
+        }
+        loaded
     }
 
     // Puts rows into a table in the order of their keys, where that serves and all of them come in, and lists their references.
     // Else it leaves the tables and the list as they were.
-    fn load_by_key(
-        &mut self,
-        table: TableNumber,
-        rows: &[Sequence<Value>],
-        came: &mut Vec<TupleRef>,
-    ) -> bool
+    fn load_by_key(&mut self, table: TableNumber, rows: &RowList, came: &mut Vec<TupleRef>) -> bool
         requires { IsMeant self.old.limits (database_of self.old) (resolved.Load table rows.now) }
         ensures loaded { result ≡ true → HasEffect self.old self.new (done self.old.limits (database_of self.old) (resolved.Load table rows.now)) (length rows.now) }
         ensures came { result ≡ true → HaveCome self.old self.new table.0 came.old.items came.new.items }
@@ -416,16 +440,11 @@ impl Catalog {
         let mut guesses = Guesses::new(self.allocator());
         for _ in 0..count {
             guesses.look_ahead(self.relations.as_slice(), table, &rows);
-            let row = Guided {
-                values: rows.next(),
-                guesses: &guesses,
-            };
-            match self.put(table, row) {
+            match rows.put_next(self, table, &guesses) {
                 Ok(r) => came.push_reserved(r),
                 Err(refusal) => {
-                    self.take_back(table, &came[start..]);
                     let number = (came.len() - start) as u64 + 1;
-                    came.truncate(start);
+                    self.unload(table, came, start);
                     return Err(in_record(refusal, number));
                 }
             }

@@ -37,6 +37,7 @@ mod noting;
 mod references;
 mod removal;
 mod renumbering;
+mod room;
 mod row_values;
 mod schemas;
 mod settling;

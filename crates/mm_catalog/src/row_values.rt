@@ -8,7 +8,7 @@ use crate::references::cells::{moved_cell, push_lent};
 use mm_relation::StoredCell;
 use no_memory::NoMemory;
 use part_raw::TupleRef;
-use plain_tables::{Sequence, Value};
+use plain_tables::Value;
 use std::alloc::Global;
 use std::mem;
 
@@ -80,28 +80,15 @@ impl<'a> RowValues for LentValues<'a> {
     }
 }
 
-/// Values that are moved, each out of its place. It takes no memory.
+/// Values that are moved, each out of its place, in which null stands then. It takes no memory.
 #[derive(Drop)]
-pub struct MovedValues {
-    values: Vec<Value>,
-    place: usize,
+pub struct TakenValues<'a> {
+    pub values: &'a mut [Value],
+    pub place: usize,
 }
 
-impl MovedValues {
-    /// All of these values.
-    pub fn new(values: Sequence<Value>) -> MovedValues
-        ensures values { result.values.items ≡ values }
-        ensures first { result.place ≡ 0 }
-    {
-        MovedValues {
-            values: values.into_vec(),
-            place: 0,
-        }
-    }
-}
-
-impl RowValues for MovedValues {
-    ghost left = { λ v. drop v.place v.values.items };
+impl<'a> RowValues for TakenValues<'a> {
+    ghost left = { λ v. drop v.place v.values.now };
 
     #[inline]
     fn len(&self) -> usize {
@@ -110,7 +97,8 @@ impl RowValues for MovedValues {
 
     #[inline]
     fn next(&self) -> &Value {
-        &self.values[self.place]
+        let values = &*self.values;
+        &values[self.place]
     }
 
     #[inline]

@@ -12,7 +12,7 @@ ghost use Rattle.mm_csv.specs.FrontRecords.{BeginsWithHeader, BeginsWithRow, Beg
 use crate::Field;
 use crate::plain::is_special;
 use crate::values::value_of;
-use plain_tables::{NoMemory, Sequence, Value};
+use plain_tables::{NoMemory, RowList, Value};
 use std::alloc::Global;
 
 // What stands at the front of a text, and what is left behind it.
@@ -22,17 +22,10 @@ struct FrontField<'a> {
     left: &'a [u8],
 }
 
-/// The row of the record at the front of a text, and what is left behind that record.
-#[derive(Drop)]
-pub struct FrontRow<'a> {
-    pub row: Sequence<Value>,
-    pub left: &'a [u8],
-}
-
 /// The rows of records at the front of a text, and what is left behind these.
 #[derive(Drop)]
 pub struct FrontRows<'a> {
-    pub rows: Vec<Sequence<Value>>,
+    pub rows: RowList,
     pub left: &'a [u8],
 }
 
@@ -74,13 +67,14 @@ fn begins_blank(text: &[u8]) -> bool
     }
 }
 
-/// The row of the record at the front of a text, where it is read here.
+/// What is left of a text behind the record at its front, where that is read here. Its row is then put in place of these values.
 pub fn front_row<'a>(
     alloc: Global,
     layout: &[Field],
     text: &'a [u8],
-) -> Result<Option<FrontRow<'a>>, NoMemory>
-    ensures { IfOk result (λ front. IfSome front (λ f. BeginsWithRow (columns_of layout.now) text.now f.row f.left.now)) }
+    row: &mut Vec<Value>,
+) -> Result<Option<&'a [u8]>, NoMemory>
+    ensures { IfOk result (λ front. IfSome front (λ left. BeginsWithRow (columns_of layout.now) text.now row.new.items left.now)) }
 {
     let Some((last, others)) = layout.split_last() else {
         return Ok(None);
@@ -88,7 +82,7 @@ pub fn front_row<'a>(
     if begins_blank(text) {
         return Ok(None);
     }
-    let mut row = Vec::with_capacity(alloc, layout.len())?;
+    row.clear();
     let mut left = text;
     for column in others {
         let Some(front) = front_field(left, b',') else {
@@ -107,9 +101,7 @@ pub fn front_row<'a>(
         return Ok(None);
     };
     row.push(value)?;
-    let row = Sequence::from_vec(row);
-    let left = front.left;
-    Ok(Some(FrontRow { row, left }))
+    Ok(Some(front.left))
 }
 
 /// What is left of a text behind the header at its front, where that is read here.
@@ -141,13 +133,14 @@ pub fn front_rows<'a>(
     layout: &[Field],
     text: &'a [u8],
 ) -> Result<FrontRows<'a>, NoMemory>
-    ensures { IfOk result (λ front. BeginsWithRows (columns_of layout.now) text.now front.rows.items front.left.now) }
+    ensures { IfOk result (λ front. BeginsWithRows (columns_of layout.now) text.now front.rows front.left.now) }
 {
-    let mut rows = Vec::new(alloc);
+    let mut rows = RowList::new(alloc);
+    let mut row = Vec::new(alloc);
     let mut left = text;
-    while let Some(front) = front_row(alloc, layout, left)? {
-        rows.push(front.row)?;
-        left = front.left;
+    while let Some(behind) = front_row(alloc, layout, left, &mut row)? {
+        rows.push(&mut row)?;
+        left = behind;
     }
     Ok(FrontRows { rows, left })
 }

@@ -8,10 +8,10 @@ ghost use Rattle.mm_csv.specs.BlockReading.{IsReading, ReadsRecord, Tells, block
 ghost use Rattle.mm_csv.specs.FrontRecords.{AreRowsOf, BeginsWithHeader};
 
 use crate::front::{behind_header, front_rows};
-use crate::values::{is_header, row_of};
+use crate::values::{is_header, read_row};
 use crate::{CsvRefusal, Field};
 use csv::{ByteRecord, Reader, ReaderBuilder};
-use plain_tables::{Sequence, Value};
+use plain_tables::RowList;
 use std::alloc::Global;
 
 // The bytes that may mark a text as UTF-8 at its front.
@@ -69,29 +69,26 @@ fn rows_left(
     layout: &[Field],
     reader: &mut Reader<&[u8]>,
     fields: &mut ByteRecord,
-    mut rows: Vec<Sequence<Value>>,
-) -> Result<Vec<Sequence<Value>>, CsvRefusal>
+    mut rows: RowList,
+) -> Result<RowList, CsvRefusal>
     requires { IsReading reader.old }
-    ensures rows { IfOk result (λ all. (before : List reading.Record) → AreRowsOf (columns_of layout.now) before rows.items → reading.rows_reading (columns_of layout.now) (before ++ records_left reader.old) ≡ reading.Rows all.items) }
-    ensures refused { IfErr result (λ e. (before : List reading.Record) → AreRowsOf (columns_of layout.now) before rows.items → Tells e (reading.rows_reading (columns_of layout.now) (before ++ records_left reader.old))) }
+    ensures rows { IfOk result (λ all. (before : List reading.Record) → AreRowsOf (columns_of layout.now) before rows → reading.rows_reading (columns_of layout.now) (before ++ records_left reader.old) ≡ reading.Rows all) }
+    ensures refused { IfErr result (λ e. (before : List reading.Record) → AreRowsOf (columns_of layout.now) before rows → Tells e (reading.rows_reading (columns_of layout.now) (before ++ records_left reader.old))) }
 {
+    let mut row = Vec::new(alloc);
     while next_record(reader, fields)? {
-        match row_of(alloc, layout, fields)? {
-            Some(row) => rows.push(row)?,
-            None => return Err(CsvRefusal::BadRow(rows.len() as u64 + 1)),
+        if !read_row(alloc, layout, fields, &mut row)? {
+            return Err(CsvRefusal::BadRow(rows.len() as u64 + 1));
         }
+        rows.push(&mut row)?;
     }
     Ok(rows)
 }
 
 // The rows of a text that begins with no mark: behind the header, one for each record.
-fn read_rows(
-    alloc: Global,
-    layout: &[Field],
-    text: &[u8],
-) -> Result<Vec<Sequence<Value>>, CsvRefusal>
+fn read_rows(alloc: Global, layout: &[Field], text: &[u8]) -> Result<RowList, CsvRefusal>
     requires { reading.begins_with_mark text.now ≡ false }
-    ensures rows { IfOk result (λ rows. reading.records_reading (columns_of layout.now) (records default_config text.now) ≡ reading.Rows rows.items) }
+    ensures rows { IfOk result (λ rows. reading.records_reading (columns_of layout.now) (records default_config text.now) ≡ reading.Rows rows) }
     ensures refused { IfErr result (λ e. Tells e (reading.records_reading (columns_of layout.now) (records default_config text.now))) }
 {
     let mut reader = reader_of(alloc, text);
@@ -99,7 +96,7 @@ fn read_rows(
     if !next_record(&mut reader, &mut fields)? || !is_header(layout, &fields) {
         return Err(CsvRefusal::Header);
     }
-    rows_left(alloc, layout, &mut reader, &mut fields, Vec::new(alloc))
+    rows_left(alloc, layout, &mut reader, &mut fields, RowList::new(alloc))
 }
 
 // The rows of a text that begins with no mark and no quotes, from what is left of it behind its header.
@@ -108,10 +105,10 @@ fn rows_behind(
     layout: &[Field],
     text: &[u8],
     left: &[u8],
-) -> Result<Vec<Sequence<Value>>, CsvRefusal>
+) -> Result<RowList, CsvRefusal>
     requires plain { reading.begins_with_mark text.now ≡ false }
     requires header { BeginsWithHeader (columns_of layout.now) text.now left.now }
-    ensures rows { IfOk result (λ rows. reading.records_reading (columns_of layout.now) (records default_config text.now) ≡ reading.Rows rows.items) }
+    ensures rows { IfOk result (λ rows. reading.records_reading (columns_of layout.now) (records default_config text.now) ≡ reading.Rows rows) }
     ensures refused { IfErr result (λ e. Tells e (reading.records_reading (columns_of layout.now) (records default_config text.now))) }
 {
     let front = front_rows(alloc, layout, left)?;
@@ -128,12 +125,8 @@ fn rows_behind(
 
 /// The rows of a block under a layout: behind the header, one for each record. The first of them are read where they lie, up to
 /// one that is quoted or no row, and those from there on by the library.
-pub fn rows_of(
-    alloc: Global,
-    layout: &[Field],
-    block: &[u8],
-) -> Result<Vec<Sequence<Value>>, CsvRefusal>
-    ensures rows { IfOk result (λ rows. block_reading (columns_of layout.now) block.now ≡ reading.Rows rows.items) }
+pub fn rows_of(alloc: Global, layout: &[Field], block: &[u8]) -> Result<RowList, CsvRefusal>
+    ensures rows { IfOk result (λ rows. block_reading (columns_of layout.now) block.now ≡ reading.Rows rows) }
     ensures refused { IfErr result (λ e. Tells e (block_reading (columns_of layout.now) block.now)) }
 {
     let text = without_mark(block);

@@ -1,6 +1,6 @@
 //! The values of fields, and the row of a record.
 
-ghost use Rattle.std.specs.Prelude.{◌≡◌, IfOk, option_map};
+ghost use Rattle.std.specs.Prelude.{◌≡◌, true, false, None, Some, IfOk, option_map};
 ghost use Rattle.csv.specs.Records.{fields_of};
 ghost use Rattle.plain_tables.specs.CsvReading as reading;
 ghost use Rattle.plain_tables.specs.declared.value.Value.TheVariants as value;
@@ -9,7 +9,7 @@ ghost use Rattle.mm_csv.specs.BlockReading.{column_of, columns_of};
 use crate::Field;
 use crate::numbers::integer_of;
 use csv::ByteRecord;
-use plain_tables::{BaseKind, LONGEST_TEXT, NoMemory, Sequence, Text, Value};
+use plain_tables::{BaseKind, LONGEST_TEXT, NoMemory, Text, Value};
 use std::alloc::Global;
 
 // The text that a field is, if it is one that a column may hold.
@@ -38,28 +38,30 @@ pub fn value_of(alloc: Global, column: &Field, field: &[u8]) -> Result<Option<Va
     }
 }
 
-/// The row of a record, if it has one field for each column and each field may stand in its column.
-pub fn row_of(
+/// Whether a record has one field for each column, and each field may stand in its column. Its row is then put in place of these values.
+pub fn read_row(
     alloc: Global,
     layout: &[Field],
     fields: &ByteRecord,
-) -> Result<Option<Sequence<Value>>, NoMemory>
-    ensures { IfOk result (λ row. row ≡ reading.row_of (columns_of layout.now) (fields_of fields.now)) }
+    row: &mut Vec<Value>,
+) -> Result<bool, NoMemory>
+    ensures row { IfOk result (λ is. is ≡ true → reading.row_of (columns_of layout.now) (fields_of fields.now) ≡ Some row.new.items) }
+    ensures none { IfOk result (λ is. is ≡ false → reading.row_of (columns_of layout.now) (fields_of fields.now) ≡ None) }
 {
+    row.clear();
     if fields.len() != layout.len() {
-        return Ok(None);
+        return Ok(false);
     }
-    let mut row = Vec::with_capacity(alloc, layout.len())?;
     for (i, column) in layout.iter().enumerate() {
         let Some(field) = fields.get(i) else {
-            return Ok(None);
+            return Ok(false);
         };
         match value_of(alloc, column, field)? {
             Some(value) => row.push(value)?,
-            None => return Ok(None),
+            None => return Ok(false),
         }
     }
-    Ok(Some(Sequence::from_vec(row)))
+    Ok(true)
 }
 
 /// Whether a record is the names of the columns in their order.

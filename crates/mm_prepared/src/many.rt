@@ -13,7 +13,7 @@ use crate::finishing::check;
 use crate::lent::are_holes_in_turn;
 use no_memory::NoMemory;
 use plain_statements::{Resolution, Slot, Template};
-use plain_tables::{Refusal, Sequence, Value};
+use plain_tables::{Refusal, RowList, Sequence, Value};
 use std::alloc::Global;
 
 // Why a row of values makes no change of a resolved statement, if it makes none.
@@ -52,18 +52,15 @@ fn row_of_insert(alloc: Global, slots: &[Slot], values: Bound) -> Result<Sequenc
 }
 
 /// The rows that an insert with these slots makes of rows of values. Where the slots are the holes in turn, these are moved and not copied.
-pub fn rows_of_insert(
-    alloc: Global,
-    slots: &[Slot],
-    rows: Vec<Bound>,
-) -> Result<Sequence<Sequence<Value>>, NoMemory>
+pub fn rows_of_insert(alloc: Global, slots: &[Slot], rows: Vec<Bound>) -> Result<RowList, NoMemory>
     ensures { IfOk result (λ made. made ≡ map (λ values. map (slot_value values) slots.now) rows.items) }
 {
-    let mut made = Vec::with_capacity(alloc, rows.len())?;
+    let mut made = RowList::new(alloc);
     for values in rows {
-        made.push(row_of_insert(alloc, slots, values)?)?;
+        let mut row = row_of_insert(alloc, slots, values)?.into_vec();
+        made.push(&mut row)?;
     }
-    Ok(Sequence::from_vec(made))
+    Ok(made)
 }
 
 /// The refusal of a row, with the number of the record that it is of.

@@ -7,7 +7,7 @@ use crate::told::{Reason, about, tell};
 use crate::values::why_unheld;
 use mm_catalog::Catalog;
 use mm_syntax::Shown;
-use plain_tables::{Assignment, Command, Refusal, Resolved, Sequence, Value};
+use plain_tables::{Assignment, Command, Refusal, Resolved, RowList, Value};
 use std::alloc::Global;
 
 // That a row with a key is there, if one is.
@@ -19,12 +19,22 @@ fn held_key(alloc: Global, table: &Seen<'_>, key: &Value) -> Reason {
     tell(format!(in alloc; "{name} has a row with the key {key}"))
 }
 
+/// The rows of a load that come before one of them.
+#[derive(Clone, Copy)]
+struct Before<'a> {
+    rows: Option<&'a RowList>,
+    count: usize,
+}
+
+// The place of the first of these rows that has a key, if one has.
+fn place_of_key(before: Before<'_>, key: &Value) -> Option<usize> {
+    let rows = before.rows?;
+    (0..before.count).find(|place| { rows.get(*place).is_some_and(|row| row.first() == Some(key)) })
+}
+
 // That one of these rows has a key too, if one has.
-fn repeated_key(alloc: Global, before: &[Sequence<Value>], key: &Value) -> Reason {
-    let Some(place) = before
-        .iter()
-        .position(|row| row.as_slice().first() == Some(key))
-    else {
+fn repeated_key(alloc: Global, before: Before<'_>, key: &Value) -> Reason {
+    let Some(place) = place_of_key(before, key) else {
         return Ok(None);
     };
     let (record, key) = (place.saturating_add(1), Shown(key.sought().seen()));
@@ -32,12 +42,7 @@ fn repeated_key(alloc: Global, before: &[Sequence<Value>], key: &Value) -> Reaso
 }
 
 // That a row behind these has a key that is held, if it has.
-fn why_no_key(
-    alloc: Global,
-    table: &Seen<'_>,
-    before: &[Sequence<Value>],
-    values: &[Value],
-) -> Reason {
+fn why_no_key(alloc: Global, table: &Seen<'_>, before: Before<'_>, values: &[Value]) -> Reason {
     let Some(key) = values.first() else {
         return Ok(None);
     };
@@ -95,42 +100,44 @@ fn kept_out(
     alloc: Global,
     catalog: &Catalog,
     table: &Seen<'_>,
-    before: &[Sequence<Value>],
+    before: Before<'_>,
     values: &[Value],
     refusal: Refusal,
 ) -> Reason {
     match refusal {
         Refusal::KeyExists { .. } => about(why_no_key(alloc, table, before, values), 0),
         Refusal::NoReferencedRow { .. } => unheld(alloc, catalog, table, values),
-        Refusal::TableFull { .. } => full(alloc, catalog, table, before.len()),
+        Refusal::TableFull { .. } => full(alloc, catalog, table, before.count),
         _ => Ok(None),
     }
 }
 
 // The row of the record that a refusal tells, and those before it.
-fn told_row(
-    rows: &[Sequence<Value>],
-    refusal: Refusal,
-) -> Option<(&[Sequence<Value>], &Sequence<Value>)> {
+fn told_row(rows: &RowList, refusal: Refusal) -> Option<(Before<'_>, &[Value])> {
     let place = refusal.record_no()?.checked_sub(1)?;
-    let (before, rest) = rows.split_at_checked(usize::try_from(place).ok()?)?;
-    Some((before, rest.first()?))
+    let count = usize::try_from(place).ok()?;
+    let row = rows.get(count)?;
+    let rows = Some(rows);
+    Some((Before { rows, count }, row))
 }
 
 // Why a command that is resolved is refused so by the rows that are there, if it puts rows in or sets values.
 fn of_resolved(alloc: Global, catalog: &Catalog, resolved: &Resolved, refusal: Refusal) -> Reason {
     match resolved {
         Resolved::Insert { table, values } => match table_at(catalog, *table) {
-            Some(seen) => kept_out(alloc, catalog, &seen, &[], values.as_slice(), refusal),
+            Some(seen) => {
+                let before = Before {
+                    rows: None,
+                    count: 0,
+                };
+                kept_out(alloc, catalog, &seen, before, values.as_slice(), refusal)
+            }
             None => Ok(None),
         },
         Resolved::Load { table, rows } => {
-            match (
-                table_at(catalog, *table),
-                told_row(rows.as_slice(), refusal),
-            ) {
+            match (table_at(catalog, *table), told_row(rows, refusal)) {
                 (Some(seen), Some((before, row))) => {
-                    kept_out(alloc, catalog, &seen, before, row.as_slice(), refusal)
+                    kept_out(alloc, catalog, &seen, before, row, refusal)
                 }
                 _ => Ok(None),
             }

@@ -11,7 +11,7 @@ use crate::schemas::Schemas;
 use crate::types::type_of;
 use mm_csv::{CsvRefusal, Field, rows_of};
 use no_memory::NoMemory;
-use plain_tables::{ColKind, Column, Refusal, Resolved, Sequence, TableNumber, Text};
+use plain_tables::{ColKind, Column, Refusal, Resolved, TableNumber, Text};
 
 // A column as a block has it. In a reference column stand the keys that it names.
 fn block_field<S: Schemas>(schemas: &S, column: &Column) -> Result<Field, NoMemory>
@@ -53,10 +53,7 @@ pub fn resolve_load<S: Schemas>(schemas: &S, name: &Text, block: &[u8]) -> Resul
     };
     let layout = layout(schemas, table)?;
     match rows_of(schemas.allocator(), &layout, block) {
-        Ok(rows) => Ok(Resolved::Load {
-            table,
-            rows: Sequence::from_vec(rows),
-        }),
+        Ok(rows) => Ok(Resolved::Load { table, rows }),
         Err(CsvRefusal::Header) => {
             schemas.blame(Refusal::BadHeader, Culprit::Block);
             Err(Refusal::BadHeader)

@@ -14,7 +14,7 @@ use mm_catalog::Catalog;
 use mm_cells::{CellFault, Cells};
 use mm_interrupts::Interrupts;
 use mm_transactions::NoTransaction;
-use plain_tables::{Limits, NoMemory, Query, Refusal, Resolved, Sequence, TableNumber, Value};
+use plain_tables::{Limits, NoMemory, Query, Refusal, Resolved, RowList, TableNumber, Value};
 use plan_chooser::Policy;
 use std::alloc::Global;
 use std::io::Write;
@@ -287,11 +287,7 @@ impl Session {
     }
 
     /// Puts rows into a table beside the stream, all of them or none, as a load of these values does. The stream goes on as before.
-    pub fn load(
-        &mut self,
-        table: TableNumber,
-        rows: Sequence<Sequence<Value>>,
-    ) -> Result<(), Refusal>
+    pub fn load(&mut self, table: TableNumber, rows: RowList) -> Result<(), Refusal>
         requires { IsMeant self.old.limits self.old.database (resolved.Load table rows) }
         ensures done { OnOk result (HasChanged self.new (done self.old.limits self.old.database (resolved.Load table rows)) (length rows)) }
         ensures refused { IfErr result (HasDeclined self.old self.new (done self.old.limits self.old.database (resolved.Load table rows))) }

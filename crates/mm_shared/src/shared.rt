@@ -34,7 +34,7 @@ use mm_interrupts::Interrupts;
 use mm_session::{Answer, CountFault, FoundRows, SelectFault, SelectRoom, Session};
 use mm_transactions::NoTransaction;
 use no_memory::NoMemory;
-use plain_tables::{Query, Resolved, Sequence, TableNumber, Value};
+use plain_tables::{Query, Resolved, RowList, TableNumber, Value};
 use plan_chooser::Policy;
 use std::alloc::Global;
 use std::io::Write;
@@ -334,11 +334,7 @@ impl SharedSession {
     }
 
     /// Puts rows into a table, all of them or none, as the session does, where nobody else holds it.
-    pub fn load(
-        &mut self,
-        table: TableNumber,
-        rows: Sequence<Sequence<Value>>,
-    ) -> Result<(), ChangeFault>
+    pub fn load(&mut self, table: TableNumber, rows: RowList) -> Result<(), ChangeFault>
         requires { IsMeant self.old.session.limits self.old.session.database (resolved.Load table rows) }
         ensures done { OnOk result (HasChanged self.new.session (done self.old.session.limits self.old.session.database (resolved.Load table rows)) (length rows)) }
         ensures refused { IfErr result (IsUndone self.old.session self.new.session (done self.old.session.limits self.old.session.database (resolved.Load table rows))) }

@@ -16,7 +16,7 @@ use mm_relation::{DroppedIndex, LEAST_IN_ORDER, Relations, SlotSet, StoredCell};
 use no_memory::NoMemory;
 use part_raw::TupleRef;
 use plain_tables::{
-    Assignment, ColumnNumber, IndexKind, Refusal, Schema, Sequence, TableNumber, Text, Value,
+    Assignment, ColumnNumber, IndexKind, Refusal, RowList, Schema, TableNumber, Text, Value,
 };
 use std::alloc::Global;
 use std::marker::Model;
@@ -187,7 +187,7 @@ impl UndoLog {
         &mut self,
         catalog: &mut Catalog,
         table: TableNumber,
-        rows: Sequence<Sequence<Value>>,
+        rows: RowList,
     ) -> Result<(), Refusal>
         requires { IsMeant catalog.old.limits (database_of catalog.old) (resolved.Load table rows) }
         ensures loaded { OnOk result (HasEffect catalog.old catalog.new (done catalog.old.limits (database_of catalog.old) (resolved.Load table rows)) (length rows)) }

@@ -9,8 +9,7 @@ use mm_catalog::laws::a_catalog_is_consistent;
 use no_memory::NoMemory;
 use part_raw::TupleRef;
 use plain_tables::{
-    Assignment, ColumnNumber, IndexKind, Limits, Refusal, Schema, Sequence, TableNumber, Text,
-    Value,
+    Assignment, ColumnNumber, IndexKind, Limits, Refusal, RowList, Schema, TableNumber, Text, Value,
 };
 use std::alloc::Global;
 use std::marker::Model;
@@ -178,11 +177,7 @@ impl TransactionalCatalog {
 
     /// Puts rows into a table, all of them or none, as inserts one after the other do. Where one of them cannot come in, the
     /// answer is that of its insert, with its number among the rows, counted from 1; and 90 where no memory is found.
-    pub fn load_rows(
-        &mut self,
-        table: TableNumber,
-        rows: Sequence<Sequence<Value>>,
-    ) -> Result<(), Refusal>
+    pub fn load_rows(&mut self, table: TableNumber, rows: RowList) -> Result<(), Refusal>
         requires { IsMeant self.old.catalog.limits (database_of self.old.catalog) (resolved.Load table rows) }
         ensures loaded { OnOk result (HasEffect self.old.catalog self.new.catalog (done self.old.catalog.limits (database_of self.old.catalog) (resolved.Load table rows)) (length rows)) }
         ensures refused { IfErr result (IsDeclinedFor self.old.catalog self.new.catalog (done self.old.catalog.limits (database_of self.old.catalog) (resolved.Load table rows))) }

@@ -25,6 +25,7 @@ pub mod Products
 pub mod Referring
 pub mod ResolvedCommands
 pub mod Rows
+pub mod RowLists
 pub mod Schemas
 pub mod Selects
 pub mod Separated

@@ -17,6 +17,7 @@ pub mod References
 pub mod Refusals
 pub mod ResolvedLaws
 pub mod Resolving
+pub mod RowLists
 pub mod SequenceLends
 pub mod Spelling
 pub mod Stored

@@ -1,6 +1,8 @@
 //! A command with numbers in the place of names, which has passed the checks that need no row.
 
-use crate::{ColumnNumber, IndexKind, Op, Place, Schema, Sequence, TableNumber, Text, Value};
+use crate::{
+    ColumnNumber, IndexKind, Op, Place, RowList, Schema, Sequence, TableNumber, Text, Value,
+};
 
 /// A command on tables and columns by their numbers.
 #[derive(Drop)]
@@ -47,7 +49,7 @@ pub enum Resolved {
     /// These rows more, all of them or none.
     Load {
         table: TableNumber,
-        rows: Sequence<Sequence<Value>>,
+        rows: RowList,
     },
     /// All rows of the table, as a load and its block.
     Dump {

@@ -14,7 +14,7 @@ ghost use Rattle.mm_session.specs.Changing.{IsChange, IsDeleteByKey};
 use super::Executor;
 use super::search::rows_passing;
 use mm_transactions::TransactionalCatalog;
-use plain_tables::{Assignment, Refusal, Resolved, Sequence, TableNumber, Test, Value};
+use plain_tables::{Assignment, Refusal, Resolved, RowList, TableNumber, Test, Value};
 use plan_chooser::Policy;
 use std::alloc::Global;
 
@@ -85,11 +85,7 @@ impl Executor {
     }
 
     /// Puts rows into a table, all of them or none. After a refusal the tables are as before.
-    pub fn load(
-        &mut self,
-        table: TableNumber,
-        rows: Sequence<Sequence<Value>>,
-    ) -> Result<(), Refusal>
+    pub fn load(&mut self, table: TableNumber, rows: RowList) -> Result<(), Refusal>
         requires { IsMeant self.old.tables.catalog.limits (database_of self.old.tables.catalog) (resolved.Load table rows) }
         ensures done { OnOk result (HasEffect self.old.tables.catalog self.new.tables.catalog (done self.old.tables.catalog.limits (database_of self.old.tables.catalog) (resolved.Load table rows)) (length rows)) }
         ensures refused { IfErr result (IsDeclinedFor self.old.tables.catalog self.new.tables.catalog (done self.old.tables.catalog.limits (database_of self.old.tables.catalog) (resolved.Load table rows))) }

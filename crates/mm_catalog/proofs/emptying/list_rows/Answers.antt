@@ -1,4 +1,4 @@
-use Rattle.std.proofs.Common.{◌+◌, ◌∙◌, ◌++◌, List, [], ◌∷◌, sym, ap, append-nil, append_assoc, arith, length, length-append}
+use Rattle.std.proofs.Common.{◌∙◌, ◌++◌, List, [], ◌∷◌, sym, ap, append-nil, append_assoc, arith, length, length-append}
 use Rattle.part_raw.specs.declared.tuple_ref.TupleRef.{TupleRef}
 use Rattle.ttree.specs.Held.{rest_of}
 use Rattle.mm_catalog.proofs.emptying.list_rows.Goals as goal

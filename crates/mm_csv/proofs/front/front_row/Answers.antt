@@ -6,7 +6,7 @@ use Rattle.mm_csv.proofs.Fronts.{HasValues, all-values, no-values, one-value-mor
 use Rattle.mm_csv.proofs.front.front_row.Goals as goal
 
 pub loop-column-init : goal.loop-column-init
-loop-column-init c = rw c.in_ok-row.ensures.items (no-values c.args.text.now (sym c.begins_blank.ensures ∙ c.if-begins_blank.false))
+loop-column-init c = rw c.clear.ensures.items (no-values c.args.text.now (sym c.begins_blank.ensures ∙ c.if-begins_blank.false))
 
 pub loop-column-preserved : goal.loop-column-preserved
 loop-column-preserved c =
@@ -30,6 +30,6 @@ returns c =
     let front = c.in-Some-front_field-2.front in
     let ended = take_all c.loop-column.column-index others c.loop-column-test.false in
     let so_far = subst (λ (fs : List Field). HasValues (columns_of fs) c.args.text.now c.loop-column.left.now c.loop-column.row.items) ended c.loop-column.invariant in
-    rw (whole, c.from_vec-row.ensures, c.in_ok-push-2.ensures.items)
+    rw (whole, c.in_ok-push-2.ensures.items)
     (all-values (columns_of others) (column_of last) c.args.text.now c.loop-column.left.now front.field.now front.left.now c.loop-column.row.items c.in-Some-3.value
     so_far c.in-Some-front_field-2.ensures.0 c.in-Some-front_field-2.ensures.1 (sym c.in_ok-value-2.ensures ∙ c.in-Some-3.is))

@@ -1,4 +1,4 @@
-use Rattle.std.proofs.Common.{◌≡◌, ◌∙◌, ◌∷◌, [], Some, sym, ap, vec_items}
+use Rattle.std.proofs.Common.{◌≡◌, ◌∙◌, ◌∷◌, [], Some, sym, ap}
 use Rattle.csv.specs.Reading.{default_config, records}
 use Rattle.csv.specs.Records.{fields_of}
 use Rattle.plain_tables.specs.CsvReading.{records_reading}
@@ -13,7 +13,7 @@ returns-clause-rows c =
     let left = records_left c.next_record.new.reader in
     let header = fields_of c.next_record.new.fields in
     let splits : all ≡ header ∷ left = sym c.reader_of-reader.ensures.records ∙ (rw c.if-not-branch.false at c.in_ok-next_record.ensures.reads) in
-    ok-behind vec_items c.rows_left.result columns [] left c.new.result.items (records_reading columns all) (ap Some (sym c.new.ensures.items))
+    ok-behind (λ rows. rows) c.rows_left.result columns [] left c.new.result (records_reading columns all) (ap Some (sym c.new.ensures))
     (read-header columns all left header splits (sym c.is_header.ensures ∙ c.if-not-is_header.false)) c.rows_left.ensures.rows
 
 pub returns-clause-refused : goal.returns-clause-refused
@@ -23,5 +23,5 @@ returns-clause-refused c =
     let left = records_left c.next_record.new.reader in
     let header = fields_of c.next_record.new.fields in
     let splits : all ≡ header ∷ left = sym c.reader_of-reader.ensures.records ∙ (rw c.if-not-branch.false at c.in_ok-next_record.ensures.reads) in
-    err-behind c.rows_left.result columns [] left c.new.result.items (records_reading columns all) (ap Some (sym c.new.ensures.items))
+    err-behind c.rows_left.result columns [] left c.new.result (records_reading columns all) (ap Some (sym c.new.ensures))
     (read-header columns all left header splits (sym c.is_header.ensures ∙ c.if-not-is_header.false)) c.rows_left.ensures.refused

@@ -1,8 +1,6 @@
-use Rattle.std.proofs.Common.{◌∙◌, List, Ok, Err, ap, sym}
+use Rattle.std.proofs.Common.{◌∙◌, Err, ap, sym}
 use Rattle.plain_tables.specs.CsvReading.{Rows, BadHeader, BadRecord}
-use Rattle.plain_tables.specs.Tables.{Row}
 use Rattle.plain_tables.specs.declared.refusal.Refusal.TheVariants as refusal
-use Rattle.plain_tables.specs.declared.resolved.Resolved.TheVariants as resolved
 use Rattle.mm_csv.specs.BlockReading.{block_records}
 use Rattle.mm_resolver.proofs.Loads.{table_within, load_nowhere, load_meant}
 use Rattle.mm_resolver.proofs.load.resolve_load.Goals as goal
@@ -17,8 +15,7 @@ returns-in_default-clause-refused g c = λ other bytes.
 pub returns-in-Ok-clause-meant : goal.returns-in-Ok-clause-meant
 returns-in-Ok-clause-meant g c = λ bytes.
     load_meant (g.S.Schemas.database c.args.schemas.now) c.args.name.now (block_records c.args.block.now) bytes c.in-Some.table c.in_ok-layout.layout.items c.deref.result.now
-    (Rows c.in-Ok.rows.items) (sym c.table_number.ensures ∙ c.in-Some.is) c.in_ok-layout.ensures c.deref.ensures.value c.in-Ok.ensures.rows
-    ∙ ap (λ (rows : List Row). Ok (resolved.Load c.in-Some.table rows)) (sym c.from_vec.ensures)
+    (Rows c.in-Ok.rows) (sym c.table_number.ensures ∙ c.in-Some.is) c.in_ok-layout.ensures c.deref.ensures.value c.in-Ok.ensures.rows
 
 pub returns-in-Err-Header-clause-refused : goal.returns-in-Err-Header-clause-refused
 returns-in-Err-Header-clause-refused g c = λ other bytes.

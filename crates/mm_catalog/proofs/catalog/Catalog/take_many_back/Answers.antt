@@ -1,7 +1,8 @@
 use Rattle.std.proofs.Common.{◌∙◌, arith}
 use Rattle.mm_catalog.specs.Outline.{outline_of}
+use Rattle.mm_catalog.specs.State.{CatalogState}
 use Rattle.mm_catalog.proofs.Tables.{database-length}
-use Rattle.mm_catalog.proofs.Reordered.{free_now, held_now, once_now, without_now}
+use Rattle.mm_catalog.proofs.Reordered.{free_now, gone_now, held_now, once_now, without_now}
 use Rattle.mm_catalog.proofs.catalog.Catalog.take_many_back.Goals as goal
 
 pub at-requires : goal.at-requires
@@ -20,4 +21,10 @@ pub take_back-requires-clause-free : goal.take_back-requires-clause-free
 take_back-requires-clause-free c = free_now c.put_in_removal_order.new.rows c.args.rows.now c.put_in_removal_order.ensures c.args.self.now c.args.table.0 c.requires.free
 
 pub returns : goal.returns
-returns c = c.take_back.ensures.outline ∙ without_now c.put_in_removal_order.new.rows c.args.rows.now c.put_in_removal_order.ensures c.args.table.0 (outline_of c.args.self.now)
+returns c =
+    let now = c.put_in_removal_order.new.rows in
+    let old : CatalogState = c.args.self.now in
+    record {
+      gone = gone_now now c.args.rows.now c.put_in_removal_order.ensures old c.take_back.new.self c.args.table.0 c.take_back.ensures.gone;
+      outline = c.take_back.ensures.outline ∙ without_now now c.args.rows.now c.put_in_removal_order.ensures c.args.table.0 (outline_of old);
+    }

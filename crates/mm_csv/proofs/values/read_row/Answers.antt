@@ -2,7 +2,7 @@ use Rattle.std.proofs.Common.{◌≡◌, ◌≤◌, ◌<◌, ◌∙◌, sym, len
 use Rattle.csv.specs.Records.{fields_of}
 use Rattle.csv.proofs.RecordFacts.{field-get, field-there}
 use Rattle.mm_csv.proofs.Reading.{row-done, row-misses, row-more}
-use Rattle.mm_csv.proofs.values.row_of.Goals as goal
+use Rattle.mm_csv.proofs.values.read_row.Goals as goal
 
 pub returns-in_default : goal.returns-in_default
 returns-in_default c =
@@ -13,8 +13,11 @@ pub returns-in-None : goal.returns-in-None
 returns-in-None c =
     let same : length (fields_of c.args.fields.now) ≡ length c.args.layout.now = search rules in
     let read = field-get (fields_of c.args.fields.now) c.loop-i.i c.in-Some.field.now (sym c.in-Some.ensures.value) in
-    sym (row-misses c.args.layout.now (fields_of c.args.fields.now) c.loop-i.i c.index-layout-i.result same c.loop-i-test.true
-    (rw (read, ← c.index-layout-i.is) (sym c.in_ok-value.ensures ∙ c.in-None.is)))
+    record {
+      row = λ is. absurd (cc is);
+      none = λ is. row-misses c.args.layout.now (fields_of c.args.fields.now) c.loop-i.i c.index-layout-i.result same c.loop-i-test.true
+          (rw (read, ← c.index-layout-i.is) (sym c.in_ok-value.ensures ∙ c.in-None.is));
+    }
 
 pub loop-i-preserved : goal.loop-i-preserved
 loop-i-preserved c =
@@ -28,4 +31,7 @@ pub returns : goal.returns
 returns c =
     let same : length (fields_of c.args.fields.now) ≡ length c.args.layout.now = search rules in
     let ended : length c.args.layout.now ≤ c.loop-i.i = search rules in
-    rw c.from_vec.ensures (sym (row-done c.args.layout.now (fields_of c.args.fields.now) c.loop-i.i c.loop-i.row.items same ended c.loop-i.invariant))
+    record {
+      row = λ is. row-done c.args.layout.now (fields_of c.args.fields.now) c.loop-i.i c.loop-i.row.items same ended c.loop-i.invariant;
+      none = λ is. absurd (cc is);
+    }

@@ -3,7 +3,7 @@ use Rattle.csv.specs.Records.{fields_of}
 use Rattle.plain_tables.specs.CsvReading.{all_of}
 use Rattle.mm_csv.specs.BlockReading.{columns_of}
 use Rattle.mm_csv.proofs.Reading.{cells}
-use Rattle.mm_csv.proofs.values.row_of.Given as goal
+use Rattle.mm_csv.proofs.values.read_row.Given as goal
 
 -- the values so far
 abbrev pub invariant-loop-i : goal.invariant-loop-i
