@@ -330,6 +330,8 @@ struct Slots {
     slots: Vec<Slot>,
     /// Where the statement of a line is.
     places: HashMap<Arc<str>, usize, BuildHasherDefault<LineHasher>>,
+    /// Where the last one was found, which mostly is the next one too.
+    last: usize,
     /// How many uses there were.
     uses: u64,
 }
@@ -355,7 +357,8 @@ impl Lines {
     /// The statement of a line, if it is kept, and isn't used already.
     pub(crate) fn find<'d>(&'d self, handle: &'d Handle, line: &str) -> Option<InUse<'d>> {
         let slots = &mut *self.0.borrow_mut();
-        let at = *slots.places.get(line)?;
+        let at = slots.place_of(line)?;
+        slots.last = at;
         let slot = &mut slots.slots[at];
         let kept = Some(slot.kept.take()?);
         slots.uses += 1;
@@ -382,6 +385,15 @@ impl Lines {
 }
 
 impl Slots {
+    /// Where the statement of a line is, if there is one.
+    #[inline]
+    fn place_of(&self, line: &str) -> Option<usize> {
+        match self.slots.get(self.last) {
+            Some(slot) if *slot.line == *line => Some(self.last),
+            _ => self.places.get(line).copied(),
+        }
+    }
+
     /// A place for the statement of a line. There is none, and so a number past all places, where another statement of the line
     /// has one.
     fn place_for(&mut self, handle: &Handle, line: &Arc<str>) -> usize {
