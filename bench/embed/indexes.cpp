@@ -1,6 +1,7 @@
 // Times a table with three indexes, its key and two declared hashes: in mmdb, in SQLite over `:memory:` with an index of either column, and
 // in plain C++ (peer.hpp), and where it is installed in LMDB (mapped.hpp), all in this process, by `indexes ROWS [ROUNDS]`. mmdb and SQLite
-// have prepared statements. Each figure is a line: what was done, and the microseconds of each. `indexes --version` says which these are.
+// have prepared statements. Each figure is a line: what was done, and the microseconds of each. The last line is the sum of what each read.
+// `indexes --version` says which these are. H2Side.java does the same in H2.
 //
 // Its status is 1 if one of them reads other rows than the others do.
 #define PROGRAM "indexes"
@@ -292,5 +293,6 @@ int main(int count, char **words)
         compare(all, static_cast<kind>(of), rows, rounds);
     for (const auto &each : all)
         insist(each->sum == all[0]->sum && each->sum != 0, "a select, whose rows are others, or none,");
+    std::printf("sum\t%" PRIu64 "\n", all[0]->sum);
     return 0;
 }
