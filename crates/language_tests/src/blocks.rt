@@ -3,7 +3,7 @@
 ghost use Rattle.std.specs.Prelude.{◌≡◌, length, IfOk};
 
 use mm_csv::{CsvRefusal, Field, block_of, rows_of};
-use plain_tables::{BaseKind, NoMemory, Sequence, Text, Value};
+use plain_tables::{BaseKind, NoMemory, RowList, Sequence, Text, Value};
 use std::alloc::Global;
 
 // Texts, and the fields that they are.
