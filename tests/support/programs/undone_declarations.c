@@ -450,12 +450,11 @@ static void delete_and_declare(mmdb *db)
     declare(db, "table more (id int, task ref task)");
 }
 
-/* What is noted of a transaction keeps its memory for the next one: 56 bytes a command and 4 a row, of 64 at most here. A load has asked for
-   just the heads that its rows need, one of 4 bytes for two rows in each of both hashes, and room for a row that is owed doubles them. */
+/* What is noted of a transaction keeps its memory for the next one: 56 bytes a command and 4 a row, of 64 at most here. */
 static void a_commit_gives_the_memory_back(void)
 {
     const long outside = held_after(declare_much, 0), inside = held_after(declare_much, 1);
-    CHECK(inside <= outside + 64 * (56 + 4) + 2 * 4 * EMPS / 2);
+    CHECK(inside <= outside + 64 * (56 + 4));
 }
 
 /* Begins, and declares among other changes. Gives how many declarations were refused. */
